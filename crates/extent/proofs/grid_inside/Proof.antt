@@ -1,0 +1,45 @@
+use mathlib.Core.Path.{sym, subst}
+use mir.Syntax.{w64}
+use mir.Val.{SFits}
+use mir.Facts.{toZ-ofZ}
+use Rattle.extent.specs.Extent.{inside, Reach}
+use borrow.Author.Needs.{needs}
+use Rattle.extent.proofs.grid_inside.Statement.{statement}
+use Rattle.extent.proofs.grid_inside.Tie as tie
+
+lon-axis-requires : tie.Need-lon-axis-requires
+lon-axis-requires c κs = search needs
+
+far-edge-requires : tie.Need-far-edge-requires
+far-edge-requires c κs = subst Reach (sym (c .lon-axis .ensures)) (c .before .pre .1 .lon)
+
+lat-axis-requires : tie.Need-lat-axis-requires
+lat-axis-requires c κs = search needs
+
+far-edge-requires-2 : tie.Need-far-edge-requires-2
+far-edge-requires-2 c κs = subst Reach (sym (c .lat-axis .ensures)) (c .before .before .before .pre .1 .lat)
+
+node-end-requires : tie.Need-node-end-requires
+node-end-requires c κs = c .before .before .before .before .pre
+
+returns : tie.Need-returns
+unfolding inside
+returns c =
+    let ex = c .before .before .before .far-edge .ensures in
+    let ey = c .before .far-edge2 .ensures in
+    let fx : SFits w64 (c .before .before .before .far-edge .result) = search needs in
+    let fy : SFits w64 (c .before .far-edge2 .result) = search needs in
+    let ax = c .before .before .before .before .lon-axis .ensures in
+    let ay = c .before .before .lat-axis .ensures in
+    rw (toZ-ofZ fx, toZ-ofZ fy, ex, ey, ax, ay, c .node-end .ensures)
+
+pub grid-inside-spec : {M : Type 1} → statement M
+grid-inside-spec =
+    tie.close
+    (tie.spec
+    lon-axis-requires
+    far-edge-requires
+    lat-axis-requires
+    far-edge-requires-2
+    node-end-requires
+    returns)

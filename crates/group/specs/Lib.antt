@@ -1,0 +1,4 @@
+pub mod Record
+pub mod Limits
+pub mod Refusals
+pub mod Blank

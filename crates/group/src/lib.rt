@@ -1,0 +1,274 @@
+// The group record of document 01 and the limits of its lines, refusal 2.
+ghost use mathlib.Core.Path.{_≡_};
+ghost use mathlib.Core.Bool.{not, _&&_};
+ghost use Prim.Native.Nat.{_<_};
+ghost use lib.Dec.{eqb};
+ghost use lib.IntN.{pos};
+ghost use Rattle.numbers.specs.First.{every};
+ghost use Rattle.numbers.specs.Order.{within};
+ghost use Rattle.group.specs.Blank.{blankName, blankRamp, blankGrid, blankGroup};
+ghost use Rattle.group.specs.Limits.{nameByte, byteFits, nameFits, nameBlank, rampFits, rampBlank, originFits, countsFit, headNumbersFit, gridFits, gridBlank};
+
+// A longitude in milliarcseconds (mas), admitted from -1,296,000,000 to 1,296,000,000.
+pub struct Longitude(pub i64);
+
+// A latitude in mas, admitted from -324,000,000 to 324,000,000.
+pub struct Latitude(pub i64);
+
+// A point, in mas.
+pub struct Point {
+    pub lon: Longitude,
+    pub lat: Latitude,
+}
+
+// A name of 1 to 24 bytes of A to Z, a to z, 0 to 9, _ and -; every byte behind its length is 0.
+pub struct Name {
+    pub bytes: [u8; 24],
+    pub len: u64,
+}
+
+// What node values and results are in, before the quantum.
+pub enum Unit {
+    ArcSecond,
+    Metre,
+}
+
+// A function of time: s0 millionths until the day a, s1 from the day b on.
+pub struct Ramp {
+    pub a: i64,
+    pub s0: i64,
+    pub b: i64,
+    pub s1: i64,
+}
+
+// A grid: node (i, j) lies at lon + i·dlon, lat + j·dlat; rank 1 is best; start is its first position in the node list.
+pub struct Grid {
+    pub name: Name,
+    pub lon: Longitude,
+    pub lat: Latitude,
+    pub dlon: i64,
+    pub dlat: i64,
+    pub ni: u64,
+    pub nj: u64,
+    pub rank: u64,
+    pub start: u64,
+}
+
+// A group: one step of a node value is 2 to the power -quantum of the unit; entries behind the two counts are zero.
+pub struct Group {
+    pub name: Name,
+    pub unit: Unit,
+    pub quantum: u64,
+    pub parameters: u64,
+    pub ramps: u64,
+    pub grids: u64,
+    pub ramp: [Ramp; 8],
+    pub grid: [Grid; 64],
+}
+
+// A refusal of document 01: its number, and the line, grid or position that it names, 0 if none.
+pub struct Refusal {
+    pub number: u64,
+    pub place: u64,
+}
+
+// What a group is judged.
+pub enum Verdict {
+    Accepted,
+    Refused(Refusal),
+}
+
+// Whether a byte may stand in a name.
+pub fn name_byte(b: u8) -> bool
+    ensures { λ r. ⌜ r ≡ nameByte b ⌝ }
+{
+    ((65 <= b) & (b <= 90))
+        | ((97 <= b) & (b <= 122))
+        | ((48 <= b) & (b <= 57))
+        | (b == 95)
+        | (b == 45)
+}
+
+// Whether byte i of a name is wrong: outside the alphabet within its length, or not 0 behind it.
+fn byte_bad(name: Name, i: usize) -> bool
+    requires { ⌜ i < 24 ⌝ }
+    ensures { λ r. ⌜ r ≡ not (byteFits name i) ⌝ }
+{
+    let len = name.len as usize;
+    let b = name.bytes[i];
+    let used = name_byte(b);
+    !(((i < len) & used) | ((len <= i) & (b == 0)))
+}
+
+// Whether each of a name's 24 bytes is right.
+fn bytes_fit(name: Name) -> bool
+    ensures { λ r. ⌜ r ≡ every (byteFits name) 24 ⌝ }
+{
+    let mut i: usize = 0;
+    while i < 24 {
+        if byte_bad(name, i) {
+            return false;
+        }
+        i += 1;
+    }
+    true
+}
+
+// Whether a name is well formed.
+pub fn name_fits(name: Name) -> bool
+    ensures { λ r. ⌜ r ≡ nameFits name ⌝ }
+{
+    let bytes = bytes_fit(name);
+    (1 <= name.len) & (name.len <= 24) & bytes
+}
+
+// Whether a name is that of an unused entry.
+fn name_blank(name: Name) -> bool
+    ensures { λ r. ⌜ r ≡ nameBlank name ⌝ }
+{
+    let bytes = bytes_fit(name);
+    (name.len == 0) & bytes
+}
+
+// Whether the numbers of a group line are within their limits.
+pub fn head_numbers_fit(quantum: u64, parameters: u64, ramps: u64, grids: u64) -> bool
+    ensures { λ r. ⌜ r ≡ headNumbersFit (pos quantum) (pos parameters) (pos ramps) (pos grids) ⌝ }
+{
+    (quantum <= 20)
+        & ((1 <= parameters) & (parameters <= 3))
+        & (ramps <= 8)
+        & ((1 <= grids) & (grids <= 64))
+}
+
+// Whether a ramp is within its limits, with a not above b.
+pub fn ramp_fits(r: Ramp) -> bool
+    ensures { λ t. ⌜ t ≡ rampFits r ⌝ }
+{
+    ((-1000000 <= r.a) & (r.a <= 1000000))
+        & ((-10000000 <= r.s0) & (r.s0 <= 10000000))
+        & ((-1000000 <= r.b) & (r.b <= 1000000))
+        & ((-10000000 <= r.s1) & (r.s1 <= 10000000))
+        & (r.a <= r.b)
+}
+
+// Whether a ramp is an unused entry.
+pub fn ramp_blank(r: Ramp) -> bool
+    ensures { λ t. ⌜ t ≡ rampBlank r ⌝ }
+{
+    ((0 <= r.a) & (r.a <= 0))
+        & ((0 <= r.s0) & (r.s0 <= 0))
+        & ((0 <= r.b) & (r.b <= 0))
+        & ((0 <= r.s1) & (r.s1 <= 0))
+}
+
+// Whether a grid's first node and spacings are within their limits.
+fn origin_fits(g: Grid) -> bool
+    ensures { λ r. ⌜ r ≡ originFits (g .lon .0) (g .lat .0) (g .dlon) (g .dlat) ⌝ }
+{
+    ((-1296000000 <= g.lon.0) & (g.lon.0 <= 1296000000))
+        & ((-324000000 <= g.lat.0) & (g.lat.0 <= 324000000))
+        & (((-1000000 <= g.dlon) & (g.dlon <= -1)) | ((1 <= g.dlon) & (g.dlon <= 1000000)))
+        & (((-1000000 <= g.dlat) & (g.dlat <= -1)) | ((1 <= g.dlat) & (g.dlat <= 1000000)))
+}
+
+// Whether a grid's node counts, rank and start are within their limits.
+fn counts_fit(g: Grid) -> bool
+    ensures { λ r. ⌜ r ≡ countsFit (pos (g .ni)) (pos (g .nj)) (pos (g .rank)) (pos (g .start)) ⌝ }
+{
+    ((2 <= g.ni) & (g.ni <= 16384))
+        & ((2 <= g.nj) & (g.nj <= 16384))
+        & ((1 <= g.rank) & (g.rank <= 1000))
+        & (g.start <= 16777215)
+}
+
+// Whether a grid's name is well formed and its numbers are within their limits.
+pub fn grid_fits(g: Grid) -> bool
+    ensures { λ r. ⌜ r ≡ gridFits g ⌝ }
+{
+    name_fits(g.name) & origin_fits(g) & counts_fit(g)
+}
+
+// Whether a grid's signed numbers are all 0.
+fn origin_blank(g: Grid) -> bool
+    ensures { λ r. ⌜ r ≡ (within 0 (g .lon .0) && within 0 (g .lat .0) && within 0 (g .dlon) && within 0 (g .dlat)) ⌝ }
+{
+    ((0 <= g.lon.0) & (g.lon.0 <= 0))
+        & ((0 <= g.lat.0) & (g.lat.0 <= 0))
+        & ((0 <= g.dlon) & (g.dlon <= 0))
+        & ((0 <= g.dlat) & (g.dlat <= 0))
+}
+
+// Whether a grid's other numbers are all 0.
+fn counts_blank(g: Grid) -> bool
+    ensures { λ r. ⌜ r ≡ (eqb (g .ni) 0 && eqb (g .nj) 0 && eqb (g .rank) 0 && eqb (g .start) 0) ⌝ }
+{
+    (g.ni == 0) & (g.nj == 0) & (g.rank == 0) & (g.start == 0)
+}
+
+// Whether a grid is an unused entry.
+pub fn grid_blank(g: Grid) -> bool
+    ensures { λ r. ⌜ r ≡ gridBlank g ⌝ }
+{
+    name_blank(g.name) & origin_blank(g) & counts_blank(g)
+}
+
+// The empty name.
+pub fn blank_name() -> Name
+    ensures { λ r. ⌜ r ≡ blankName ⌝ }
+{
+    Name {
+        bytes: [0; 24],
+        len: 0,
+    }
+}
+
+// An unused ramp.
+pub fn blank_ramp() -> Ramp
+    ensures { λ r. ⌜ r ≡ blankRamp ⌝ }
+{
+    Ramp {
+        a: 0,
+        s0: 0,
+        b: 0,
+        s1: 0,
+    }
+}
+
+// An unused grid.
+pub fn blank_grid() -> Grid
+    ensures { λ r. ⌜ r ≡ blankGrid ⌝ }
+{
+    let n = blank_name();
+    Grid {
+        name: n,
+        lon: Longitude(0),
+        lat: Latitude(0),
+        dlon: 0,
+        dlat: 0,
+        ni: 0,
+        nj: 0,
+        rank: 0,
+        start: 0,
+    }
+}
+
+// The group that stands beside a refusal: no name, no numbers, no entries.
+pub fn blank_group() -> Group
+    ensures { λ r. ⌜ r ≡ blankGroup ⌝ }
+{
+    let n = blank_name();
+    let g = blank_grid();
+    let r = blank_ramp();
+    let rs = [r; 8];
+    let gs = [g; 64];
+    Group {
+        name: n,
+        unit: Unit::ArcSecond,
+        quantum: 0,
+        parameters: 0,
+        ramps: 0,
+        grids: 0,
+        ramp: rs,
+        grid: gs,
+    }
+}

@@ -1,0 +1,90 @@
+-- A stage of the judge, once for every test; and the flat comparison of grids as the comparison that document 01 asks for.
+use Prim.Native.Nat.{ℕ, _+_, _<_, _≤_}
+use mathlib.Core.Path.{_≡_, sym, _∙_, ap, subst}
+use mathlib.Core.Bool.{Bool, true, false, not}
+use mathlib.Core.List.{List}
+use native.Mathlib.Omega.{arith}
+use borrow.Author.Tests.{lt-ltb, le-ltb, not-false}
+use lib.Dec.{ltb}
+use Rattle.numbers.specs.First.{first, some}
+use Rattle.numbers.proofs.FirstLaws.{none-at, first-same}
+use Rattle.group.specs.declared.Group.{Group}
+use Rattle.group.specs.declared.Verdict.{Verdict}
+use Rattle.group.specs.declared.Verdict.the-variants.{Refused}
+use Rattle.group.specs.Record.{gridAt}
+use Rattle.group.specs.Limits.{gridFits, headFits}
+use Rattle.extent.specs.Extent.{inside}
+use Rattle.judge.specs.Judge.{sameName, sameRank, refuseIf, refuseFirst}
+use Rattle.judge.specs.Rules.{gridBreaks, Grids}
+use Rattle.judge.specs.Marks.{marksOf, Listed, clash, sharesEarlier, Comparable}
+use Rattle.judge.specs.declared.GridRule.the-variants as G
+use Rattle.judge.specs.declared.Shared.{Shared}
+use Rattle.judge.specs.declared.Shared.the-variants as S
+use Rattle.judge.proofs.LimitLaws.{name-good, name-bytes, grid-edges}
+use Rattle.judge.proofs.MarkLaws.{clash-name, clash-rank}
+
+-- a stage by the answer of its loop
+module _ (test : ℕ → Bool) (n number base : ℕ) (next : Verdict) (i : ℕ) (e : i ≡ first test n) where
+  some-here : i < n → some test n ≡ true
+  some-here l = lt-ltb _ _ (subst (λ (m : ℕ). m < n) e l)
+
+  some-past : n ≤ i → some test n ≡ false
+  some-past l = le-ltb _ _ (subst (λ (m : ℕ). n ≤ m) e l)
+
+  pub at-here : i < n → Refused (record { number = number; place = i + base }) ≡ refuseFirst test n number base next
+  unfolding refuseIf refuseFirst
+  at-here l = rw (some-here l) (ap (λ (m : ℕ). Refused (record { number = number; place = m + base })) e)
+
+  pub at-past : n ≤ i → refuseFirst test n number base next ≡ next
+  unfolding refuseIf refuseFirst
+  at-past l = rw (some-past l)
+
+  -- the same where the place is fixed
+  pub fixed-here : i < n → Refused (record { number = number; place = base }) ≡ refuseIf (some test n) number base next
+  unfolding refuseIf
+  fixed-here l = rw (some-here l)
+
+  pub fixed-past : n ≤ i → refuseIf (some test n) number base next ≡ next
+  unfolding refuseIf
+  fixed-past l = rw (some-past l)
+
+-- the first stage, by the answer of its test
+module _ {r : Bool} (g : Group) (next : Verdict) (e : r ≡ headFits g) where
+  pub head-here : not r ≡ true → Refused (record { number = 2; place = 1 }) ≡ refuseIf (not (headFits g)) 2 1 next
+  unfolding refuseIf
+  head-here t = rw (sym e, t)
+
+  pub head-past : not r ≡ false → refuseIf (not (headFits g)) 2 1 next ≡ next
+  unfolding refuseIf
+  head-past t = rw (sym e, t)
+
+-- what the loops that found nothing say of each grid
+pub grids-fit : (g : Group) (i : ℕ) → i ≡ first (gridBreaks G.Limits g) (g .grids) → g .grids ≤ i → Grids g
+grids-fit g i e h =
+    record { fits = λ k l. not-false (gridFits (gridAt g k)) (none-at (gridBreaks G.Limits g) (g .grids) k (omega arith) l) }
+
+pub comparable : (g : Group) → Grids g → (i : ℕ) → i ≡ first (gridBreaks G.FarEdge g) (g .grids) → g .grids ≤ i → Comparable S.Rank g
+comparable g f i e h k l =
+    grid-edges (gridAt g k) (f .fits k l) (g .parameters)
+    (not-false (inside (g .parameters) (gridAt g k)) (none-at (gridBreaks G.FarEdge g) (g .grids) k (omega arith) l))
+
+-- comparing marks is comparing grids
+module _ (g : Group) (f : Grids g) (fours keys : List ℕ) where
+  some-same : (p q : ℕ → Bool) (k : ℕ) → ((j : ℕ) → j < k → p j ≡ q j) → some p k ≡ some q k
+  some-same p q k h = ap (λ (m : ℕ). ltb m k) (first-same p q k h)
+
+  same-sharing : (s : Shared) → Comparable s g → Listed (λ k. marksOf s (gridAt g k)) (g .grids) fours keys
+      → first (λ k. some (clash s fours keys k) k) (g .grids) ≡ first (sharesEarlier s g) (g .grids)
+  same-sharing S.Name u m =
+      first-same _ _ (g .grids)
+      (λ k l. some-same _ (λ j. sameName (gridAt g j .name) (gridAt g k .name)) k
+      (λ j a. clash-name g (g .grids) fours keys j k (omega arith) l m
+      (λ i b x y. name-bytes (gridAt g i .name) (name-good (gridAt g i) (f .fits i x)) b y)))
+  same-sharing S.Rank u m =
+      first-same _ _ (g .grids)
+      (λ k l. some-same _ (λ j. sameRank (gridAt g j) (gridAt g k)) k
+      (λ j a. clash-rank g (g .grids) fours keys j k (omega arith) l m (u j (omega arith)) (u k l)))
+
+  pub sharing : (s : Shared) (r : ℕ) → Comparable s g → Listed (λ k. marksOf s (gridAt g k)) (g .grids) fours keys
+      → r ≡ first (λ k. some (clash s fours keys k) k) (g .grids) → r ≡ first (sharesEarlier s g) (g .grids)
+  sharing s r u m e = e ∙ same-sharing s u m

@@ -1,0 +1,4 @@
+pub mod LimitLaws
+pub mod MarkLaws
+pub mod JudgeLaws
+pub mod Accepted

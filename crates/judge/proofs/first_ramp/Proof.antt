@@ -1,0 +1,62 @@
+-- `first_ramp` meets its contract, by the loop of FirstLaws.
+use Prim.Native.Nat.{_-_}
+use mathlib.Core.Path.{_∙_, sym}
+use borrow.Author.Needs.{needs}
+use native.Mathlib.Omega.{arith}
+use Rattle.numbers.proofs.FirstLaws.{Passed, passed-none, passed-more, passed-end, passed-found}
+use Rattle.judge.specs.Rules.{rampBreaks}
+use Rattle.judge.proofs.first_ramp.Statement.{statement}
+use Rattle.judge.proofs.first_ramp.Tie as tie
+
+abbrev Inv-loop : tie.InvT-loop
+Inv-loop rule n group used i₀ i = Passed (rampBreaks rule group) n i
+
+abbrev μ-loop : tie.MeasureT-loop
+μ-loop rule n group used i₀ i = n - i
+
+loop-holds : tie.Need-loop-holds Inv-loop μ-loop
+loop-holds c = passed-none _ _
+
+mul-r : tie.Need-mul-r Inv-loop μ-loop
+mul-r c = omega arith
+
+element-copy-out-r : tie.Need-element-copy-out-r Inv-loop μ-loop
+element-copy-out-r c = omega arith
+
+ramp-breaks-requires : tie.Need-ramp-breaks-requires Inv-loop μ-loop
+ramp-breaks-requires c κs = search needs
+
+returns : tie.Need-returns Inv-loop μ-loop
+returns c =
+    passed-found _ _ _ (c .before .before .before .before .loop .inv) (c .before .before .before .loop-test .taken)
+    (sym (c .before .ramp-breaks .ensures) ∙ c .if1 .taken)
+
+add-i : tie.Need-add-i Inv-loop μ-loop
+add-i c = omega arith
+
+loop-less : tie.Need-loop-less Inv-loop μ-loop
+loop-less c = omega arith
+
+loop-again : tie.Need-loop-again Inv-loop μ-loop
+loop-again c =
+    passed-more _ _ _ (c .before .before .before .before .loop .inv) (c .before .before .before .loop-test .taken)
+    (sym (c .before .ramp-breaks .ensures) ∙ c .if1 .left)
+
+returns-2 : tie.Need-returns-2 Inv-loop μ-loop
+returns-2 c = passed-end _ _ _ (c .before .loop .inv) (c .loop-test .left)
+
+pub first-ramp-spec : {M : Type 1} → statement M
+first-ramp-spec =
+    tie.close
+    (tie.spec
+    Inv-loop
+    μ-loop
+    loop-holds
+    mul-r
+    element-copy-out-r
+    ramp-breaks-requires
+    returns
+    add-i
+    loop-less
+    loop-again
+    returns-2)

@@ -1,0 +1,60 @@
+-- `judge` meets its contract, stage by stage.
+use mathlib.Core.Path.{_∙_, sym}
+use borrow.Author.Tests.{not-false}
+use Rattle.judge.specs.Judge.{judged}
+use Rattle.judge.proofs.LimitLaws.{head-sized}
+use Rattle.judge.proofs.JudgeLaws.{fixed-here, fixed-past, head-here, head-past}
+use borrow.Author.Needs.{needs}
+use Rattle.judge.proofs.judge.Statement.{statement}
+use Rattle.judge.proofs.judge.Tie as tie
+
+head-fits-requires : tie.Need-head-fits-requires
+head-fits-requires c κs = search needs
+
+returns : tie.Need-returns
+unfolding judged
+returns c = head-here _ _ (c .before .head-fits .ensures) (c .if1 .taken)
+
+first-ramp-requires : tie.Need-first-ramp-requires
+first-ramp-requires c κs = search needs
+
+returns-2 : tie.Need-returns-2
+unfolding judged
+returns-2 c =
+    fixed-here _ _ _ _ _ _ (c .before .first-ramp .ensures) (c .if2 .taken)
+    ∙ sym (head-past _ _ (c .before .before .before .head-fits .ensures) (c .before .before .if1 .left))
+
+first-grid-requires : tie.Need-first-grid-requires
+first-grid-requires c κs = search needs
+
+returns-3 : tie.Need-returns-3
+unfolding judged
+returns-3 c =
+    fixed-here _ _ _ _ _ _ (c .before .first-grid .ensures) (c .if3 .taken)
+    ∙ sym (head-past _ _ (c .before .before .before .before .before .head-fits .ensures) (c .before .before .before .before .if1 .left)
+    ∙ fixed-past _ _ _ _ _ _ (c .before .before .before .first-ramp .ensures) (c .before .before .if2 .left))
+
+judge-lines-requires : tie.Need-judge-lines-requires
+judge-lines-requires c κs =
+    head-sized _ (sym (c .before .before .before .before .before .head-fits .ensures) ∙ not-false _ (c .before .before .before .before .if1 .left))
+
+returns-4 : tie.Need-returns-4
+unfolding judged
+returns-4 c =
+    c .judge-lines .ensures
+    ∙ sym (head-past _ _ (c .before .before .before .before .before .before .head-fits .ensures) (c .before .before .before .before .before .if1 .left)
+    ∙ fixed-past _ _ _ _ _ _ (c .before .before .before .before .first-ramp .ensures) (c .before .before .before .if2 .left)
+    ∙ fixed-past _ _ _ _ _ _ (c .before .before .first-grid .ensures) (c .before .if3 .left))
+
+pub judge-spec : {M : Type 1} → statement M
+judge-spec =
+    tie.close
+    (tie.spec
+    head-fits-requires
+    returns
+    first-ramp-requires
+    returns-2
+    first-grid-requires
+    returns-3
+    judge-lines-requires
+    returns-4)

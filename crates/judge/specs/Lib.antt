@@ -1,0 +1,4 @@
+pub mod Judge
+pub mod Rules
+pub mod Marks
+pub mod Flat

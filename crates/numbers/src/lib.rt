@@ -1,0 +1,86 @@
+// Rounding to the nearest whole number, ties to even, and signed numbers as unsigned ones.
+ghost use mathlib.Core.Path.{_≡_};
+ghost use Prim.Native.Nat.{_+_, _*_, _<_, _^_};
+ghost use lib.IntN.{natAbs, pos, _+ℤ_};
+ghost use lib.Signed.{ltZ};
+ghost use Rattle.numbers.specs.Round.{gain, nearest};
+ghost use Rattle.numbers.specs.Order.{raised};
+
+// A quotient q that left r over from a division by d, rounded: one more above half, at a tie the even one.
+fn settle(q: u64, r: u64, d: u64) -> u64
+    requires { ⌜ (r < d) × (0 < r → q < 2 ^ 63) ⌝ }
+    ensures { λ x. ⌜ x ≡ q + gain (2 * r) d q ⌝ }
+{
+    let s = d - r;
+    if r < s {
+        return q;
+    }
+    let up = q + 1;
+    if s < r {
+        return up;
+    }
+    let h = up >> 1;
+    h + h
+}
+
+// n over d, to the nearest whole number, a tie to the even one; a divisor 0 answers 0.
+pub fn nearest_even(n: u64, d: u64) -> u64
+    ensures { λ r. ⌜ r ≡ nearest n d ⌝ }
+{
+    if d == 0 {
+        return 0;
+    }
+    let q = n / d;
+    settle(q, n - q * d, d)
+}
+
+// n over 2 to the power k, to the nearest whole number, a tie to the even one.
+pub fn nearest_shifted(n: u64, k: u64) -> u64
+    requires { ⌜ k < 64 ⌝ }
+    ensures { λ r. ⌜ r ≡ nearest n (2 ^ k) ⌝ }
+{
+    let q = n >> k;
+    settle(q, n - (q << k), 1 << k)
+}
+
+// The size of x, without its sign.
+pub fn magnitude(x: i64) -> u64
+    ensures { λ r. ⌜ r ≡ natAbs x ⌝ }
+{
+    if x < 0 {
+        let y = -(x + 1);
+        y as u64 + 1
+    } else {
+        x as u64
+    }
+}
+
+// Whether x is below zero.
+pub fn negative(x: i64) -> bool
+    ensures { λ r. ⌜ r ≡ ltZ x (pos 0) ⌝ }
+{
+    x < 0
+}
+
+// x + m, and 0 for an x below -m.
+pub fn raised(m: u32, x: i64) -> u64
+    ensures { λ r. ⌜ r ≡ raised m x ⌝ }
+{
+    let wide = m as u64;
+    let n = magnitude(x);
+    if negative(x) {
+        if n <= wide {
+            return wide - n;
+        }
+        return 0;
+    }
+    wide + n
+}
+
+// a - b as a signed number.
+pub fn lowered(a: u64, b: u64) -> i64
+    requires { ⌜ (a < 2 ^ 63) × (b < 2 ^ 63) ⌝ }
+    ensures { λ r. ⌜ r +ℤ pos b ≡ pos a ⌝ }
+{
+    a as i64 - b as i64
+}
