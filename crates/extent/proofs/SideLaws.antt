@@ -93,7 +93,7 @@ module _ (f g : Grid) where
       let v = lonSpan g in
       let p = latSpan f in
       let q = latSpan g in
-      both 
+      both
       (shared-overlap (u .west .0) (u .east .0) (v .west .0) (v .east .0) x
       (and-left (lonHolds u x) (latHolds p y) d) (and-left (lonHolds v x) (latHolds q y) e))
       (shared-overlap (p .south .0) (p .north .0) (q .south .0) (q .north .0) y

@@ -15,27 +15,27 @@ blankRamp = record { a = pos 0; s0 = pos 0; b = pos 0; s1 = pos 0 }
 
 abbrev pub blankGrid : Grid
 blankGrid =
-    record
-    { name = blankName
-    ; lon = record { 0 = pos 0 }
-    ; lat = record { 0 = pos 0 }
-    ; dlon = pos 0
-    ; dlat = pos 0
-    ; ni = 0
-    ; nj = 0
-    ; rank = 0
-    ; start = 0
+    record {
+      name = blankName;
+      lon = record { 0 = pos 0 };
+      lat = record { 0 = pos 0 };
+      dlon = pos 0;
+      dlat = pos 0;
+      ni = 0;
+      nj = 0;
+      rank = 0;
+      start = 0;
     }
 
 abbrev pub blankGroup : Group
 blankGroup =
-    record
-    { name = blankName
-    ; unit = ArcSecond
-    ; quantum = 0
-    ; parameters = 0
-    ; ramps = 0
-    ; grids = 0
-    ; ramp = replicate 8 blankRamp
-    ; grid = replicate 64 blankGrid
+    record {
+      name = blankName;
+      unit = ArcSecond;
+      quantum = 0;
+      parameters = 0;
+      ramps = 0;
+      grids = 0;
+      ramp = replicate 8 blankRamp;
+      grid = replicate 64 blankGrid;
     }

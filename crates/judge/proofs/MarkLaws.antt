@@ -147,7 +147,7 @@ module _ (m n : Name) (f : (j : ℕ) → j < 24 → getD (m .bytes) j 0 < 256) (
       same-test (every (sameByte m n) 24) (a && b && c && eqb 0 0)
       (λ e.
       let s = words (λ j l. eqb-true (getD (m .bytes) j 0) (getD (n .bytes) j 0) (every-at (sameByte m n) 24 j e l)) in
-      both 
+      both
       (both (both (s 0 (omega arith)) (s 8 (omega arith))) (s 16 (omega arith))) (eq-eqb 0 0 refl))
       (λ e.
       let abc = and-left (a && b && c) (eqb 0 0) e in

@@ -1,5 +1,13 @@
 // Runs the marked cases of document 01 through the public calls and prints what they answer.
-use group::{Grid, Group, Latitude, Longitude, Name, Ramp, Verdict, blank_group, blank_name};
+use group::Grid;
+use group::Group;
+use group::Latitude;
+use group::Longitude;
+use group::Name;
+use group::Ramp;
+use group::Verdict;
+use group::blank_group;
+use group::blank_name;
 use libc::STDOUT_FILENO;
 
 // A name of one byte.

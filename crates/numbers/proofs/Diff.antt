@@ -197,6 +197,10 @@ of-diff x a b d =
     let u = up-pos a in let v = dn-pos a in
     diff-≡ (omega arith)
 
+-- x plus b is a, so that x is a less b
+pub less-of : (x : ℤ) (a b : ℕ) → x +ℤ pos b ≡ pos a → x ≡ pos a -ℤ pos b
+less-of x a b e = diff-one (diff-of x a b e) (diff-as (diff-- (diff-pos a) (diff-pos b)) (omega arith))
+
 -- one reading of two numbers, given by an equation
 pub diff-join : {x y : ℤ} {a a′ b : ℕ} → Diff x a b → a ≡ a′ → Diff y a′ b → x ≡ y
 diff-join p e q = let f = p .diff in let g = q .diff in diff-≡ (omega arith)

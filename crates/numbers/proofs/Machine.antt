@@ -12,7 +12,7 @@ use lib.Signed.{ltZ, ltZ-yes, ltZ-no}
 use mir.Syntax.{Width}
 use mir.Val.{SFits, toZ, ofZ, hbits}
 use mir.ValLaws.{toZ-ofZ}
-use Rattle.numbers.proofs.Diff.{up, dn, Diff, up-or-dn, up-mag, diff-≡, diff-of, diff--, natAbs-diff, up-pos, dn-pos, <-diff, ≤-diff}
+use Rattle.numbers.proofs.Diff.{up, dn, Diff, up-or-dn, up-mag, diff-≡, diff-of, diff--, diff-pos, less-of, natAbs-diff, up-pos, dn-pos, <-diff, ≤-diff}
 use Rattle.numbers.proofs.OrderLaws.{raised-is}
 use Rattle.numbers.specs.Order.{raised}
 
@@ -58,6 +58,23 @@ pub raised-apart : (m : ℕ) (x y : ℤ) → natAbs x ≤ m → natAbs y ≤ m �
 raised-apart m x y h k =
     let d = diff-- (diff-raised m x h) (diff-raised m y k) .diff in let n = natAbs-diff (x -ℤ y) in
     ⊎-elim (λ e. omega arith) (λ e. omega arith) (up-or-dn (x -ℤ y))
+
+-- a raised number lowered again
+pub lowered-size : (m x : ℕ) → x ≤ m + m → natAbs (pos x -ℤ pos m) ≤ m
+lowered-size m x h =
+    let z = pos x -ℤ pos m in
+    let d = diff-- (diff-pos x) (diff-pos m) .diff in let n = natAbs-diff z in
+    ⊎-elim (λ e. omega arith) (λ e. omega arith) (up-or-dn z)
+
+pub raised-lowered : (m x : ℕ) → x ≤ m + m → raised m (pos x -ℤ pos m) ≡ x
+raised-lowered m x h =
+    let z = pos x -ℤ pos m in
+    let d = diff-- (diff-pos x) (diff-pos m) .diff in
+    let r = diff-raised m z (lowered-size m x h) .diff in
+    omega arith
+
+pub lowered-raised : (m : ℕ) (z : ℤ) → natAbs z ≤ m → pos (raised m z) -ℤ pos m ≡ z
+lowered-raised m z h = sym (less-of z (raised m z) m (sym (raised-is m z h)))
 
 -- 1 shifted left by k
 pub one-shifted : (k : ℕ) → k < 64 → 1 * 2 ^ k % 2 ^ 64 ≡ 2 ^ k

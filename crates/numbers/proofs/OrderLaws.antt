@@ -100,7 +100,7 @@ leZ-total (negsuc a) (negsuc b) e = let h = leb-false b a e in le-leb a b (omega
 module _ (a b c d : ℤ) where
   pub shared-overlap : (x : ℤ) → between a b x ≡ true → between c d x ≡ true → (leZ a d && leZ c b) ≡ true
   shared-overlap x e f =
-      both 
+      both
       (leZ-trans a x d (and-left (leZ a x) (leZ x b) e) (and-right (leZ c x) (leZ x d) f))
       (leZ-trans c x b (and-left (leZ c x) (leZ x d) f) (and-right (leZ a x) (leZ x b) e))
 
@@ -131,3 +131,10 @@ raised-above m (negsuc n) e = absurd (let z : _≡_ {A = ℕ} 0 1 = cc in omega 
 pub size-bound : (z : ℤ) → SFits w64 z → natAbs z ≤ 2 ^ 63
 size-bound (pos n) f = let h : n < 2 ^ 63 = f .sfits in omega arith
 size-bound (negsuc n) f = let h : n < 2 ^ 63 = f .sfits in omega arith
+
+-- a number between two others is no larger in size than their limit
+pub leZ-size : (m : ℕ) (a b z : ℤ) → natAbs a ≤ m → natAbs b ≤ m → leZ a z ≡ true → leZ z b ≡ true → natAbs z ≤ m
+leZ-size m a (pos b) (pos z) f g h k = omega (arith, leb-true z b k)
+leZ-size m a (negsuc b) (pos z) f g h k = absurd (let w : _≡_ {A = ℕ} 0 1 = cc in omega arith)
+leZ-size m (pos a) b (negsuc z) f g h k = absurd (let w : _≡_ {A = ℕ} 0 1 = cc in omega arith)
+leZ-size m (negsuc a) b (negsuc z) f g h k = omega (arith, leb-true z a h)

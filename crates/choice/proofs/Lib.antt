@@ -1,0 +1,5 @@
+pub mod RectLaws
+pub mod ChoiceLaws
+pub mod Turn
+pub mod PartLaws
+pub mod InGroupLaws

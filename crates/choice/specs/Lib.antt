@@ -1,0 +1,3 @@
+pub mod Rect
+pub mod Choice
+pub mod InGroup

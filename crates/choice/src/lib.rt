@@ -1,0 +1,63 @@
+// Which grid is chosen at a point. Sides are four numbers a grid: west, east, south, north, edges included, grid i, from 0, at 4 * i.
+ghost use mathlib.Core.Path.{_≡_};
+ghost use Prim.Native.Nat.{_+_, _*_, _<_, _≤_};
+ghost use lib.ListN.{length};
+ghost use Rattle.choice.specs.Rect.{at, holds, size};
+ghost use Rattle.choice.specs.Choice.{betterOf, blocks, chosen};
+
+// How many rectangles have all four sides, and a number in a second list.
+pub fn size_of(sides: &[u64], numbers: &[u64]) -> usize
+    ensures { λ r. ⌜ r ≡ size (now (sides .entry)) (now (numbers .entry)) ⌝ }
+{
+    let n = sides.len() / 4;
+    if n < numbers.len() { n } else { numbers.len() }
+}
+
+// Whether rectangle i holds the point.
+pub fn holds(sides: &[u64], i: usize, x: u64, y: u64) -> bool
+    requires { ⌜ i * 4 + 3 < length (now sides) ⌝ }
+    ensures { λ r. ⌜ r ≡ holds (now (sides .entry)) i x y ⌝ }
+{
+    let at = i * 4;
+    (sides[at] <= x) & ((x <= sides[at + 1]) & ((sides[at + 2] <= y) & (y <= sides[at + 3])))
+}
+
+// Whether grid j comes before grid g where both hold the point: its rank number is lower.
+pub fn is_blocker(ranks: &[u64], j: usize, g: usize) -> bool
+    requires { ⌜ (j < length (now ranks)) × (g < length (now ranks)) ⌝ }
+    ensures { λ r. ⌜ r ≡ blocks (at (now (ranks .entry))) j g ⌝ }
+{
+    ranks[j] < ranks[g]
+}
+
+// The better of grid i, where it holds the point, and the grid numbered c, one of those before it or 0 for none.
+fn better_of(sides: &[u64], ranks: &[u64], x: u64, y: u64, i: usize, c: u64) -> u64
+    requires { ⌜ (i < size (now sides) (now ranks)) × (c ≤ i) ⌝ }
+    ensures { λ r. ⌜ r ≡ betterOf (holds (now (sides .entry)) i x y) (at (now (ranks .entry))) i c ⌝ }
+{
+    if !holds(sides, i, x, y) {
+        return c;
+    }
+    if c == 0 {
+        return i as u64 + 1;
+    }
+    let b = (c - 1) as usize;
+    if ranks[i] < ranks[b] {
+        return i as u64 + 1;
+    }
+    c
+}
+
+// The number, from 1, of the grid chosen at the point, 0 if none is. A grid counts if it has four sides and a rank.
+pub fn chosen_at(sides: &[u64], ranks: &[u64], x: u64, y: u64) -> u64
+    ensures { λ r. ⌜ r ≡ chosen (λ i. holds (now (sides .entry)) i x y) (at (now (ranks .entry))) (size (now (sides .entry)) (now (ranks .entry))) ⌝ }
+{
+    let n = size_of(sides, ranks);
+    let mut c = 0;
+    let mut i = 0;
+    while i < n {
+        c = better_of(sides, ranks, x, y, i, c);
+        i += 1;
+    }
+    c
+}

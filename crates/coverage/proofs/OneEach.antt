@@ -1,0 +1,63 @@
+-- Layouts in which grid g owns rectangle g alone: what they hold, whom they choose, and when they are sound. Assumes nothing.
+use mathlib.Core.Path.{_≡_, refl, sym, ap, _∙_, subst}
+use mathlib.Core.Bool.{Bool, true, false}
+use Prim.Native.Nat.{ℕ, _*_, _≤_, _<_}
+use native.Mathlib.Omega.{arith}
+use lib.ListN.{length}
+use Rattle.numbers.proofs.Bools.{untrue}
+use Rattle.choice.specs.Rect.{at, holds, size}
+use Rattle.choice.specs.Choice.{chosen}
+use Rattle.choice.proofs.RectLaws.{holds-true, true-holds}
+use Rattle.choice.proofs.ChoiceLaws.{chosen-agree}
+use Rattle.coverage.specs.Layout.{Layout, gridHolds, chosenAt, Sound}
+use Rattle.coverage.proofs.GridLaws.{rect-grid, grid-rect}
+use Rattle.coverage.proofs.Parted.{Share, parted-apart}
+
+-- four sides, an owner and a rank for each grid
+pub record OneEach (l : Layout) : Type 0 where
+  pub sides : length (l .rects) ≡ 4 * length (l .owners)
+  pub ranks : length (l .ranks) ≡ length (l .owners)
+  pub owner : (g : ℕ) → g < length (l .owners) → at (l .owners) g ≡ g
+
+module _ (l : Layout) (one : OneEach l) where
+  pub one-holds : (g x y : ℕ) → g < length (l .owners) → gridHolds l g x y ≡ holds (l .rects) g x y
+  one-holds g x y m = go (holds (l .rects) g x y) refl
+    where
+      go : (b : Bool) → holds (l .rects) g x y ≡ b → gridHolds l g x y ≡ b
+      go true e = subst (λ (k : ℕ). gridHolds l k x y ≡ true) (one .owner g m) (rect-grid l x y g m (true-holds (l .rects) g x y e))
+      go false e =
+          untrue (gridHolds l g x y)
+          (λ h.
+          let r = grid-rect l x y g h in
+          let q : r .0 ≡ g = sym (one .owner (r .0) (r .1)) ∙ r .2 in
+          let t = ap (λ (k : ℕ). holds (l .rects) k x y) (sym q) ∙ holds-true (l .rects) (r .0) x y (r .3) in
+          let z : _≡_ {A = ℕ} 0 1 = cc in
+          omega arith)
+
+  -- the choice is that of the lookup, over sides and ranks
+  pub one-chosen : (x y : ℕ) → chosenAt l x y ≡ chosen (λ g. holds (l .rects) g x y) (at (l .ranks)) (size (l .rects) (l .ranks))
+  unfolding chosenAt
+  one-chosen x y =
+      let n : size (l .rects) (l .ranks) ≡ length (l .ranks) = omega (arith, one .sides, one .ranks) in
+      chosen-agree (λ g. gridHolds l g x y) (λ g. holds (l .rects) g x y) (at (l .ranks)) (at (l .ranks)) (length (l .ranks)) (λ g m. one-holds g x y (omega (arith, one .ranks))) (λ g m. refl)
+      ∙ ap (chosen (λ g. holds (l .rects) g x y) (at (l .ranks))) (sym n)
+
+  -- at most 64 grids of ranks 1 to 1,000, of which no two share a rank and a point
+  pub one-sound : length (l .ranks) ≤ 64 → ((g : ℕ) → g < length (l .ranks) → (1 ≤ at (l .ranks) g) × (at (l .ranks) g ≤ 1000))
+      → ((i j : ℕ) → i < j → j < length (l .ranks) → at (l .ranks) i ≡ at (l .ranks) j → Share (l .rects) i j → ⊥) → Sound l
+  one-sound few ranked parted =
+      record {
+        sides = one .sides;
+        few = omega (arith, one .ranks);
+        owned = λ r m. rw (one .owner r m) (omega (arith, one .ranks));
+        grids = few;
+        ranked = ranked;
+        apart = λ x y i j m n e. parted-apart l apart x y i j m e;
+      }
+    where
+      apart : (r q : ℕ) → r < length (l .owners) → q < length (l .owners) → at (l .owners) r < at (l .owners) q → at (l .ranks) (at (l .owners) r) ≡ at (l .ranks) (at (l .owners) q)
+          → Share (l .rects) r q → ⊥
+      apart r q m n lt e s =
+          let a = one .owner r m in
+          let b = one .owner q n in
+          parted r q (omega (arith, a, b)) (omega (arith, one .ranks)) (ap (at (l .ranks)) (sym a) ∙ e ∙ ap (at (l .ranks)) b) s

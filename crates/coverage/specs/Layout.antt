@@ -1,0 +1,52 @@
+-- Grids as rectangles: a grid owns one or several, and holds what one of them holds.
+use mathlib.Core.Path.{_≡_}
+use mathlib.Core.Bool.{Bool, true, _&&_}
+use mathlib.Core.List.{List}
+use Prim.Native.Nat.{ℕ, _*_, _≤_, _<_}
+use lib.Dec.{eqb}
+use lib.ListN.{length}
+use Rattle.numbers.specs.First.{some}
+use Rattle.choice.specs.Rect.{at, holds}
+use Rattle.choice.specs.Choice.{chosen}
+use Rattle.region.specs.First.{firstIn}
+use Rattle.region.specs.declared.Area.{Area}
+use Rattle.region.specs.declared.Spot.{Spot}
+
+-- the four sides of each rectangle and its owner, a grid counted from 0; the rank number of each grid
+pub record Layout : Type 0 where
+  pub rects : List ℕ
+  pub owners : List ℕ
+  pub ranks : List ℕ
+
+abbrev pub layout : List ℕ → List ℕ → List ℕ → Layout
+layout rs os ks = record { rects = rs; owners = os; ranks = ks }
+
+-- rectangle r is one of grid g's and holds the point
+abbrev pub ownHolds : List ℕ → List ℕ → ℕ → ℕ → ℕ → ℕ → Bool
+ownHolds rs os g x y r = eqb (at os r) g && holds rs r x y
+
+-- grid g, from 0, holds the point
+unfoldable pub gridHolds : Layout → ℕ → ℕ → ℕ → Bool
+gridHolds l g x y = some (ownHolds (l .rects) (l .owners) g x y) (length (l .owners))
+
+-- the number, from 1, of the grid chosen at the point, 0 if none is
+unfoldable pub chosenAt : Layout → ℕ → ℕ → ℕ
+chosenAt l x y = chosen (λ g. gridHolds l g x y) (at (l .ranks)) (length (l .ranks))
+
+-- the southmost, then westmost coordinate of the area at which a choice takes the grid numbered k
+abbrev pub firstTaken : (ℕ → ℕ → ℕ) → Area → ℕ → Spot
+firstTaken choose a k = firstIn (λ x y. eqb (choose x y) k) (a .west) (a .east) (a .south) (a .north)
+
+abbrev pub firstChosen : Layout → Area → ℕ → Spot
+firstChosen l a k = firstTaken (chosenAt l) a k
+
+-- what the lists of an accepted group have
+pub record Sound (l : Layout) : Type 0 where
+  pub sides : length (l .rects) ≡ 4 * length (l .owners)
+  pub few : length (l .owners) ≤ 192
+  pub owned : (r : ℕ) → r < length (l .owners) → at (l .owners) r < length (l .ranks)
+  pub grids : length (l .ranks) ≤ 64
+  pub ranked : (g : ℕ) → g < length (l .ranks) → (1 ≤ at (l .ranks) g) × (at (l .ranks) g ≤ 1000)
+  -- grids that share a point never share a rank
+  pub apart : (x y i j : ℕ) → i < j → j < length (l .ranks) → at (l .ranks) i ≡ at (l .ranks) j
+      → gridHolds l i x y ≡ true → gridHolds l j x y ≡ true → ⊥

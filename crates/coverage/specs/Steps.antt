@@ -1,0 +1,41 @@
+-- What the inner functions answer: keys of blockers, the search over a grid's rectangles, and the order of the grids.
+use mathlib.Core.Path.{_≡_}
+use mathlib.Core.Bool.{Bool, true, false, _&&_}
+use mathlib.Core.List.{List}
+use Prim.Native.Nat.{ℕ, _≤_, _<_}
+use lib.ListN.{length, take}
+use Rattle.numbers.specs.First.{some}
+use Rattle.choice.specs.Rect.{at}
+use Rattle.choice.specs.Choice.{blocks}
+use Rattle.region.specs.First.{firstIn}
+use Rattle.region.specs.Free.{free}
+use Rattle.region.specs.declared.Area.{Area}
+use Rattle.region.specs.declared.Spot.{Spot}
+use Rattle.coverage.specs.Layout.{ownHolds}
+
+abbrev pub keyOf : Bool → ℕ
+keyOf true = 0
+keyOf false = 1
+
+-- the key of each of the first n rectangles, for grid g: 0 if its owner blocks g, else 1
+pub record Marked (ranks owners : List ℕ) (g n : ℕ) (keys : List ℕ) : Type 0 where
+  pub mark : (r : ℕ) → r < n → at keys r ≡ keyOf (blocks (at ranks) (at owners r) g)
+
+-- of the area, the first point that rectangle r, if it is one of grid g's, holds and that is free of blockers
+abbrev pub firstOfRect : List ℕ → List ℕ → List ℕ → Area → ℕ → ℕ → Spot
+firstOfRect rs os ms a g r = firstIn (λ x y. ownHolds rs os g x y r && free rs ms 1 x y) (a .west) (a .east) (a .south) (a .north)
+
+-- the same of grid g's rectangles among the first n
+abbrev pub firstOf : List ℕ → List ℕ → List ℕ → Area → ℕ → ℕ → Spot
+firstOf rs os ms a g n = firstIn (λ x y. some (ownHolds rs os g x y) n && free rs ms 1 x y) (a .west) (a .east) (a .south) (a .north)
+
+-- next is a rank above below, and none of the first n grids has a rank between the two
+pub record NextRank (ranks : List ℕ) (below next n : ℕ) : Type 0 where
+  pub more : below < next
+  pub most : next ≤ 1000
+  pub none : (g : ℕ) → g < n → below < at ranks g → at ranks g < next → ⊥
+
+-- the first numbers of the list are these
+pub record Begins (ns list : List ℕ) (count : ℕ) : Type 0 where
+  pub many : count ≡ length ns
+  pub same : take count list ≡ ns

@@ -1,0 +1,139 @@
+-- What the code meets on the three kinds of line, in terms of what its callees answer.
+use Prim.Native.Nat.{ℕ, suc}
+use mathlib.Core.Path.{_≡_, refl, sym, ap, _∙_}
+use mathlib.Core.Bool.{Bool, true, false, cond, _&&_}
+use mathlib.Core.List.{List, [], _∷_}
+use mathlib.Core.Option.{Option, none, some}
+use native.Mathlib.Omega.{arith}
+use mir.Syntax.{w64}
+use mir.Val.{toZ, ofZ, SFits}
+use mir.Facts.{toZ-ofZ}
+use lib.Dec.{eqb}
+use lib.ListN.{length, getD, drop}
+use lib.Seq.{getD-drop}
+use lib.IntN.{ℤ, pos}
+use Rattle.text.specs.Parts.{split, fieldOf}
+use Rattle.text.specs.Fields.{same, fourAt}
+use Rattle.text.specs.declared.Four.{Four}
+use Rattle.text.specs.declared.Four.the-variants.{Whole}
+use Rattle.text.proofs.PartLaws.{field-split}
+use Rattle.group.specs.declared.Name.{Name}
+use Rattle.group.specs.declared.Unit as U
+use Rattle.group.specs.declared.Ramp.{Ramp}
+use Rattle.group.specs.declared.Grid.{Grid}
+use Rattle.group.specs.declared.Refusal.{Refusal}
+use Rattle.group.specs.declared.Verdict.the-variants.{Accepted, Refused}
+use Rattle.header.specs.declared.Head.{Head}
+use Rattle.header.specs.declared.HeadRead.{HeadRead}
+use Rattle.header.specs.declared.RampRead.{RampRead}
+use Rattle.header.specs.declared.GridRead.{GridRead}
+use Rattle.header.specs.Items.{Line, bad, good}
+use Rattle.header.specs.declared.Form.{Form}
+use Rattle.header.specs.declared.Form.the-variants.{Malformed, Named}
+use Rattle.header.specs.declared.UnitRead.{UnitRead}
+use Rattle.header.specs.declared.UnitRead.the-variants.{Unknown, Known}
+use Rattle.header.specs.Names.{isName, nameOf, readName, readUnit}
+use Rattle.header.specs.Lines.{headTexts, gridTexts, paired}
+use Rattle.header.specs.Answers.{formOf, unitAnswer, headAnswer, rampAnswer, gridAnswer}
+
+-- the test of a line's length and keyword
+pub opens-split : (line word : List ℕ) (count : ℕ) (r : Bool) → r ≡ (eqb (length (split 9 line)) count && same (fieldOf line 0) word)
+    → (eqb (length (split 9 line)) count && same (getD (split 9 line) 0 []) word) ≡ r
+opens-split line word count r e = sym (e ∙ ap (λ (l : List ℕ). eqb (length (split 9 line)) count && same l word) (field-split line 0))
+
+pub form-bad : (f g : List ℕ) (q : Form) → f ≡ g → q ≡ formOf (isName f) → q ≡ Malformed → isName g ≡ false
+form-bad f g q e p t = ap isName (sym e) ∙ go (isName f) (sym p ∙ t)
+  where
+    go : (b : Bool) → formOf b ≡ Malformed → b ≡ false
+    go true h = let z : _≡_ {A = ℕ} 0 1 = cc in absurd (omega arith)
+    go false h = refl
+
+pub form-good : (f g : List ℕ) (q : Form) → f ≡ g → q ≡ formOf (isName f) → q ≡ Named → isName g ≡ true
+form-good f g q e p t = ap isName (sym e) ∙ go (isName f) (sym p ∙ t)
+  where
+    go : (b : Bool) → formOf b ≡ Named → b ≡ true
+    go true h = refl
+    go false h = let z : _≡_ {A = ℕ} 0 1 = cc in absurd (omega arith)
+
+pub unit-bad : (f g : List ℕ) (q : UnitRead) → f ≡ g → q ≡ unitAnswer (readUnit f) → q ≡ Unknown → readUnit g ≡ none
+unit-bad f g q e p t = ap readUnit (sym e) ∙ go (readUnit f) (sym p ∙ t)
+  where
+    go : (o : Option U.Unit) → unitAnswer o ≡ Unknown → o ≡ none
+    go none h = refl
+    go (some u) h = let z : _≡_ {A = ℕ} 0 1 = cc in absurd (omega arith)
+
+pub unit-good : (f g : List ℕ) (q : UnitRead) (u : U.Unit) → f ≡ g → q ≡ unitAnswer (readUnit f) → q ≡ Known u → readUnit g ≡ some u
+unit-good f g q u e p t = ap readUnit (sym e) ∙ go (readUnit f) (sym p ∙ t)
+  where
+    go : (o : Option U.Unit) → unitAnswer o ≡ Known u → o ≡ some u
+    go none h = let z : _≡_ {A = ℕ} 0 1 = cc in absurd (omega arith)
+    go (some v) h = let z : v ≡ u = cc in ap some z
+
+-- ---- the texts of a line
+
+module _ (line : List ℕ) where
+  text-0 : getD (drop 1 (split 9 line)) 0 [] ≡ fieldOf line 1
+  text-0 = getD-drop 1 (split 9 line) 0 [] ∙ sym (field-split line 1)
+
+  text-1 : getD (drop 1 (split 9 line)) 1 [] ≡ fieldOf line 2
+  text-1 = getD-drop 1 (split 9 line) 1 [] ∙ sym (field-split line 2)
+
+  name-is : (b : Bool) → isName (fieldOf line 1) ≡ b → readName (getD (drop 1 (split 9 line)) 0 []) ≡ cond b (some (nameOf (fieldOf line 1))) none
+  name-is b e = ap readName text-0 ∙ ap (λ (t : Bool). cond t (some (nameOf (fieldOf line 1))) none) e
+
+  unit-is : (o : Option U.Unit) → readUnit (fieldOf line 2) ≡ o → readUnit (getD (drop 1 (split 9 line)) 1 []) ≡ o
+  unit-is o e = ap readUnit text-1 ∙ e
+
+  pub grid-unnamed : isName (fieldOf line 1) ≡ false → gridTexts (drop 1 (split 9 line)) ≡ none
+  grid-unnamed e = name-is false e
+
+  pub grid-named : isName (fieldOf line 1) ≡ true → gridTexts (drop 1 (split 9 line)) ≡ some (nameOf (fieldOf line 1))
+  grid-named e = name-is true e
+
+  pub head-unnamed : isName (fieldOf line 1) ≡ false → headTexts (drop 1 (split 9 line)) ≡ none
+  head-unnamed e = ap (λ (o : Option Name). paired o (readUnit (getD (drop 1 (split 9 line)) 1 []))) (name-is false e)
+
+  pub head-unitless : readUnit (fieldOf line 2) ≡ none → headTexts (drop 1 (split 9 line)) ≡ none
+  head-unitless e = ap (paired (readName (getD (drop 1 (split 9 line)) 0 []))) (unit-is none e) ∙ go (readName (getD (drop 1 (split 9 line)) 0 []))
+    where
+      go : (o : Option Name) → paired o none ≡ none
+      go none = refl
+      go (some m) = refl
+
+  pub head-named : (u : U.Unit) → isName (fieldOf line 1) ≡ true → readUnit (fieldOf line 2) ≡ some u → headTexts (drop 1 (split 9 line)) ≡ some (nameOf (fieldOf line 1), u)
+  head-named u e f = λ i. paired (name-is true e i) (unit-is (some u) f i)
+
+-- ---- four numbers that come by way of their bits
+
+abbrev pub bits : ℤ → ℤ
+bits z = toZ w64 (ofZ w64 z)
+
+pub four-bits : (r s : Four) (a b c d : ℤ) → s ≡ r → s ≡ Whole a b c d → SFits w64 a → SFits w64 b → SFits w64 c → SFits w64 d
+    → r ≡ Whole (bits a) (bits b) (bits c) (bits d)
+four-bits r s a b c d e f p q u v = sym e ∙ f ∙ sym (λ i. Whole (toZ-ofZ p i) (toZ-ofZ q i) (toZ-ofZ u i) (toZ-ofZ v i))
+
+-- ---- the answer of a line, by its verdict
+
+pub head-refused : (q : HeadRead) (l : Line Head) (r : Refusal) → q ≡ headAnswer l → q .verdict ≡ Refused r → l ≡ bad r
+head-refused q (bad s) r e v = let x : Refused s ≡ Refused r = sym (ap (λ (a : HeadRead). a .verdict) e) ∙ v in let y : s ≡ r = cc in ap bad y
+head-refused q (good a) r e v = let x : Accepted ≡ Refused r = sym (ap (λ (b : HeadRead). b .verdict) e) ∙ v in absurd (let y : _≡_ {A = ℕ} 0 1 = cc in omega arith)
+
+pub head-accepted : (q : HeadRead) (l : Line Head) → q ≡ headAnswer l → q .verdict ≡ Accepted → l ≡ good (q .head)
+head-accepted q (bad s) e v = let x : Refused s ≡ Accepted = sym (ap (λ (a : HeadRead). a .verdict) e) ∙ v in absurd (let y : _≡_ {A = ℕ} 0 1 = cc in omega arith)
+head-accepted q (good a) e v = ap good (sym (ap (λ (b : HeadRead). b .head) e))
+
+pub ramp-refused : (q : RampRead) (l : Line Ramp) (r : Refusal) → q ≡ rampAnswer l → q .verdict ≡ Refused r → l ≡ bad r
+ramp-refused q (bad s) r e v = let x : Refused s ≡ Refused r = sym (ap (λ (a : RampRead). a .verdict) e) ∙ v in let y : s ≡ r = cc in ap bad y
+ramp-refused q (good a) r e v = let x : Accepted ≡ Refused r = sym (ap (λ (b : RampRead). b .verdict) e) ∙ v in absurd (let y : _≡_ {A = ℕ} 0 1 = cc in omega arith)
+
+pub ramp-accepted : (q : RampRead) (l : Line Ramp) → q ≡ rampAnswer l → q .verdict ≡ Accepted → l ≡ good (q .ramp)
+ramp-accepted q (bad s) e v = let x : Refused s ≡ Accepted = sym (ap (λ (a : RampRead). a .verdict) e) ∙ v in absurd (let y : _≡_ {A = ℕ} 0 1 = cc in omega arith)
+ramp-accepted q (good a) e v = ap good (sym (ap (λ (b : RampRead). b .ramp) e))
+
+pub grid-refused : (q : GridRead) (l : Line Grid) (r : Refusal) → q ≡ gridAnswer l → q .verdict ≡ Refused r → l ≡ bad r
+grid-refused q (bad s) r e v = let x : Refused s ≡ Refused r = sym (ap (λ (a : GridRead). a .verdict) e) ∙ v in let y : s ≡ r = cc in ap bad y
+grid-refused q (good a) r e v = let x : Accepted ≡ Refused r = sym (ap (λ (b : GridRead). b .verdict) e) ∙ v in absurd (let y : _≡_ {A = ℕ} 0 1 = cc in omega arith)
+
+pub grid-accepted : (q : GridRead) (l : Line Grid) → q ≡ gridAnswer l → q .verdict ≡ Accepted → l ≡ good (q .grid)
+grid-accepted q (bad s) e v = let x : Refused s ≡ Accepted = sym (ap (λ (a : GridRead). a .verdict) e) ∙ v in absurd (let y : _≡_ {A = ℕ} 0 1 = cc in omega arith)
+grid-accepted q (good a) e v = ap good (sym (ap (λ (b : GridRead). b .grid) e))

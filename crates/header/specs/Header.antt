@@ -1,0 +1,44 @@
+-- Reading and writing a header: document 01's 'Header text', refusals 1 to 5 and 12.
+use Prim.Native.Nat.{ℕ}
+use mathlib.Core.Bool.{cond}
+use mathlib.Core.List.{List}
+use lib.Dec.{leb}
+use lib.ListN.{length}
+use Rattle.text.specs.Put.{put}
+use Rattle.group.specs.declared.Verdict.{Verdict}
+use Rattle.group.specs.declared.Verdict.the-variants.{Accepted, Refused}
+use Rattle.group.specs.declared.Group.{Group}
+use Rattle.judge.specs.Judge.{judged}
+use Rattle.header.specs.declared.Reading.{Reading}
+use Rattle.header.specs.declared.Written.{Written}
+use Rattle.header.specs.declared.Written.the-variants as W
+use Rattle.header.specs.Items.{refusal}
+use Rattle.header.specs.Whole.{Header, stopped, header, readLines, groupOf, refusedReading, acceptedReading, headerText}
+
+abbrev pub verdictReading : Group → Verdict → Reading
+verdictReading g Accepted = acceptedReading g
+verdictReading g (Refused r) = refusedReading r
+
+abbrev pub judgedReading : Header → Reading
+judgedReading (stopped r) = refusedReading r
+judgedReading (header h rs ds) = verdictReading (groupOf h rs ds) (judged (groupOf h rs ds))
+
+-- reading goes line by line, 1 before 2 on one line, then 3, 4, 5
+unfoldable pub readHeader : List ℕ → Reading
+readHeader text = judgedReading (readLines text)
+
+-- what writing answers: the refusal of the group, or 12, or the count of bytes
+abbrev pub writtenIf : Verdict → ℕ → ℕ → Written
+writtenIf (Refused r) count room = W.Refused r
+writtenIf Accepted count room = cond (leb count room) (W.Count count) (W.Refused (refusal 12 0))
+
+unfoldable pub written : Group → ℕ → Written
+written g room = writtenIf (judged g) (length (headerText g)) room
+
+-- what the lent bytes are then: the text from the first on, and all behind it as it was; after a refusal all is as it was
+abbrev pub bytesIf : Verdict → List ℕ → List ℕ → List ℕ
+bytesIf (Refused r) text out = out
+bytesIf Accepted text out = cond (leb (length text) (length out)) (put 0 text out) out
+
+unfoldable pub bytesAfter : Group → List ℕ → List ℕ
+bytesAfter g out = bytesIf (judged g) (headerText g) out

@@ -1,0 +1,5 @@
+pub mod FlatLaws
+pub mod ShownLaws
+pub mod AreaLaws
+pub mod GroupLaws
+pub mod Demand3

@@ -1,0 +1,68 @@
+-- `grids_in_force` meets its contract, refusal by refusal.
+use mathlib.Core.Path.{_∙_, sym}
+use Rattle.inforce.specs.InForce.{inForceOf}
+use borrow.Author.Needs.{needs}
+use Rattle.inforce.proofs.grids_in_force.Statement.{statement}
+use Rattle.inforce.proofs.grids_in_force.Tie as tie
+
+judge-requires : tie.Need-judge-requires
+judge-requires c κs = search needs
+
+enum-known-verdict : tie.Need-enum-known-verdict
+enum-known-verdict c = search needs
+
+refused-by-requires : tie.Need-refused-by-requires
+refused-by-requires c κs = search needs
+
+enum-told : tie.Need-enum-told
+enum-told c = search needs
+
+area-fits-requires : tie.Need-area-fits-requires
+area-fits-requires c κs = search needs
+
+list-in-requires : tie.Need-list-in-requires
+list-in-requires c κs = (
+  sym (c .before .before .before .before .judge .ensures) ∙ c .before .before .enum-told .given .1,
+  sym (c .before .area-fits .ensures) ∙ c .if1 .taken,
+)
+
+refused-by-requires-2 : tie.Need-refused-by-requires-2
+refused-by-requires-2 c κs = search needs
+
+returns : tie.Need-returns
+unfolding inForceOf
+returns c =
+    rw (sym (c .before .before .before .before .judge .ensures) ∙ c .before .before .verdict .given .1) (c .refused-by .ensures)
+
+returns-2 : tie.Need-returns-2
+unfolding inForceOf
+returns-2 c =
+    rw (
+      sym (c .before .before .before .before .before .judge .ensures) ∙ c .before .before .before .enum-told .given .1,
+      sym (c .before .before .area-fits .ensures) ∙ c .before .if1 .taken,
+    )
+    (c .list-in .ensures)
+
+returns-3 : tie.Need-returns-3
+unfolding inForceOf
+returns-3 c =
+    rw (
+      sym (c .before .before .before .before .before .judge .ensures) ∙ c .before .before .before .enum-told .given .1,
+      sym (c .before .before .area-fits .ensures) ∙ c .before .if1 .left,
+    )
+    (c .refused-by2 .ensures)
+
+pub grids-in-force-spec : {M : Type 1} → statement M
+grids-in-force-spec =
+    tie.close
+    (tie.spec
+    judge-requires
+    enum-known-verdict
+    refused-by-requires
+    enum-told
+    area-fits-requires
+    list-in-requires
+    refused-by-requires-2
+    returns
+    returns-2
+    returns-3)

@@ -1,0 +1,44 @@
+-- Areas: refusal 10, an area's coordinates, and coordinates as distances from the least admitted longitude and latitude.
+use Prim.Native.Nat.{ℕ}
+use mathlib.Core.Path.{_≡_}
+use mathlib.Core.Bool.{Bool, true, _&&_}
+use lib.IntN.{ℤ, pos, _-ℤ_}
+use lib.Signed.{leZ}
+use Rattle.numbers.specs.Order.{between, within}
+use Rattle.extent.specs.declared.LonSpan.{LonSpan}
+use Rattle.extent.specs.declared.LatSpan.{LatSpan}
+use Rattle.extent.specs.Sides.{lonFromLeast, latFromLeast}
+use Rattle.region.specs.declared.Area as least
+use Rattle.inforce.specs.declared.Area.{Area}
+
+-- sides within the limits, west not above east and south not above north: all that 10 does not refuse
+abbrev pub lonFits : LonSpan → Bool
+lonFits s = within 1296000000 (s .west .0) && within 1296000000 (s .east .0) && leZ (s .west .0) (s .east .0)
+
+abbrev pub latFits : LatSpan → Bool
+latFits s = within 324000000 (s .south .0) && within 324000000 (s .north .0) && leZ (s .south .0) (s .north .0)
+
+unfoldable pub areaFits : Area → Bool
+areaFits a = lonFits (a .lon) && latFits (a .lat)
+
+-- longitude x and latitude y are a coordinate of the area, sides included
+pub record InArea (a : Area) (x y : ℤ) : Type 0 where
+  pub lon : between (a .lon .west .0) (a .lon .east .0) x ≡ true
+  pub lat : between (a .lat .south .0) (a .lat .north .0) y ≡ true
+
+-- the longitude and the latitude at a distance from the least
+abbrev pub lonAt : ℕ → ℤ
+lonAt x = pos x -ℤ pos 1296000000
+
+abbrev pub latAt : ℕ → ℤ
+latAt y = pos y -ℤ pos 324000000
+
+-- an area by the distances of its sides
+abbrev pub areaFromLeast : Area → least.Area
+areaFromLeast a =
+    record {
+      west = lonFromLeast (a .lon .west .0);
+      east = lonFromLeast (a .lon .east .0);
+      south = latFromLeast (a .lat .south .0);
+      north = latFromLeast (a .lat .north .0);
+    }

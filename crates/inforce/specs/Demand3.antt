@@ -1,0 +1,53 @@
+-- Demand 3 in its own words, of what `inForceOf` answers for an accepted group and an admitted area.
+use Prim.Native.Nat.{ℕ, suc, _-_, _≤_, _<_}
+use mathlib.Core.Path.{_≡_}
+use mathlib.Core.Bool.{true}
+use mathlib.Core.Logic.{_⊎_}
+use lib.IntN.{ℤ}
+use lib.ListN.{length, getD}
+use lib.Signed.{_≤ℤ_, _<ℤ_}
+use Rattle.group.specs.declared.Group.{Group}
+use Rattle.group.specs.Record.{gridAt}
+use Rattle.extent.specs.Extent.{holds}
+use Rattle.choice.specs.InGroup.{chosenIn}
+use Rattle.inforce.specs.declared.Area.{Area}
+use Rattle.inforce.specs.declared.GridInForce.{GridInForce}
+use Rattle.inforce.specs.declared.InForce.{InForce}
+use Rattle.inforce.specs.Area.{InArea}
+use Rattle.inforce.specs.InForce.{noGrid}
+
+abbrev pub entryAt : InForce → ℕ → GridInForce
+entryAt r i = getD (r .entries) i noGrid
+
+-- the rank of the grid numbered k, from 1
+abbrev pub rankOf : Group → ℕ → ℕ
+rankOf g k = gridAt g (k - 1) .rank
+
+-- the entry's coordinate is of the area, its grid is chosen there, and every other such coordinate lies farther north, or equally far
+-- north and farther east
+pub record Placed (g : Group) (a : Area) (e : GridInForce) : Type 0 where
+  pub number : (1 ≤ e .grid) × (e .grid ≤ g .grids)
+  pub inside : InArea a (e .lon .0) (e .lat .0)
+  pub chosen : chosenIn g (e .lon .0) (e .lat .0) ≡ e .grid
+  pub first : (x y : ℤ) → InArea a x y → chosenIn g x y ≡ e .grid → (e .lat .0 <ℤ y) ⊎ ((e .lat .0 ≡ y) × (e .lon .0 ≤ℤ x))
+
+pub record GridsInForce (g : Group) (a : Area) (r : InForce) : Type 0 where
+  -- a grid chosen at one or more coordinates of the area is named
+  pub named : (x y : ℤ) (k : ℕ) → InArea a x y → chosenIn g x y ≡ suc k → (i : ℕ) × (i < r .count) × (entryAt r i .grid ≡ suc k)
+  -- and no other: a grid named is chosen at the coordinate beside it, which is the southmost, then westmost such
+  pub placed : (i : ℕ) → i < r .count → Placed g a (entryAt r i)
+  -- best rank first, equal ranks in header order
+  pub ordered : (i j : ℕ) → i < j → j < r .count
+      → (rankOf g (entryAt r i .grid) < rankOf g (entryAt r j .grid))
+      ⊎ ((rankOf g (entryAt r i .grid) ≡ rankOf g (entryAt r j .grid)) × (entryAt r i .grid < entryAt r j .grid))
+  -- each once
+  pub once : (i j : ℕ) → i < j → j < r .count → entryAt r i .grid ≡ entryAt r j .grid → ⊥
+  -- the count is the number of entries: those behind it are zero, of 64 in all
+  pub unused : (i : ℕ) → r .count ≤ i → entryAt r i ≡ noGrid
+  pub most : r .count ≤ g .grids
+  pub entries : length (r .entries) ≡ 64
+  -- a grid that is hidden wherever it holds a coordinate of the area, by one or by several others together, is absent
+  pub hidden : (k : ℕ) → ((x y : ℤ) → InArea a x y → holds (gridAt g k) x y ≡ true → chosenIn g x y ≡ suc k → ⊥)
+      → (i : ℕ) → i < r .count → entryAt r i .grid ≡ suc k → ⊥
+  -- an area that no grid meets has the empty list
+  pub empty : ((x y : ℤ) (k : ℕ) → InArea a x y → k < g .grids → holds (gridAt g k) x y ≡ true → ⊥) → r .count ≡ 0

@@ -1,0 +1,65 @@
+-- Document 01's grids in force: refusals 2 to 5, then 10, else the list of the area.
+use Prim.Native.Nat.{ℕ, _-_, _^_, _≤_, _<_}
+use mathlib.Core.Path.{_≡_}
+use mathlib.Core.Bool.{cond}
+use mathlib.Core.List.{List, _++_, map}
+use lib.IntN.{pos}
+use lib.ListN.{length, getD, take, replicate}
+use Rattle.group.specs.declared.Group.{Group}
+use Rattle.group.specs.declared.Refusal.{Refusal}
+use Rattle.group.specs.declared.Verdict.{Verdict}
+use Rattle.group.specs.declared.Verdict.the-variants.{Accepted, Refused}
+use Rattle.group.specs.Record.{gridAt}
+use Rattle.judge.specs.Judge.{judged}
+use Rattle.choice.specs.InGroup.{chosenIn}
+use Rattle.coverage.specs.declared.Entry.{Entry}
+use Rattle.coverage.specs.declared.Listing.{Listing}
+use Rattle.coverage.specs.InForce.{inForceBy, noEntry}
+use Rattle.inforce.specs.declared.Area.{Area}
+use Rattle.inforce.specs.declared.GridInForce.{GridInForce}
+use Rattle.inforce.specs.declared.InForce.{InForce}
+use Rattle.inforce.specs.Area.{areaFits, lonAt, latAt, areaFromLeast}
+
+-- the grids chosen at one or more of the area's coordinates, by rank and then by number, each with the southmost, then westmost such
+-- coordinate; coordinates as distances from the least
+abbrev pub inForceIn : Group → Area → List Entry
+inForceIn g a = inForceBy (λ x y. chosenIn g (lonAt x) (latAt y)) (λ k. gridAt g k .rank) (g .grids) (areaFromLeast a)
+
+-- an entry as it is handed back
+abbrev pub shown : Entry → GridInForce
+shown e = record { grid = e .grid; lon = record { 0 = lonAt (e .lon) }; lat = record { 0 = latAt (e .lat) } }
+
+-- an unused entry
+abbrev pub noGrid : GridInForce
+noGrid = record { grid = 0; lon = record { 0 = pos 0 }; lat = record { 0 = pos 0 } }
+
+-- the count and 64 entries, of which the unused ones are zero
+abbrev pub listed : List Entry → InForce
+listed es = record { verdict = Accepted; count = length es; entries = map shown es ++ replicate (64 - length es) noGrid }
+
+-- a list of coverage's, handed back: its first entries, as many as its count
+abbrev pub shownFirst : List Entry → ℕ → List GridInForce
+shownFirst es n = map shown (take n es) ++ replicate (64 - n) noGrid
+
+unfoldable pub shownList : Listing → InForce
+shownList l = record { verdict = Accepted; count = l .count; entries = shownFirst (l .entries) (l .count) }
+
+-- beside a refusal the list is empty
+abbrev pub refusedBy : Refusal → InForce
+refusedBy r = record { verdict = Refused r; count = 0; entries = replicate 64 noGrid }
+
+-- the verdict where it is a refusal, else what follows
+abbrev pub unlessRefused : Verdict → InForce → InForce
+unlessRefused (Refused r) next = refusedBy r
+unlessRefused Accepted next = next
+
+unfoldable pub inForceOf : Group → Area → InForce
+inForceOf g a =
+    unlessRefused (judged g) (cond (areaFits a) (listed (inForceIn g a)) (refusedBy (record { number = 10; place = 0 })))
+
+-- a list whose coordinates fit 63 bits
+pub record Narrow (l : Listing) : Type 0 where
+  pub few : l .count ≤ 64
+  pub room : length (l .entries) ≡ 64
+  pub lon : (i : ℕ) → i < l .count → getD (l .entries) i noEntry .lon < 2 ^ 63
+  pub lat : (i : ℕ) → i < l .count → getD (l .entries) i noEntry .lat < 2 ^ 63

@@ -1,0 +1,193 @@
+// Grids in force: which grids of a group are chosen at one or more coordinates of an area, and where first.
+ghost use mathlib.Core.Path.{_≡_};
+ghost use mathlib.Core.Bool.{true};
+ghost use Prim.Native.Nat.{ℕ, _<_, _≤_, _*_, _^_};
+ghost use lib.ListN.{length, take};
+ghost use Rattle.judge.specs.Judge.{judged};
+ghost use Rattle.judge.specs.Flat.{Sided};
+ghost use Rattle.inforce.specs.Area.{lonFits, latFits, areaFits, areaFromLeast, lonAt, latAt};
+ghost use Rattle.inforce.specs.Flat.{Owned, FlatSound, flatListed};
+ghost use Rattle.inforce.specs.InForce.{inForceIn, shown, noGrid, listed, shownList, refusedBy, inForceOf, Narrow};
+use coverage::Entry;
+use coverage::Listing;
+use extent::LatSpan;
+use extent::LonSpan;
+use extent::lat_from_least;
+use extent::lon_from_least;
+use group::Group;
+use group::Latitude;
+use group::Longitude;
+use group::Refusal;
+use group::Verdict;
+
+// An area: all whole coordinates from west to east and from south to north, sides included, in mas.
+pub struct Area {
+    pub lon: LonSpan,
+    pub lat: LatSpan,
+}
+
+// A grid in force: its number, from 1, and the southmost, then westmost coordinate at which it is chosen, in mas.
+pub struct GridInForce {
+    pub grid: u64,
+    pub lon: Longitude,
+    pub lat: Latitude,
+}
+
+// The grids in force: how many, and 64 entries, best rank first; unused ones are zero, all of them beside a refusal.
+pub struct InForce {
+    pub verdict: Verdict,
+    pub count: u64,
+    pub entries: [GridInForce; 64],
+}
+
+// Whether longitudes are within the limits, west not above east.
+fn lon_fits(s: LonSpan) -> bool
+    ensures { λ r. ⌜ r ≡ lonFits s ⌝ }
+{
+    ((-1296000000 <= s.west.0) & (s.west.0 <= 1296000000))
+        & ((-1296000000 <= s.east.0) & (s.east.0 <= 1296000000))
+        & (s.west.0 <= s.east.0)
+}
+
+// Whether latitudes are within the limits, south not above north.
+fn lat_fits(s: LatSpan) -> bool
+    ensures { λ r. ⌜ r ≡ latFits s ⌝ }
+{
+    ((-324000000 <= s.south.0) & (s.south.0 <= 324000000))
+        & ((-324000000 <= s.north.0) & (s.north.0 <= 324000000))
+        & (s.south.0 <= s.north.0)
+}
+
+// Whether an area is admitted.
+fn area_fits(a: Area) -> bool
+    ensures { λ r. ⌜ r ≡ areaFits a ⌝ }
+{
+    lon_fits(a.lon) & lat_fits(a.lat)
+}
+
+// An area by the distances of its sides from the least longitude and latitude.
+fn area_from_least(a: Area) -> region::Area
+    ensures { λ r. ⌜ r ≡ areaFromLeast a ⌝ }
+{
+    let lon = a.lon;
+    let lat = a.lat;
+    region::Area {
+        west: lon_from_least(lon.west),
+        east: lon_from_least(lon.east),
+        south: lat_from_least(lat.south),
+        north: lat_from_least(lat.north),
+    }
+}
+
+// An entry with its coordinate in mas.
+fn shown_entry(e: Entry) -> GridInForce
+    requires { ⌜ (e .lon < 2 ^ 63) × (e .lat < 2 ^ 63) ⌝ }
+    ensures { λ r. ⌜ r ≡ shown e ⌝ }
+{
+    GridInForce {
+        grid: e.grid,
+        lon: Longitude(numbers::lowered(e.lon, 1296000000)),
+        lat: Latitude(numbers::lowered(e.lat, 324000000)),
+    }
+}
+
+// The numbers 0 to 63: each grid owns the rectangle of its own number.
+fn fill_owners(owners: &mut [u64])
+    requires { ⌜ length (now owners) ≡ 64 ⌝ }
+    ensures { λ _. ⌜ Owned (now (owners .exit)) 64 × (length (now (owners .exit)) ≡ 64) ⌝ }
+{
+    let mut i = 0;
+    while i < 64 {
+        owners[i] = i as u64;
+        i += 1;
+    }
+}
+
+// The grids in force by an accepted group's flat lists, the area and the coordinates as distances.
+fn list_flat(sides: &[u64], ranks: &[u64], n: usize, a: region::Area) -> Listing
+    requires { ⌜ FlatSound (now sides) (now ranks) n ⌝ }
+    ensures { λ r. ⌜ r ≡ flatListed (now (sides .entry)) (now (ranks .entry)) n a ⌝ }
+{
+    let mut owners = [0u64; 64];
+    fill_owners(&mut owners);
+    let m = n * 4;
+    coverage::in_force(&sides[..m], &owners[..n], &ranks[..n], a)
+}
+
+// An unused entry.
+fn blank_entry() -> GridInForce
+    ensures { λ r. ⌜ r ≡ noGrid ⌝ }
+{
+    GridInForce {
+        grid: 0,
+        lon: Longitude(0),
+        lat: Latitude(0),
+    }
+}
+
+// A list with its coordinates in mas.
+fn shown_list(l: Listing) -> InForce
+    requires { ⌜ Narrow l ⌝ }
+    ensures { λ r. ⌜ r ≡ shownList l ⌝ }
+{
+    let none = blank_entry();
+    let mut entries = [none; 64];
+    let n = l.count;
+    let mut i = 0;
+    while i < n {
+        let e = l.entries[i];
+        entries[i] = shown_entry(e);
+        i += 1;
+    }
+    InForce {
+        verdict: Verdict::Accepted,
+        count: n as u64,
+        entries: entries,
+    }
+}
+
+// What stands beside a refusal: no entries.
+fn refused_by(r: Refusal) -> InForce
+    ensures { λ a. ⌜ a ≡ refusedBy r ⌝ }
+{
+    let none = blank_entry();
+    InForce {
+        verdict: Verdict::Refused(r),
+        count: 0,
+        entries: [none; 64],
+    }
+}
+
+// The list of an accepted group and an admitted area.
+fn list_in(group: Group, area: Area) -> InForce
+    requires { ⌜ (judged group ≡ Verdict.Accepted) × (areaFits area ≡ true) ⌝ }
+    ensures { λ r. ⌜ r ≡ listed (inForceIn group area) ⌝ }
+{
+    let mut sides = [0u64; 256];
+    let mut ranks = [0u64; 64];
+    judge::fill_sides(group, &mut sides, &mut ranks);
+    let n = group.grids as usize;
+    let l = list_flat(&sides, &ranks, n, area_from_least(area));
+    shown_list(l)
+}
+
+// The grids in force in an area: each grid chosen at one or more of its coordinates, best rank first, with the southmost, then westmost
+// such coordinate. Refusals 2 to 5 of the group, then 10: a side outside the limits, west above east or south above north.
+pub fn grids_in_force(group: Group, area: Area) -> InForce
+    ensures { λ r. ⌜ r ≡ inForceOf group area ⌝ }
+{
+    let verdict = judge::judge(group);
+    match verdict {
+        Verdict::Refused(r) => refused_by(r),
+        Verdict::Accepted => {
+            if area_fits(area) {
+                list_in(group, area)
+            } else {
+                refused_by(Refusal {
+                    number: 10,
+                    place: 0,
+                })
+            }
+        }
+    }
+}

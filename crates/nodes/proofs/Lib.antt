@@ -1,0 +1,7 @@
+-- Laws of loading.
+pub mod Marks
+pub mod Signed
+pub mod ScaledLaws
+pub mod Fields
+pub mod Steps
+pub mod LoadLaws

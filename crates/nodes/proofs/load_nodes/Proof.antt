@@ -1,0 +1,102 @@
+-- `load_nodes`: the three refusals in their order, then the nodes. Assumes nothing.
+use mathlib.Core.Path.{_≡_, ap, _∙_}
+use mathlib.Core.Bool.{cond}
+use mathlib.Core.List.{List, map}
+use Prim.Native.Nat.{ℕ, _+_, _≤_, _<_}
+use native.Mathlib.Numerals.{add-one}
+use native.Mathlib.Omega.{arith}
+use lib.Dec.{eqb}
+use lib.IntN.{ℤ}
+use lib.Ieee.{Float, nan}
+use lib.ListN.{length, getD}
+use borrow.Author.Needs.{needs}
+use borrow.Author.Tests.{lt-ltb, le-ltb, eq-eqb, ne-eqb}
+use Rattle.numbers.proofs.FirstLaws.{first-le}
+use Rattle.nodes.specs.declared.Loaded.{Loaded}
+use Rattle.nodes.specs.declared.Loaded.the-variants.{Done}
+use Rattle.nodes.specs.Load.{refused, nodeOf, firstRefused, refusal, loaded, numberOf, nodesAfter}
+use Rattle.nodes.proofs.load_nodes.Statement.{statement}
+use Rattle.nodes.proofs.load_nodes.Tie as tie
+
+module _ (q : ℕ) (flag : Float) (floats : List Float) (nodes : List ℤ) where
+  -- r is the answer, and with it the nodes afterwards
+  answered : (r : Loaded) → r ≡ loaded q flag floats (length nodes) → (r ≡ loaded q flag floats (length nodes)) × (cond (eqb (numberOf r) 0) (map (nodeOf q flag) floats) nodes ≡ nodesAfter q flag floats nodes)
+  unfolding nodesAfter
+  answered r e = (e, ap (λ (l : Loaded). cond (eqb (numberOf l) 0) (map (nodeOf q flag) floats) nodes) e)
+
+  by-quantum : 20 < q → refusal 2 0 ≡ loaded q flag floats (length nodes)
+  unfolding loaded
+  by-quantum h = rw (lt-ltb 20 q h)
+
+  by-count : q ≤ 20 → (length floats ≡ length nodes → ⊥) → refusal 12 0 ≡ loaded q flag floats (length nodes)
+  unfolding loaded
+  by-count h n = rw (le-ltb 20 q h, ne-eqb (length floats) (length nodes) n)
+
+  by-float : (i : ℕ) → i ≡ firstRefused q flag floats → q ≤ 20 → length floats ≡ length nodes → i < length floats → refusal 11 (i + 1) ≡ loaded q flag floats (length nodes)
+  unfolding loaded
+  by-float i f h e l = rw (le-ltb 20 q h, eq-eqb (length floats) (length nodes) e, ← f, lt-ltb i (length floats) l, add-one)
+
+  by-none : (i : ℕ) → i ≡ firstRefused q flag floats → q ≤ 20 → length floats ≡ length nodes → length floats ≤ i → Done ≡ loaded q flag floats (length nodes)
+  unfolding loaded
+  by-none i f h e l = rw (le-ltb 20 q h, eq-eqb (length floats) (length nodes) e, ← f, le-ltb i (length floats) l)
+
+-- where no index is found, all floats are passed
+all-passed : (q : ℕ) (flag : Float) (floats : List Float) (i : ℕ) → i ≡ firstRefused q flag floats → length floats ≤ i → firstRefused q flag floats ≡ length floats
+unfolding firstRefused
+all-passed q flag floats i f h = omega (arith, first-le (λ k. refused q flag (getD floats k nan)) (length floats))
+
+returns : tie.Need-returns
+returns c =
+    let a = c .before .before .args in
+    answered (a .quantum) (a .flag) (a .floats .now) (a .nodes .now) (refusal 2 0)
+    (by-quantum (a .quantum) (a .flag) (a .floats .now) (a .nodes .now) (c .if1 .taken))
+
+returns-2 : tie.Need-returns-2
+returns-2 c =
+    let a = c .before .before .before .args in
+    answered (a .quantum) (a .flag) (a .floats .now) (a .nodes .now) (refusal 12 0)
+    (by-count (a .quantum) (a .flag) (a .floats .now) (a .nodes .now) (c .before .if1 .left) (c .if2 .taken))
+
+first-refused-requires : tie.Need-first-refused-requires
+first-refused-requires c κs = search needs
+
+add-t12 : tie.Need-add-t12
+add-t12 c = search needs
+
+returns-3 : tie.Need-returns-3
+returns-3 c =
+    let f = c .before in
+    let a = f .before .before .before .before .args in
+    answered (a .quantum) (a .flag) (a .floats .now) (a .nodes .now) (refusal 11 (f .first-refused .result + 1))
+    (by-float (a .quantum) (a .flag) (a .floats .now) (a .nodes .now) (f .first-refused .result) (f .first-refused .ensures) (f .before .before .if1 .left) (f .before .if2 .left) (c .if3 .taken))
+
+fill-requires : tie.Need-fill-requires
+fill-requires c κs =
+    let f = c .before .before in
+    let a = f .before .before .before .before .args in
+    (f .before .before .if1 .left, f .before .if2 .left, all-passed (a .quantum) (a .flag) (a .floats .now) (f .first-refused .result) (f .first-refused .ensures) (c .before .if3 .left))
+
+same-length : tie.Need-same-length
+same-length c = search needs
+
+returns-4 : tie.Need-returns-4
+returns-4 c =
+    let t = c .before .before .before in
+    let f = t .before in
+    let a = f .before .before .before .before .args in
+    let e = answered (a .quantum) (a .flag) (a .floats .now) (a .nodes .now) Done
+    (by-none (a .quantum) (a .flag) (a .floats .now) (a .nodes .now) (f .first-refused .result) (f .first-refused .ensures) (f .before .before .if1 .left) (f .before .if2 .left) (t .if3 .left)) in
+    (e .0, c .before .fill .ensures ∙ e .1)
+
+pub load-nodes-spec : {M : Type 1} → statement M
+load-nodes-spec =
+    tie.close
+    (tie.spec
+    returns
+    returns-2
+    first-refused-requires
+    add-t12
+    returns-3
+    fill-requires
+    same-length
+    returns-4)

@@ -1,0 +1,3 @@
+-- What loading floats into nodes means.
+pub mod Load
+pub mod Size

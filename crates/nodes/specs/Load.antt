@@ -1,0 +1,73 @@
+-- What loading floats into nodes means: document 01, 'Loading and showing' and refusals 2, 12 and 11.
+use Prim.Native.Nat.{ℕ, suc, _*_, _^_}
+use mathlib.Core.Bool.{Bool, true, false, not, cond, _&&_, _||_}
+use mathlib.Core.List.{List, map}
+use lib.Dec.{ltb, eqb}
+use lib.IntN.{ℤ, pos, negsuc, negℤ}
+use lib.ListN.{length, getD}
+use lib.Ieee.{Float, nan, inf, fin, binary32, isNan, toBits, up, down}
+use Rattle.numbers.specs.Round.{roundZ}
+use Rattle.numbers.specs.Order.{within}
+use Rattle.numbers.specs.First.{first}
+use Rattle.nodes.specs.declared.Loaded.{Loaded}
+use Rattle.nodes.specs.declared.Loaded.the-variants.{Done, Refused}
+
+-- n, below zero where s is true
+abbrev pub signed : Bool → ℕ → ℤ
+signed false n = pos n
+signed true n = negℤ (pos n)
+
+-- the no-data mark
+abbrev pub mark : ℤ
+mark = negsuc 2147483647
+
+-- x becomes the mark: a NaN, or bits equal to the flag's; a NaN as the flag adds nothing
+unfoldable pub marks : Float → Float → Bool
+marks flag x = isNan x || (not (isNan flag) && eqb (toBits binary32 x) (toBits binary32 flag))
+
+-- the exact float, ±m · 2^e with 2^e = up e / down e, times 2 to the power q, rounded to nearest, ties to even; 0 for what is no number
+unfoldable pub steps : ℕ → Float → ℤ
+steps q nan = pos 0
+steps q (inf s) = pos 0
+steps q (fin s m e) = roundZ (signed s (m * up e * 2 ^ q)) (down e)
+
+abbrev pub infinite : Float → Bool
+infinite nan = false
+infinite (inf s) = true
+infinite (fin s m e) = false
+
+-- refusal 11: not loaded as the mark, and infinite or rounded beyond ±4,000,000
+unfoldable pub refused : ℕ → Float → Float → Bool
+refused q flag x = not (marks flag x) && (infinite x || not (within 4000000 (steps q x)))
+
+-- the node of a float that is not refused
+unfoldable pub nodeOf : ℕ → Float → Float → ℤ
+nodeOf q flag x = cond (marks flag x) mark (steps q x)
+
+-- the index of the first float that is refused, and the count where none is
+unfoldable pub firstRefused : ℕ → Float → List Float → ℕ
+firstRefused q flag floats = first (λ i. refused q flag (getD floats i nan)) (length floats)
+
+abbrev pub refusal : ℕ → ℕ → Loaded
+refusal number place = Refused (record { number = number; place = place })
+
+-- what loading answers where n nodes are lent: Q by 2, then 12, then 11 at the first position, from 1
+unfoldable pub loaded : ℕ → Float → List Float → ℕ → Loaded
+loaded q flag floats n =
+    let k = firstRefused q flag floats in
+    cond (ltb 20 q) (refusal 2 0)
+    (cond (not (eqb (length floats) n)) (refusal 12 0)
+    (cond (ltb k (length floats)) (refusal 11 (suc k)) Done))
+
+-- the refusal's number and place, as document 01 has them: 0 and 0 where nothing is refused
+abbrev pub numberOf : Loaded → ℕ
+numberOf Done = 0
+numberOf (Refused r) = r .number
+
+abbrev pub placeOf : Loaded → ℕ
+placeOf Done = 0
+placeOf (Refused r) = r .place
+
+-- the lent nodes afterwards: the node of each float where nothing is refused, else unchanged
+unfoldable pub nodesAfter : ℕ → Float → List Float → List ℤ → List ℤ
+nodesAfter q flag floats nodes = cond (eqb (numberOf (loaded q flag floats (length nodes))) 0) (map (nodeOf q flag) floats) nodes

@@ -1,0 +1,6 @@
+-- The laws of the crate `text`.
+pub mod PartLaws
+pub mod DecimalLaws
+pub mod NumberLaws
+pub mod FieldLaws
+pub mod PutLaws

@@ -1,0 +1,6 @@
+-- The definitions of the crate `text`.
+pub mod Parts
+pub mod Decimal
+pub mod Number
+pub mod Fields
+pub mod Put

@@ -1,0 +1,25 @@
+-- What the functions that read a number answer.
+use Prim.Native.Nat.{ℕ, min}
+use mathlib.Core.Option.{Option, none, some}
+use lib.IntN.{ℤ, pos, negsuc}
+use Rattle.text.specs.declared.Number.{Number}
+use Rattle.text.specs.declared.Number.the-variants.{Malformed, Whole}
+use Rattle.text.specs.declared.Natural.{Natural}
+use Rattle.text.specs.declared.Natural.the-variants.{Bad, Value}
+
+-- sizes are told apart up to here, which is beyond every limit
+abbrev pub most : ℕ
+most = 1000000000000000000
+
+abbrev pub naturalOf : Option ℕ → Natural
+naturalOf none = Bad
+naturalOf (some n) = Value (min n most)
+
+-- the number, or most or −most where it is beyond them
+abbrev pub clamp : ℤ → ℤ
+clamp (pos n) = pos (min n most)
+clamp (negsuc n) = negsuc (min n 999999999999999999)
+
+abbrev pub numberOf : Option ℤ → Number
+numberOf none = Malformed
+numberOf (some z) = Whole (clamp z)

@@ -1,0 +1,76 @@
+//! Why a command stops short: a refusal of the library, wrong usage, or a file that can't be used.
+
+/// A refusal of the library, by document 01's number and place.
+#[derive(Clone, Copy)]
+pub struct Refusal {
+    pub number: u64,
+    pub place: i64,
+}
+
+impl Refusal {
+    /// The refusal as standard output has it.
+    pub fn line(&self) -> String {
+        format!("refused\t{}\t{}\n", self.number, self.place)
+    }
+
+    /// The refusal in words.
+    pub fn words(&self) -> String {
+        let place = self.place;
+        match (self.number, place) {
+            (1, _) => format!("line {place} is not of a header's form, or the header ends before it"),
+            (2, 0) => "Q is outside 0 to 20".into(),
+            (2, _) => format!("line {place} has a number outside its limit, or a ramp's A above its B"),
+            (3, _) => format!("grid {place} has the name of an earlier grid"),
+            (4, _) => format!("grid {place} reaches beyond the longitude or latitude limits, or beyond 16777216 nodes"),
+            (5, _) => format!("grid {place} shares a coordinate and its rank with an earlier grid"),
+            (6, _) => "the point is outside longitude ±1296000000 or latitude ±324000000".into(),
+            (7, _) => "no grid holds the point".into(),
+            (8, _) => "a node that the point needs is the no-data mark".into(),
+            (9, _) => "the day is outside ±1000000".into(),
+            (10, _) => "the area has a side outside the limits, west above east or south above north".into(),
+            (11, 0) => "a node that the point needs is beyond ±4000000 steps".into(),
+            (11, _) => format!("float {place} is infinite or rounds beyond ±4000000 steps"),
+            (12, _) => "the lent output is too short or of another length".into(),
+            (13, _) => format!("the node list ends before the nodes of grid {place} do"),
+            (number, _) => format!("refusal {number} at {place}"),
+        }
+    }
+}
+
+pub enum Stop {
+    Refused(Refusal),
+    Usage(String),
+    File(String),
+}
+
+impl Stop {
+    /// 1 for a refusal, 2 for wrong usage or a file.
+    pub fn status(&self) -> u8 {
+        match self {
+            Stop::Refused(_) => 1,
+            Stop::Usage(_) | Stop::File(_) => 2,
+        }
+    }
+
+    /// What standard output gets.
+    pub fn printed(&self) -> Vec<u8> {
+        match self {
+            Stop::Refused(refusal) => refusal.line().into_bytes(),
+            Stop::Usage(_) | Stop::File(_) => Vec::new(),
+        }
+    }
+
+    /// What standard error gets.
+    pub fn message(&self) -> String {
+        let why = match self {
+            Stop::Refused(refusal) => format!("refused: {}", refusal.words()),
+            Stop::Usage(why) | Stop::File(why) => why.clone(),
+        };
+        format!("bulhyemik: {}\n", why.trim_end())
+    }
+}
+
+/// Accepts a call that returned 0, and stops at a refusal.
+pub fn accepted(number: u64, place: i64) -> Result<(), Stop> {
+    if number == 0 { Ok(()) } else { Err(Stop::Refused(Refusal { number, place })) }
+}

@@ -1,0 +1,277 @@
+//! Bad input to the command line: a clear message, status 2, and nothing written.
+
+use crate::program::{Answer, Folder, stopped};
+use std::ffi::OsStr;
+use std::os::unix::ffi::OsStrExt;
+
+const WHOLE: &str = "a whole number, as 12, 0 or -5, without plus or leading zero";
+
+/// Each command line must stop with its message and leave every file as it was.
+fn all_stop(folder: &Folder, cases: &[(&str, String)]) {
+    let before = folder.files();
+    for (arguments, message) in cases {
+        assert_eq!(folder.run(arguments), stopped(message), "{arguments}");
+        assert_eq!(folder.files(), before, "{arguments}");
+    }
+}
+
+/// The command line must stop with its message for a user who is not root; skipped where root can't become one.
+fn as_a_plain_user(folder: &Folder, before: &str, arguments: &str, message: &str) {
+    const SKIPPED: i32 = 9;
+    let line = format!(
+        "{before}
+        if [ \"$(id -u)\" = 0 ]; then as='setpriv --reuid=65534 --regid=65534 --clear-groups'; fi
+        $as test -x \"$PROGRAM\" -a -x . || exit {SKIPPED}
+        exec $as \"$PROGRAM\" {arguments}"
+    );
+    let answer = folder.shell(&line);
+    if answer.status == SKIPPED {
+        println!("skipped: {arguments}");
+    } else {
+        assert_eq!(answer, stopped(message), "{arguments}");
+    }
+}
+
+#[test]
+fn missing_files() {
+    let missing = |file: &str| format!("cannot read {file}: there is no such file or folder; check the path");
+    all_stop(
+        &Folder::new("missing"),
+        &[
+            ("check none.txt", missing("none.txt")),
+            ("format none/none.txt", missing("none/none.txt")),
+            ("lookup none.txt dock.nodes 0 0 0", missing("none.txt")),
+            ("lookup dock.txt none.nodes 0 0 0", missing("none.nodes")),
+            ("lookup dock.txt none.nodes", missing("none.nodes")),
+            ("screen dock.txt none.nodes 0 0 0", missing("none.nodes")),
+            ("inforce none.txt 0 0 0 0", missing("none.txt")),
+            ("load none.floats new.nodes 0", missing("none.floats")),
+            ("check dock.txt/x", "cannot read dock.txt/x: a part of the path is no folder; check the path".into()),
+        ],
+    );
+}
+
+#[test]
+fn folders_for_files() {
+    let folder = Folder::new("folders");
+    folder.make_folder("sub");
+    let read = || "cannot read sub: it is a folder; name a file".to_string();
+    all_stop(
+        &folder,
+        &[
+            ("check sub", read()),
+            ("format sub", read()),
+            ("lookup sub dock.nodes 0 0 0", read()),
+            ("lookup dock.txt sub 0 0 0", read()),
+            ("screen dock.txt sub 0 0 0", read()),
+            ("inforce sub 0 0 0 0", read()),
+            ("load sub new.nodes 0", read()),
+            ("load dock.floats sub 0", "cannot write sub: it is a folder; name a file".into()),
+        ],
+    );
+}
+
+#[test]
+fn truncated_node_files() {
+    let folder = Folder::new("truncated");
+    folder.put("cut.nodes", &[0; 23]);
+    folder.put("one.floats", &[0; 1]);
+    let cut = |file: &str, bytes: usize| {
+        format!(
+            "cannot use {file}: {bytes} bytes are no multiple of 4, so it is cut short or holds something else; \
+             check how it was made"
+        )
+    };
+    all_stop(
+        &folder,
+        &[
+            ("lookup dock.txt cut.nodes 0 0 0", cut("cut.nodes", 23)),
+            ("lookup dock.txt cut.nodes", cut("cut.nodes", 23)),
+            ("screen dock.txt cut.nodes 0 0 0", cut("cut.nodes", 23)),
+            ("load one.floats new.nodes 0", cut("one.floats", 1)),
+        ],
+    );
+}
+
+#[test]
+fn empty_files() {
+    let folder = Folder::new("empty");
+    folder.put("empty", b"");
+    let empty = |file: &str| format!("cannot use {file}: it is empty; check how it was made");
+    all_stop(
+        &folder,
+        &[
+            ("check empty", empty("empty")),
+            ("check -", empty("standard input")),
+            ("format empty", empty("empty")),
+            ("lookup empty dock.nodes 0 0 0", empty("empty")),
+            ("lookup dock.txt empty 0 0 0", empty("empty")),
+            ("screen dock.txt empty 0 0 0", empty("empty")),
+            ("inforce empty 0 0 0 0", empty("empty")),
+            ("load empty new.nodes 0", empty("empty")),
+        ],
+    );
+}
+
+#[test]
+fn unreadable_files() {
+    let failed =
+        || "cannot read /proc/self/mem: Input/output error (os error 5); check the file and its disk".to_string();
+    all_stop(
+        &Folder::new("unreadable"),
+        &[
+            ("check /proc/self/mem", failed()),
+            ("lookup dock.txt /proc/self/mem 0 0 0", failed()),
+            ("load /proc/self/mem new.nodes 0", failed()),
+        ],
+    );
+}
+
+#[test]
+fn files_that_this_user_may_not_read() {
+    let folder = Folder::new("denied");
+    let message = "cannot read dock.txt: permission is denied; check who may use it";
+    as_a_plain_user(&folder, "chmod 0 dock.txt", "check dock.txt", message);
+}
+
+#[test]
+fn unknown_commands_and_options() {
+    let folder = Folder::new("unknown");
+    all_stop(
+        &folder,
+        &[
+            ("chek dock.txt", "there is no command 'chek'; see bulhyemik --help".into()),
+            ("--verbose", "there is no command '--verbose'; see bulhyemik --help".into()),
+            ("check --quick dock.txt", "there is no option '--quick'; see bulhyemik check --help".into()),
+        ],
+    );
+    let odd = OsStr::from_bytes(b"ch\xffck");
+    let answer = folder.run_with(&[odd], b"");
+    assert_eq!(answer, stopped("there is no command 'ch\u{fffd}ck'; see bulhyemik --help"));
+}
+
+#[test]
+fn no_command_at_all() {
+    let Answer { status, out, err } = Folder::new("nothing").run("");
+    assert_eq!((status, out), (2, String::new()));
+    assert!(err.starts_with("bulhyemik: no command is named\n\nusage: bulhyemik COMMAND"));
+}
+
+#[test]
+fn too_few_and_too_many_arguments() {
+    let takes = |command: &str, named: &str, count: &str| {
+        format!("{command} takes {named}, not {count}; see bulhyemik {command} --help")
+    };
+    let (points, area) = ("HEADER NODES LON LAT DAY", "HEADER WEST EAST SOUTH NORTH");
+    let (lookup, load) = ("HEADER NODES, or HEADER NODES LON LAT DAY", "FLOATS NODES Q, or FLOATS NODES Q FLAG");
+    all_stop(
+        &Folder::new("counts"),
+        &[
+            ("check", takes("check", "HEADER", "0 arguments")),
+            ("check dock.txt dock.txt", takes("check", "HEADER", "2 arguments")),
+            ("format", takes("format", "HEADER", "0 arguments")),
+            ("lookup dock.txt", takes("lookup", lookup, "1 argument")),
+            ("lookup dock.txt dock.nodes 1", takes("lookup", lookup, "3 arguments")),
+            ("lookup dock.txt dock.nodes 1 2", takes("lookup", lookup, "4 arguments")),
+            ("lookup dock.txt dock.nodes 1 2 3 4", takes("lookup", lookup, "6 arguments")),
+            ("screen dock.txt dock.nodes 1 2", takes("screen", points, "4 arguments")),
+            ("inforce dock.txt 1 2 3", takes("inforce", area, "4 arguments")),
+            ("inforce dock.txt 1 2 3 4 5", takes("inforce", area, "6 arguments")),
+            ("load dock.floats new.nodes", takes("load", load, "2 arguments")),
+            ("load dock.floats new.nodes 0 0 0", takes("load", load, "5 arguments")),
+        ],
+    );
+}
+
+#[test]
+fn numbers_not_of_the_form() {
+    let not = |command: &str, name: &str, word: &str, wanted: &str| {
+        format!("{name} is '{word}', but must be {wanted}; see bulhyemik {command} --help")
+    };
+    let flag = "a number, as -9999 or 1.5e30, or a float's bits, as 0xc61c3c00";
+    all_stop(
+        &Folder::new("numbers"),
+        &[
+            ("lookup dock.txt dock.nodes 1.0 2 3", not("lookup", "LON", "1.0", WHOLE)),
+            ("lookup dock.txt dock.nodes 1 +2 3", not("lookup", "LAT", "+2", WHOLE)),
+            ("lookup dock.txt dock.nodes 1 2 03", not("lookup", "DAY", "03", WHOLE)),
+            ("screen dock.txt dock.nodes -0 2 3", not("screen", "LON", "-0", WHOLE)),
+            ("screen dock.txt dock.nodes - 2 3", not("screen", "LON", "-", WHOLE)),
+            ("inforce dock.txt a 0 0 0", not("inforce", "WEST", "a", WHOLE)),
+            ("inforce dock.txt 0 1e3 0 0", not("inforce", "EAST", "1e3", WHOLE)),
+            ("inforce dock.txt 0 0 0x1 0", not("inforce", "SOUTH", "0x1", WHOLE)),
+            ("inforce dock.txt 0 0 0 1,000", not("inforce", "NORTH", "1,000", WHOLE)),
+            ("load dock.floats new.nodes 1.5", not("load", "Q", "1.5", WHOLE)),
+            ("load dock.floats new.nodes 0 nan", not("load", "FLAG", "nan", flag)),
+            ("load dock.floats new.nodes 0 0xc61c3c", not("load", "FLAG", "0xc61c3c", flag)),
+        ],
+    );
+}
+
+#[test]
+fn points_not_of_the_form() {
+    let folder = Folder::new("points");
+    let before = folder.files();
+    let wanted = "must be LON, LAT and DAY, whole numbers parted by tabs";
+    let cases: [(&[u8], &str); 6] = [
+        (b"5\t5\t5\n5 5 5\n", "line 2 of standard input is '5 5 5'"),
+        (b"5\t5\n", "line 1 of standard input is '5\\t5'"),
+        (b"5\t5\t5\r\n", "line 1 of standard input is '5\\t5\\t5\\r'"),
+        (b"5\t5\t5\n\n", "line 2 of standard input is ''"),
+        (b"5\t5\t5\t5\n", "line 1 of standard input is '5\\t5\\t5\\t5'"),
+        (b"\xff\t5\t05\n", "line 1 of standard input is '\\xff\\t5\\t05'"),
+    ];
+    for (input, line) in cases {
+        let answer = folder.run_with(&["lookup", "dock.txt", "dock.nodes"], input);
+        assert_eq!(answer, stopped(&format!("{line}, but {wanted}; see bulhyemik lookup --help")));
+        assert_eq!(folder.files(), before);
+    }
+}
+
+#[test]
+fn standard_input_for_two_things() {
+    let points = "standard input holds the points, so HEADER and NODES must be files; see bulhyemik lookup --help";
+    all_stop(
+        &Folder::new("twice"),
+        &[
+            ("lookup - - 0 0 0", "HEADER and NODES are both standard input; see bulhyemik lookup --help".into()),
+            ("lookup - dock.nodes", points.into()),
+            ("lookup dock.txt -", points.into()),
+            ("load dock.floats - 0", "NODES is '-', but must be a file; see bulhyemik load --help".into()),
+        ],
+    );
+}
+
+#[test]
+fn output_that_cannot_be_written() {
+    let missing = |file: &str| format!("cannot write {file}: there is no such file or folder; check the path");
+    all_stop(
+        &Folder::new("output"),
+        &[
+            ("load dock.floats none/new.nodes 0", missing("none/new.nodes")),
+            ("load dock.floats /proc/new.nodes 0", missing("/proc/new.nodes")),
+            ("load dock.floats /dev/full 0", "cannot write /dev/full: it is no regular file; name another".into()),
+        ],
+    );
+}
+
+#[test]
+fn read_only_folders() {
+    let folder = Folder::new("readonly");
+    folder.make_folder("locked");
+    let message = "cannot write locked/new.nodes: permission is denied; check who may use it";
+    as_a_plain_user(&folder, "chmod 555 locked", "load dock.floats locked/new.nodes 0", message);
+}
+
+#[test]
+fn output_that_breaks_off() {
+    let folder = Folder::new("full");
+    folder.put("old.nodes", b"kept");
+    let before = folder.files();
+    let answer = folder.shell("trap '' XFSZ; ulimit -f 0; exec \"$PROGRAM\" load dock.floats old.nodes 0");
+    let message = "cannot write old.nodes: File too large (os error 27); check the file and its disk";
+    assert_eq!(answer, stopped(message));
+    assert_eq!(folder.files(), before, "the old file stays and nothing is left beside it");
+    let answer = folder.shell("\"$PROGRAM\" format dock.txt > /dev/full");
+    assert_eq!(answer, stopped("cannot write standard output: the disk is full; make room or write elsewhere"));
+}

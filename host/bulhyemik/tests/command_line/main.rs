@@ -1,0 +1,5 @@
+//! The command line as a user meets it: each test runs the program in a folder of its own.
+
+mod bad_input;
+mod good_input;
+mod program;

@@ -1,0 +1,117 @@
+//! Runs the program in a folder of its own: the one that BULHYEMIK names, or the one over the second program.
+
+use std::collections::BTreeMap;
+use std::ffi::OsStr;
+use std::fs;
+use std::io::Write;
+use std::path::{Path, PathBuf};
+use std::process::{Command, Output, Stdio};
+
+pub const HEADER: &str =
+    "group\tdock\tmetre\t13\t1\t1\t1\nramp\t100\t0\t200\t1000000\ngrid\tbasin\t0\t0\t10\t10\t3\t2\t1\t0\n";
+pub const NODES: [i32; 6] = [0, 10, 20, 100, 110, 120];
+
+/// A fresh folder with a header, its nodes and a file of floats.
+pub struct Folder {
+    path: PathBuf,
+}
+
+/// What a run answered.
+#[derive(Debug, PartialEq, Eq)]
+pub struct Answer {
+    pub status: i32,
+    pub out: String,
+    pub err: String,
+}
+
+/// The program under test.
+pub fn program() -> PathBuf {
+    match std::env::var_os("BULHYEMIK") {
+        Some(path) => fs::canonicalize(path).expect("BULHYEMIK names a program"),
+        None => {
+            let test = std::env::current_exe().expect("this test has a path");
+            test.parent().and_then(Path::parent).expect("it stands in deps/").join("examples/bulhyemik_reference")
+        }
+    }
+}
+
+impl Folder {
+    pub fn new(name: &str) -> Folder {
+        let path = Path::new(env!("CARGO_TARGET_TMPDIR")).join(name);
+        let _ = fs::remove_dir_all(&path);
+        fs::create_dir_all(&path).expect("the folder can be made");
+        let folder = Folder { path };
+        folder.put("dock.txt", HEADER.as_bytes());
+        folder.put("dock.nodes", &words(&NODES.map(i32::to_le_bytes)));
+        folder.put("dock.floats", &words(&[0.5f32, 1.5, f32::NAN, -9999.0].map(f32::to_le_bytes)));
+        folder
+    }
+
+    pub fn put(&self, name: &str, bytes: &[u8]) {
+        fs::write(self.path.join(name), bytes).expect("the file can be written");
+    }
+
+    pub fn make_folder(&self, name: &str) {
+        fs::create_dir(self.path.join(name)).expect("the folder can be made");
+    }
+
+    pub fn get(&self, name: &str) -> Vec<u8> {
+        fs::read(self.path.join(name)).expect("the file can be read")
+    }
+
+    /// Every file of the folder with its bytes.
+    pub fn files(&self) -> BTreeMap<PathBuf, Vec<u8>> {
+        let entries = fs::read_dir(&self.path).expect("the folder can be read");
+        let paths = entries.map(|entry| entry.expect("an entry").path());
+        paths.filter(|path| path.is_file()).map(|path| (path.clone(), fs::read(path).expect("its bytes"))).collect()
+    }
+
+    /// Runs the program with these arguments and this standard input.
+    pub fn run_with<S: AsRef<OsStr>>(&self, arguments: &[S], input: &[u8]) -> Answer {
+        let mut command = Command::new(program());
+        command.args(arguments);
+        self.finish(command, input)
+    }
+
+    /// Runs the program with arguments parted by spaces and no standard input.
+    pub fn run(&self, arguments: &str) -> Answer {
+        let arguments: Vec<&str> = arguments.split(' ').filter(|word| !word.is_empty()).collect();
+        self.run_with(&arguments, b"")
+    }
+
+    /// Runs a shell line in which `$PROGRAM` is the program.
+    pub fn shell(&self, line: &str) -> Answer {
+        let mut command = Command::new("sh");
+        command.args(["-c", line]).env("PROGRAM", program());
+        self.finish(command, b"")
+    }
+
+    fn finish(&self, mut command: Command, input: &[u8]) -> Answer {
+        command.current_dir(&self.path).stdin(Stdio::piped()).stdout(Stdio::piped()).stderr(Stdio::piped());
+        let mut child = command.spawn().expect("the program starts");
+        let _ = child.stdin.take().expect("it has a standard input").write_all(input);
+        let Output { status, stdout, stderr } = child.wait_with_output().expect("the program ends");
+        Answer {
+            status: status.code().expect("it ends by itself"),
+            out: String::from_utf8(stdout).expect("it prints text"),
+            err: String::from_utf8(stderr).expect("it prints text"),
+        }
+    }
+}
+
+/// The bytes of 32-bit words.
+pub fn words(all: &[[u8; 4]]) -> Vec<u8> {
+    all.concat()
+}
+
+pub fn accepted(out: &str) -> Answer {
+    Answer { status: 0, out: out.into(), err: String::new() }
+}
+
+pub fn refused(number: u64, place: u64, words: &str) -> Answer {
+    Answer { status: 1, out: format!("refused\t{number}\t{place}\n"), err: format!("bulhyemik: refused: {words}\n") }
+}
+
+pub fn stopped(message: &str) -> Answer {
+    Answer { status: 2, out: String::new(), err: format!("bulhyemik: {message}\n") }
+}

@@ -1,0 +1,112 @@
+//! One case: the inputs of a call and the answer that is expected of it.
+
+use crate::file::Definitions;
+use crate::parts::{bits32, bits64, bytes, list, number};
+use crate::record::{functions, record};
+use interface::{Ramp, Record};
+
+/// What a case hands to its call. Groups and node lists stand under their ids in the file.
+#[derive(Clone, Debug)]
+pub enum Input {
+    ReadHeader { text: Vec<u8> },
+    JudgeRecord { group: String },
+    WriteHeader { group: String, out_len: usize },
+    Field { line: Vec<u8>, number: u64 },
+    Lookup { group: String, nodes: String, lon: i64, lat: i64, day: i64 },
+    InForce { group: String, west: i64, east: i64, south: i64, north: i64 },
+    Load { quantum: u64, flag: f32, out_len: usize, floats: Vec<f32> },
+    Screen { lon: i64, lat: i64, quantum: u64, parameters: u64, number: u64, found: [i64; 5] },
+    DayFactor { ramps: Vec<Ramp>, day: i64 },
+}
+
+/// What the call must answer.
+#[derive(Clone, Debug)]
+pub enum Expected {
+    Refused { number: u64, place: i64 },
+    Record(Box<Record>),
+    Judged,
+    Written { count: i64, bytes: Vec<u8> },
+    Part { from: i64, to: i64 },
+    Fix([i64; 4]),
+    InForce { count: i64, entries: Vec<[i64; 3]> },
+    Nodes(Vec<i32>),
+    Screen([u64; 5]),
+    Factor(i64),
+}
+
+/// A case and the line of its file.
+#[derive(Clone, Debug)]
+pub struct Case {
+    pub line: usize,
+    pub input: Input,
+    pub expected: Expected,
+}
+
+/// The inputs of a case of the named call.
+pub fn input(call: &str, words: &[&str], defined: &Definitions) -> Result<Input, String> {
+    let group = |id: &str| defined.group(id).map(|_| id.to_string());
+    Ok(match (call, words) {
+        ("read_header", &[text]) => Input::ReadHeader { text: bytes(text)? },
+        ("judge_record", &[id]) => Input::JudgeRecord { group: group(id)? },
+        ("write_header", &[id, len]) => Input::WriteHeader { group: group(id)?, out_len: number(len)? },
+        ("field", &[line, k]) => Input::Field { line: bytes(line)?, number: number(k)? },
+        ("lookup", &[id, nodes, lon, lat, day]) => Input::Lookup {
+            group: group(id)?,
+            nodes: defined.nodes(nodes).map(|_| nodes.to_string())?,
+            lon: number(lon)?,
+            lat: number(lat)?,
+            day: number(day)?,
+        },
+        ("in_force", &[id, west, east, south, north]) => Input::InForce {
+            group: group(id)?,
+            west: number(west)?,
+            east: number(east)?,
+            south: number(south)?,
+            north: number(north)?,
+        },
+        ("load", &[q, flag, len, ref floats @ ..]) => Input::Load {
+            quantum: number(q)?,
+            flag: f32::from_bits(bits32(flag)?),
+            out_len: number(len)?,
+            floats: list(&floats.join(" "), |word| bits32(word).map(f32::from_bits))?,
+        },
+        ("screen", &[lon, lat, q, np, number_, place, grid, r1, r2, r3]) => Input::Screen {
+            lon: number(lon)?,
+            lat: number(lat)?,
+            quantum: number(q)?,
+            parameters: number(np)?,
+            number: number(number_)?,
+            found: [number(place)?, number(grid)?, number(r1)?, number(r2)?, number(r3)?],
+        },
+        ("day_factor", &[ramps, day]) => Input::DayFactor { ramps: functions(ramps)?, day: number(day)? },
+        _ => return Err(format!("no inputs of a {call} case")),
+    })
+}
+
+/// The answer of a case of the named call.
+pub fn expected(call: &str, words: &[&str]) -> Result<Expected, String> {
+    Ok(match (call, words) {
+        (_, &["refuse", refusal, place]) => Expected::Refused { number: number(refusal)?, place: number(place)? },
+        ("read_header", &["ok", text]) => Expected::Record(Box::new(record(text)?)),
+        ("judge_record", &["ok"]) => Expected::Judged,
+        ("write_header", &["ok", count, text]) => Expected::Written { count: number(count)?, bytes: bytes(text)? },
+        ("field", &["ok", from, to]) => Expected::Part { from: number(from)?, to: number(to)? },
+        ("lookup", &["ok", grid, r1, r2, r3]) => Expected::Fix([number(grid)?, number(r1)?, number(r2)?, number(r3)?]),
+        ("in_force", &["ok", count, ref entries @ ..]) => {
+            Expected::InForce { count: number(count)?, entries: list(&entries.join(" "), entry)? }
+        }
+        ("load", &["ok", ref nodes @ ..]) => Expected::Nodes(list(&nodes.join(" "), number)?),
+        ("screen", &["ok", floats]) => {
+            let bits = list(floats, bits64)?;
+            Expected::Screen(bits.try_into().map_err(|_| format!("'{floats}' are not five floats"))?)
+        }
+        ("day_factor", &["ok", factor]) => Expected::Factor(number(factor)?),
+        _ => return Err(format!("no answer of a {call} case")),
+    })
+}
+
+/// `grid:lon:lat`
+fn entry(word: &str) -> Result<[i64; 3], String> {
+    let numbers: Vec<i64> = word.split(':').map(number).collect::<Result<_, _>>()?;
+    numbers.try_into().map_err(|_| format!("'{word}' is no grid:lon:lat"))
+}

@@ -1,0 +1,44 @@
+//! Random floats to load: any bits, ties, values near the limit, and what becomes the mark.
+
+use crate::random::Random;
+
+/// A float that loads, if only just, at this quantum.
+fn loads(random: &mut Random, quantum: u64) -> f32 {
+    let step = 0.5f32.powi(quantum.min(20) as i32);
+    match random.below(5) {
+        0 => (random.between(-3_999_999, 3_999_999) as f32) * step,
+        1 => (random.between(-2_000, 2_000) as f32 + 0.5) * step,
+        2 => f32::from_bits((random.bits() as u32 & 0x8000_007f) | random.pick(&[0, 0x3380_0000, 0x3f00_0000])) * step,
+        3 => random.pick(&[4_000_000.0, -4_000_000.0, 0.0, -0.0, 3_999_999.5]) * step,
+        _ => (random.between(-9, 9) as f32 * 0.25) * step,
+    }
+}
+
+/// A float of any kind.
+fn any(random: &mut Random, quantum: u64) -> f32 {
+    let step = 0.5f32.powi(quantum.min(20) as i32);
+    match random.below(6) {
+        0 => f32::from_bits(random.bits() as u32),
+        1 => f32::from_bits(random.pick(&[0x7f80_0000, 0xff80_0000, 0x7fc0_0000, 0x7f80_0001, 0xffff_ffff])),
+        2 => random.pick(&[4_000_000.5, 4_000_001.0, -4_000_000.5, -4_000_001.0, 16_000_000.0]) * step,
+        _ => loads(random, quantum),
+    }
+}
+
+/// Floats, most lists of which load as a whole, and a flag.
+pub fn floats(random: &mut Random, quantum: u64) -> (Vec<f32>, f32) {
+    let len = random.pick(&[0, 1, 1, 2, 3, 8, 40]);
+    let wild = random.percent(40);
+    let mut list: Vec<f32> =
+        (0..len).map(|_| if wild { any(random, quantum) } else { loads(random, quantum) }).collect();
+    let flag = match random.below(5) {
+        0 => f32::NAN,
+        1 => random.pick(&[0.0, -0.0, f32::INFINITY, f32::NEG_INFINITY]),
+        2 => any(random, quantum),
+        _ => -9999.0,
+    };
+    if let (true, Some(last)) = (random.percent(50), list.last_mut()) {
+        *last = random.pick(&[flag, -flag, f32::NAN]);
+    }
+    (list, flag)
+}

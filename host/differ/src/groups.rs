@@ -1,0 +1,230 @@
+//! Random groups: sound ones, and ones damaged so that each of the refusals 2 to 5 comes up.
+
+use crate::random::Random;
+use interface::{Grid, Name, Ramp, Record};
+
+const LONGITUDE: i64 = 1_296_000_000;
+const LATITUDE: i64 = 324_000_000;
+const NODE_LIST: i64 = 16_777_216;
+
+/// A corner or the middle of the world, and how large spacings and counts are there.
+#[derive(Clone, Copy)]
+struct World {
+    lon: i64,
+    lat: i64,
+    spacing: i64,
+    count: i64,
+}
+
+fn world(random: &mut Random) -> World {
+    let small = World { lon: 0, lat: 0, spacing: 6, count: 6 };
+    match random.below(10) {
+        0 => World { lon: -LONGITUDE, ..small },
+        1 => World { lon: LONGITUDE, lat: LATITUDE, ..small },
+        2 => World { lat: -LATITUDE, ..small },
+        3 => World { spacing: 1_000_000, count: 12, ..small },
+        4 => World { count: 60, spacing: 50_000, ..small },
+        _ => small,
+    }
+}
+
+/// From least to greatest on one axis.
+fn reach(from: i64, spacing: i64, count: i64) -> (i64, i64) {
+    let far = from.saturating_add((count - 1).saturating_mul(spacing));
+    (from.min(far), from.max(far))
+}
+
+fn share(a: (i64, i64), b: (i64, i64)) -> bool {
+    a.0.max(b.0) <= a.1.min(b.1)
+}
+
+/// Whether two grids share a coordinate.
+fn overlap(a: &Grid, b: &Grid) -> bool {
+    share(reach(a.lon, a.dlon, a.ni), reach(b.lon, b.dlon, b.ni))
+        && share(reach(a.lat, a.dlat, a.nj), reach(b.lat, b.dlat, b.nj))
+}
+
+/// An axis inside ±limit: its first node, spacing and count.
+fn axis(random: &mut Random, centre: i64, limit: i64, world: World) -> (i64, i64, i64) {
+    loop {
+        let size = if random.percent(70) { random.between(1, 6) } else { random.between(1, world.spacing) };
+        let spacing = if random.percent(50) { size } else { -size };
+        let count = random.between(2, world.count);
+        let from = centre + random.between(-3, 3) * random.between(0, world.spacing.min(200_000) + 4);
+        let (least, greatest) = reach(from, spacing, count);
+        if -limit <= least && greatest <= limit {
+            return (from, spacing, count);
+        }
+    }
+}
+
+/// A name that no other number gives: some differ in their last byte alone.
+fn name(random: &mut Random, number: usize) -> Name {
+    const BYTES: &[u8] = b"ABCXYZabcxyz0189_-";
+    let shared = random.pick(&[0, 0, 1, 5, 21]);
+    let mut text = if random.percent(50) {
+        vec![b'n'; shared]
+    } else {
+        (0..shared).map(|_| random.pick(BYTES)).collect::<Vec<u8>>()
+    };
+    text.extend(format!("-{number:02}").bytes());
+    Name::new(&text)
+}
+
+fn grid(random: &mut Random, world: World, k: usize, parameters: i64) -> Grid {
+    let (lon, dlon, ni) = axis(random, world.lon, LONGITUDE, world);
+    let (lat, dlat, nj) = axis(random, world.lat, LATITUDE, world);
+    let last = NODE_LIST - ni * nj * parameters;
+    let start = match random.below(400) {
+        0 => last,
+        1 => random.between(0, last),
+        _ => random.between(0, 60),
+    };
+    Grid { name: name(random, k), lon, lat, dlon, dlat, ni, nj, rank: random.between(1, 5), start }
+}
+
+fn ramp(random: &mut Random) -> Ramp {
+    let day = |random: &mut Random| match random.below(4) {
+        0 => random.between(-1_000_000, 1_000_000),
+        1 => random.pick(&[-1_000_000, 1_000_000]),
+        _ => random.between(-20, 20),
+    };
+    let factor = |random: &mut Random| match random.below(4) {
+        0 => random.between(-10_000_000, 10_000_000),
+        1 => random.pick(&[-10_000_000, 10_000_000]),
+        2 => random.pick(&[0, 1_000_000, 500_000]),
+        _ => random.between(-3, 3),
+    };
+    let (a, b) = (day(random), day(random));
+    Ramp { a: a.min(b), s0: factor(random), b: a.max(b), s1: factor(random) }
+}
+
+/// A group that is accepted.
+pub fn sound(random: &mut Random) -> Record {
+    let world = world(random);
+    let grids = random.pick(&[1, 1, 2, 2, 3, 3, 4, 5, 6, 8, 16, 64]);
+    let ramps = random.pick(&[0, 0, 1, 2, 3, 8]);
+    let parameters = random.between(1, 3);
+    let mut record = Record {
+        name: name(random, 0),
+        unit: random.between(0, 1),
+        quantum: random.between(0, 20),
+        parameters,
+        ramps: ramps as i64,
+        grids: grids as i64,
+        ..Record::default()
+    };
+    for k in 0..ramps {
+        record.ramp[k] = ramp(random);
+    }
+    for k in 0..grids {
+        let mut next = grid(random, world, k, parameters);
+        while record.grid[..k].iter().any(|g| g.rank == next.rank && overlap(g, &next)) {
+            next.rank += 1;
+        }
+        record.grid[k] = next;
+    }
+    record
+}
+
+/// The counts of ramps and grids, at most their entries.
+fn counts(record: &Record) -> (usize, usize) {
+    (record.ramps.clamp(0, 8) as usize, record.grids.clamp(1, 64) as usize)
+}
+
+/// Breaks a name: its length, one of its bytes, or a byte behind it.
+fn break_name(random: &mut Random, name: &mut Name) {
+    match random.below(3) {
+        0 => name.len = random.pick(&[0, -1, 23, 24, 25, i64::MIN, i64::MAX, name.len - 1, name.len + 1]),
+        1 => name.bytes[random.below(24)] = random.pick(&[0, b' ', b'.', b'\t', b'\n', b'@', b'[', b'`', b'{', 0xff]),
+        _ => name.bytes[23] = random.pick(b"a\0\xff"),
+    }
+}
+
+/// Sets one number of a grid to an odd one.
+fn break_grid(random: &mut Random, grid: &mut Grid) {
+    let odd = random.odd();
+    match random.below(9) {
+        0 => grid.lon = odd,
+        1 => grid.lat = odd,
+        2 => grid.dlon = odd,
+        3 => grid.dlat = odd,
+        4 => grid.ni = odd,
+        5 => grid.nj = odd,
+        6 => grid.rank = odd,
+        7 => grid.start = odd,
+        _ => grid.name.len = odd,
+    }
+}
+
+fn break_ramp(random: &mut Random, ramp: &mut Ramp) {
+    let odd = random.odd();
+    match random.below(5) {
+        0 => ramp.a = odd,
+        1 => ramp.s0 = odd,
+        2 => ramp.b = odd,
+        3 => ramp.s1 = odd,
+        _ => (ramp.a, ramp.b) = (ramp.b, ramp.a),
+    }
+}
+
+fn break_head(random: &mut Random, record: &mut Record) {
+    let odd = random.odd();
+    match random.below(5) {
+        0 => record.unit = odd,
+        1 => record.quantum = odd,
+        2 => record.parameters = odd,
+        3 => record.ramps = odd,
+        _ => record.grids = odd,
+    }
+}
+
+/// Moves a grid so that it reaches, or just does not reach, beyond the limits of coordinates or nodes.
+fn push_out(random: &mut Random, grid: &mut Grid, parameters: i64) {
+    let beyond = random.between(0, 2);
+    let across = |spacing: i64, count: i64| (count.clamp(2, 16_384) - 1) * spacing.clamp(-1_000_000, 1_000_000);
+    match random.below(3) {
+        0 => {
+            let width = across(grid.dlon, grid.ni);
+            grid.lon = (LONGITUDE + beyond - width.abs()) * width.signum();
+        }
+        1 => {
+            let height = across(grid.dlat, grid.nj);
+            grid.lat = (LATITUDE + beyond - height.abs()) * height.signum();
+        }
+        _ => grid.start = NODE_LIST - grid.ni.clamp(2, 300) * grid.nj.clamp(2, 300) * parameters.clamp(1, 3) + beyond,
+    }
+}
+
+/// Gives grid k the rank of grid j and moves it over the east edge of j, onto it or just past it.
+fn clash(random: &mut Random, record: &mut Record, j: usize, k: usize) {
+    let Grid { lon, dlon, ni, lat, rank, .. } = record.grid[j];
+    let (_, east) = reach(lon, dlon, ni);
+    let grid = &mut record.grid[k];
+    grid.rank = rank;
+    grid.lat = lat;
+    grid.lon = east.saturating_add(random.between(-1, 1));
+    grid.dlon = grid.dlon.saturating_abs();
+}
+
+/// Damages a group in one place; now and then the damage is none.
+pub fn damage(random: &mut Random, record: &mut Record) {
+    let (ramps, grids) = counts(record);
+    let (k, later) = (random.below(grids), random.below(grids));
+    match random.below(20) {
+        0 | 1 => break_head(random, record),
+        2 => break_name(random, &mut record.name),
+        3 if ramps > 0 => break_ramp(random, &mut record.ramp[k % ramps]),
+        4 if ramps < 8 => break_ramp(random, &mut record.ramp[ramps + k % (8 - ramps)]),
+        5 if grids < 64 => {
+            let unused = &mut record.grid[grids + later % (64 - grids)];
+            if random.percent(50) { break_grid(random, unused) } else { break_name(random, &mut unused.name) }
+        }
+        6 => record.grids += random.between(-1, 1),
+        7 | 8 => break_grid(random, &mut record.grid[k]),
+        9 => break_name(random, &mut record.grid[k].name),
+        10..=12 => record.grid[later].name = record.grid[k].name,
+        13..=15 => push_out(random, &mut record.grid[k], record.parameters),
+        _ => clash(random, record, k.min(later), k.max(later)),
+    }
+}

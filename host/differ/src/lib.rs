@@ -1,0 +1,18 @@
+//! Differential tests: random and damaged inputs to every call of two back ends, answers and all lent memory compared.
+
+mod calls;
+mod command;
+mod floats;
+mod groups;
+mod outcome;
+mod places;
+mod random;
+mod run;
+mod texts;
+
+pub use calls::{CALLS, Call};
+pub use command::main;
+pub use groups::{damage, sound};
+pub use places::area;
+pub use random::Random;
+pub use run::{Report, run};

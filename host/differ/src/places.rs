@@ -1,0 +1,103 @@
+//! Random positions, areas and node lists for a group.
+
+use crate::random::Random;
+use interface::{Grid, Record};
+
+/// A counted grid of the record.
+fn some_grid(random: &mut Random, record: &Record) -> Grid {
+    record.grid[random.below(record.grids.clamp(1, 64) as usize)]
+}
+
+/// A coordinate on, between, at the end of or just beside the nodes of an axis.
+fn along(random: &mut Random, from: i64, spacing: i64, count: i64) -> i64 {
+    let (spacing, count) = (spacing.clamp(-1_000_000, 1_000_000), count.clamp(2, 16_384));
+    let node = match random.below(4) {
+        0 => count - 1,
+        1 => 0,
+        _ => random.between(0, count - 1),
+    };
+    let beside = match random.below(5) {
+        0 => 0,
+        1 => random.between(-1, 1),
+        2 => spacing / 2,
+        _ => random.between(0, spacing.abs()) * spacing.signum(),
+    };
+    from.saturating_add(node * spacing).saturating_add(if node == count - 1 { -beside } else { beside })
+}
+
+/// Longitude, latitude and day of a lookup.
+pub fn position(random: &mut Random, record: &Record) -> [i64; 3] {
+    let grid = some_grid(random, record);
+    let mut lon = along(random, grid.lon, grid.dlon, grid.ni);
+    let mut lat = along(random, grid.lat, grid.dlat, grid.nj);
+    match random.below(40) {
+        0 => lon = random.odd(),
+        1 => lat = random.odd(),
+        2 => lon = random.pick(&[-1_296_000_001, -1_296_000_000, 1_296_000_000, 1_296_000_001]),
+        3 => lat = random.pick(&[-324_000_001, -324_000_000, 324_000_000, 324_000_001]),
+        _ => {}
+    }
+    [lon, lat, day(random, record)]
+}
+
+fn day(random: &mut Random, record: &Record) -> i64 {
+    let ramp = record.ramp[random.below(8)];
+    match random.below(24) {
+        0 => random.odd(),
+        1 => random.pick(&[-1_000_001, -1_000_000, 1_000_000, 1_000_001]),
+        2..=5 => ramp.a.saturating_add(random.between(-1, 1)),
+        6..=9 => ramp.b.saturating_add(random.between(-1, 1)),
+        10..=17 if ramp.a < ramp.b => random.between(ramp.a, ramp.b),
+        _ => random.between(-25, 25),
+    }
+}
+
+/// West, east, south and north of an area.
+pub fn area(random: &mut Random, record: &Record) -> [i64; 4] {
+    if random.percent(5) {
+        return [-648_000_000, 648_000_000, -324_000_000, 324_000_000];
+    }
+    let (one, other) = (some_grid(random, record), some_grid(random, record));
+    let (x1, x2) = (along(random, one.lon, one.dlon, one.ni), along(random, other.lon, other.dlon, other.ni));
+    let (y1, y2) = (along(random, one.lat, one.dlat, one.nj), along(random, other.lat, other.dlat, other.nj));
+    let mut sides = [x1.min(x2), x1.max(x2), y1.min(y2), y1.max(y2)];
+    match random.below(12) {
+        0 => sides.swap(0, 1),
+        1 => sides.swap(2, 3),
+        2 => sides[random.below(4)] = random.odd(),
+        _ => {}
+    }
+    sides
+}
+
+/// A node list, mostly just long enough for the group.
+pub fn nodes(random: &mut Random, record: &Record) -> Vec<i32> {
+    const MOST: i64 = 12_000;
+    let grids = &record.grid[..record.grids.clamp(1, 64) as usize];
+    let size = |n: i64| n.clamp(0, MOST);
+    let end = |g: &Grid| size(g.start) + size(size(g.ni) * size(g.nj)) * record.parameters.clamp(1, 3);
+    let longest = grids.iter().map(end).max().unwrap_or(0).min(MOST);
+    let len = match random.below(16) {
+        0 => longest - 1,
+        1 => longest / 2,
+        2 => longest + random.between(1, 9),
+        _ => longest,
+    };
+    let kind = random.below(6);
+    (0..len.max(0)).map(|_| node(random, kind)).collect()
+}
+
+/// A node value of a list of some kind: small ones, any, the greatest, and lists with a few marks or values beyond.
+fn node(random: &mut Random, kind: usize) -> i32 {
+    let value = match kind {
+        0 | 1 => random.between(-3, 3),
+        2 => random.pick(&[-4_000_000, 4_000_000, 3_999_999, 0]),
+        _ => random.between(-4_000_000, 4_000_000),
+    };
+    match random.below(48) {
+        0..5 if kind == 3 => i32::MIN,
+        0 if kind >= 3 => i32::MIN,
+        0..5 if kind == 4 => random.pick(&[-4_000_001, 4_000_001, i32::MAX, i32::MIN + 1]),
+        _ => value as i32,
+    }
+}

@@ -1,0 +1,31 @@
+//! Many inputs to one call of two back ends.
+
+use crate::calls::Call;
+use crate::random::Random;
+use interface::Calls;
+
+/// How the inputs of a call fared.
+pub struct Report {
+    pub inputs: usize,
+    /// How often each number was returned, by the number; greater ones are not counted.
+    pub returned: [usize; 14],
+    /// Inputs on which the back ends differ, by their index, and where.
+    pub differences: Vec<(usize, String)>,
+}
+
+/// Gives `inputs` inputs of a call to both back ends; `done` is told how many have run.
+pub fn run(call: &Call, inputs: usize, first: &dyn Calls, second: &dyn Calls, mut done: impl FnMut(usize)) -> Report {
+    let mut report = Report { inputs, returned: [0; 14], differences: Vec::new() };
+    for index in 0..inputs {
+        let input = (call.input)(&mut Random::new(call.name, index));
+        let (one, two) = (input(first), input(second));
+        if let Some(count) = report.returned.get_mut(two.number as usize) {
+            *count += 1;
+        }
+        if let Some(why) = one.difference(&two) {
+            report.differences.push((index, why));
+        }
+        done(index + 1);
+    }
+    report
+}

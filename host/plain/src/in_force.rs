@@ -1,0 +1,69 @@
+//! Grids in force: for each grid the first of its coordinates in the area that no better grid holds.
+
+use crate::group::{Group, Sides};
+use crate::judge::{LATITUDE, LONGITUDE, Refusal, judge, within};
+
+/// A grid's number, longitude and latitude.
+type Entry = [i64; 3];
+
+/// The part of a rectangle in an area, if there is one.
+fn part(sides: &Sides, area: &Sides) -> Option<Sides> {
+    sides.meets(area).then(|| Sides {
+        west: sides.west.max(area.west),
+        east: sides.east.min(area.east),
+        south: sides.south.max(area.south),
+        north: sides.north.min(area.north),
+    })
+}
+
+/// The southmost, then westmost coordinate of a rectangle that no blocker holds; the blockers rise by west side.
+fn first_free(rectangle: &Sides, blockers: &[Sides]) -> Option<(i64, i64)> {
+    let mut rows: Vec<i64> = blockers.iter().map(|b| b.north + 1).collect();
+    rows.push(rectangle.south);
+    rows.sort_unstable();
+    let rows = rows.into_iter().filter(|&y| rectangle.south <= y && y <= rectangle.north);
+    rows.map(|lat| (first_free_in_row(rectangle.west, lat, blockers), lat)).find(|&(lon, _)| lon <= rectangle.east)
+}
+
+/// The westmost longitude of a row, from `lon` on, that no blocker holds.
+fn first_free_in_row(mut lon: i64, lat: i64, blockers: &[Sides]) -> i64 {
+    for b in blockers {
+        if b.west > lon {
+            break;
+        }
+        if b.south <= lat && lat <= b.north && b.east >= lon {
+            lon = b.east + 1;
+        }
+    }
+    lon
+}
+
+/// The grids in force in an area.
+pub fn in_force(group: &Group, area: Sides) -> Result<Vec<Entry>, Refusal> {
+    let sides = judge(group)?;
+    let admitted = within(area.west, LONGITUDE)
+        && within(area.east, LONGITUDE)
+        && within(area.south, LATITUDE)
+        && within(area.north, LATITUDE);
+    if !admitted || area.west > area.east || area.south > area.north {
+        return Err((10, 0));
+    }
+    let mut order: Vec<(i64, usize)> = (0..group.grids()).map(|k| (group.grid(k).rank, k)).collect();
+    order.sort_unstable();
+    let mut better: Vec<Sides> = Vec::new();
+    let mut list = Vec::new();
+    for same_rank in order.chunk_by(|a, b| a.0 == b.0) {
+        let mut seen = Vec::new();
+        for &(_, k) in same_rank {
+            if let Some(rectangle) = part(&sides[k], &area) {
+                if let Some((lon, lat)) = first_free(&rectangle, &better) {
+                    list.push([k as i64 + 1, lon, lat]);
+                }
+                seen.push(rectangle);
+            }
+        }
+        better.extend(seen);
+        better.sort_unstable_by_key(|b| b.west);
+    }
+    Ok(list)
+}

@@ -1,0 +1,33 @@
+//! Loading floats as nodes.
+
+use crate::judge::Refusal;
+
+const MARK: i32 = i32::MIN;
+const LIMIT: f64 = 4_000_000.0;
+
+/// The node of a float, or none if it is beyond the limit. The product is exact in 64 bits.
+fn node(x: f32, flag: f32, steps: f64) -> Option<i32> {
+    if x.is_nan() || x.to_bits() == flag.to_bits() {
+        return Some(MARK);
+    }
+    let rounded = (f64::from(x) * steps).round_ties_even();
+    (rounded.abs() <= LIMIT).then_some(rounded as i32)
+}
+
+/// Loads floats: all are looked at before the first node is written.
+pub fn load(floats: &[f32], flag: f32, quantum: u64, nodes: &mut [i32]) -> Result<(), Refusal> {
+    if quantum > 20 {
+        return Err((2, 0));
+    }
+    if floats.len() != nodes.len() {
+        return Err((12, 0));
+    }
+    let steps = (1u64 << quantum) as f64;
+    if let Some(k) = floats.iter().position(|&x| node(x, flag, steps).is_none()) {
+        return Err((11, k as i64 + 1));
+    }
+    for (into, &x) in nodes.iter_mut().zip(floats) {
+        *into = node(x, flag, steps).unwrap_or(MARK);
+    }
+    Ok(())
+}

@@ -1,0 +1,72 @@
+//! Grids in force in an area, by coordinate compression and, for small areas, by trying every coordinate.
+
+use crate::geometry::{chosen, extent, grids};
+use crate::judge::judge;
+use crate::limits;
+use crate::refusal::{Refusal, refuse};
+use interface::{Grid, Record};
+
+/// An area by its sides, in milliarcseconds, sides included.
+#[derive(Clone, Copy, Debug)]
+pub struct Area {
+    pub west: i64,
+    pub east: i64,
+    pub south: i64,
+    pub north: i64,
+}
+
+/// A grid in force: its number, from 1, and the southmost, then westmost coordinate at which it is chosen.
+#[derive(Clone, Copy, Debug, PartialEq, Eq)]
+pub struct InForce {
+    pub grid: u64,
+    pub lon: i64,
+    pub lat: i64,
+}
+
+/// The grids in force, by rank and then by number: refusals 2 to 5, then 10.
+pub fn grids_in_force(record: &Record, area: Area) -> Result<Vec<InForce>, Refusal> {
+    judge(record)?;
+    let [west, east, south, north] = [area.west, area.east, area.south, area.north].map(i128::from);
+    let sides =
+        limits::longitude(west) && limits::longitude(east) && limits::latitude(south) && limits::latitude(north);
+    if !sides || west > east || south > north {
+        return refuse(10, 0);
+    }
+    Ok(by_compression(grids(record), area))
+}
+
+/// Looks only at longitudes and latitudes where some grid or the area begins, or just past where a grid ends:
+/// between two neighbours of these the choice is the same all along.
+pub fn by_compression(grids: &[Grid], area: Area) -> Vec<InForce> {
+    let extents: Vec<_> = grids.iter().map(extent).collect();
+    let cuts = |from: i64, to: i64, edges: Vec<i128>| {
+        let mut all: Vec<i64> = edges.into_iter().map(|e| e as i64).filter(|&e| from < e && e <= to).collect();
+        all.push(from);
+        all.sort_unstable();
+        all.dedup();
+        all
+    };
+    let lons = cuts(area.west, area.east, extents.iter().flat_map(|e| [e.west, e.east + 1]).collect());
+    let lats = cuts(area.south, area.north, extents.iter().flat_map(|e| [e.south, e.north + 1]).collect());
+    listed(grids, lons.into_iter(), lats.into_iter())
+}
+
+/// Looks at every coordinate of the area.
+pub fn by_every_coordinate(grids: &[Grid], area: Area) -> Vec<InForce> {
+    listed(grids, area.west..=area.east, area.south..=area.north)
+}
+
+/// The grids chosen at some of these longitudes and latitudes, both rising, each with the first such coordinate.
+fn listed(grids: &[Grid], lons: impl Iterator<Item = i64> + Clone, lats: impl Iterator<Item = i64>) -> Vec<InForce> {
+    let mut first: Vec<Option<InForce>> = vec![None; grids.len()];
+    for lat in lats {
+        for lon in lons.clone() {
+            if let Some(k) = chosen(grids, i128::from(lon), i128::from(lat)) {
+                first[k].get_or_insert(InForce { grid: k as u64 + 1, lon, lat });
+            }
+        }
+    }
+    let mut list: Vec<InForce> = first.into_iter().flatten().collect();
+    list.sort_by_key(|entry| (grids[entry.grid as usize - 1].rank, entry.grid));
+    list
+}

@@ -1,0 +1,144 @@
+//! The header text, read line by line and written back.
+
+use crate::judge::{judge, sound};
+use crate::limits;
+use crate::refusal::{Refusal, refuse};
+use crate::text::decimal;
+use interface::{Grid, Name, Ramp, Record};
+
+/// Why a line is not taken.
+enum Fault {
+    Form,
+    Limit,
+}
+
+/// The lines of a text that are not read yet.
+struct Lines<'a> {
+    rest: &'a [u8],
+    number: usize,
+}
+
+impl<'a> Lines<'a> {
+    /// Reads the next line by `parse`, refusing 1 or 2 at its number; a line not closed by a line feed is 1.
+    fn read<T>(&mut self, parse: impl Fn(&[&'a [u8]]) -> Result<T, Fault>) -> Result<T, Refusal> {
+        self.number += 1;
+        let Some(end) = self.rest.iter().position(|&c| c == b'\n') else {
+            return refuse(1, self.number);
+        };
+        let fields: Vec<&[u8]> = self.rest[..end].split(|&c| c == b'\t').collect();
+        self.rest = &self.rest[end + 1..];
+        match parse(&fields) {
+            Ok(value) => Ok(value),
+            Err(Fault::Form) => refuse(1, self.number),
+            Err(Fault::Limit) => refuse(2, self.number),
+        }
+    }
+}
+
+/// The numbers that `N` fields write.
+fn numbers<const N: usize>(fields: &[&[u8]]) -> Result<[i128; N], Fault> {
+    let all: Option<Vec<i128>> = fields.iter().map(|f| decimal(f)).collect();
+    all.and_then(|v| v.try_into().ok()).ok_or(Fault::Form)
+}
+
+fn name(field: &[u8]) -> Result<Name, Fault> {
+    if limits::name_text(field) { Ok(Name::new(field)) } else { Err(Fault::Form) }
+}
+
+fn within<T>(admitted: bool, value: impl FnOnce() -> T) -> Result<T, Fault> {
+    if admitted { Ok(value()) } else { Err(Fault::Limit) }
+}
+
+/// `group` NAME UNIT Q NP ramps grids.
+fn group_line(fields: &[&[u8]]) -> Result<Record, Fault> {
+    let [b"group", text, unit, rest @ ..] = fields else { return Err(Fault::Form) };
+    let name = name(text)?;
+    let unit = match *unit {
+        b"arc-second" => 0,
+        b"metre" => 1,
+        _ => return Err(Fault::Form),
+    };
+    let [q, np, ramps, grids] = numbers(rest)?;
+    within(limits::head(q, np, ramps, grids), || Record {
+        name,
+        unit,
+        quantum: q as i64,
+        parameters: np as i64,
+        ramps: ramps as i64,
+        grids: grids as i64,
+        ..Record::default()
+    })
+}
+
+/// `ramp` A S0 B S1.
+fn ramp_line(fields: &[&[u8]]) -> Result<Ramp, Fault> {
+    let [b"ramp", rest @ ..] = fields else { return Err(Fault::Form) };
+    let all: [i128; 4] = numbers(rest)?;
+    within(limits::ramp(all), || {
+        let [a, s0, b, s1] = all.map(|n| n as i64);
+        Ramp { a, s0, b, s1 }
+    })
+}
+
+/// `grid` NAME LON LAT DLON DLAT NI NJ RANK START.
+fn grid_line(fields: &[&[u8]]) -> Result<Grid, Fault> {
+    let [b"grid", text, rest @ ..] = fields else { return Err(Fault::Form) };
+    let name = name(text)?;
+    let all: [i128; 8] = numbers(rest)?;
+    within(limits::grid(all), || {
+        let [lon, lat, dlon, dlat, ni, nj, rank, start] = all.map(|n| n as i64);
+        Grid { name, lon, lat, dlon, dlat, ni, nj, rank, start }
+    })
+}
+
+/// Reads a whole header: refusals 1 and 2 line by line, then 3, 4, 5.
+pub fn read_header(text: &[u8]) -> Result<Record, Refusal> {
+    let mut lines = Lines { rest: text, number: 0 };
+    let mut record = lines.read(group_line)?;
+    for k in 0..record.ramps as usize {
+        record.ramp[k] = lines.read(ramp_line)?;
+    }
+    for k in 0..record.grids as usize {
+        record.grid[k] = lines.read(grid_line)?;
+    }
+    if !lines.rest.is_empty() {
+        return refuse(1, lines.number + 1);
+    }
+    sound(&record)?;
+    Ok(record)
+}
+
+/// The header text of an accepted record.
+fn header_text(record: &Record) -> Vec<u8> {
+    let shown = |name: &Name| String::from_utf8_lossy(name.text()).into_owned();
+    let unit = if record.unit == 0 { "arc-second" } else { "metre" };
+    let mut text = format!(
+        "group\t{}\t{unit}\t{}\t{}\t{}\t{}\n",
+        shown(&record.name),
+        record.quantum,
+        record.parameters,
+        record.ramps,
+        record.grids
+    );
+    for r in &record.ramp[..record.ramps as usize] {
+        text += &format!("ramp\t{}\t{}\t{}\t{}\n", r.a, r.s0, r.b, r.s1);
+    }
+    for g in &record.grid[..record.grids as usize] {
+        let numbers = limits::grid_numbers(g).map(|n| n.to_string()).join("\t");
+        text += &format!("grid\t{}\t{numbers}\n", shown(&g.name));
+    }
+    text.into_bytes()
+}
+
+/// Writes the record's header into `out` and answers the count of bytes: refusals 2 to 5, then 12.
+pub fn write_header(record: &Record, out: &mut [u8]) -> Result<usize, Refusal> {
+    judge(record)?;
+    let text = header_text(record);
+    match out.get_mut(..text.len()) {
+        Some(part) => {
+            part.copy_from_slice(&text);
+            Ok(text.len())
+        }
+        None => refuse(12, 0),
+    }
+}

@@ -1,0 +1,25 @@
+//! The second, independent program: every call of document 01 written anew and plainly from the document.
+
+mod back_end;
+mod coverage;
+mod field;
+mod geometry;
+mod header;
+mod judge;
+mod limits;
+mod load;
+mod lookup;
+mod refusal;
+mod rounding;
+mod screen;
+mod text;
+
+pub use back_end::Reference;
+pub use coverage::{Area, InForce, by_compression, by_every_coordinate, grids_in_force};
+pub use field::field;
+pub use header::{read_header, write_header};
+pub use judge::judge;
+pub use load::load_nodes;
+pub use lookup::{Fix, Position, day_factor, lookup};
+pub use refusal::Refusal;
+pub use screen::{Found, Scale, Screen, screen_answer, screen_record};

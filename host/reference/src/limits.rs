@@ -1,0 +1,82 @@
+//! The admitted ranges of document 01's table 'Numbers', each as a test of one number.
+
+use interface::{Grid, Name, Ramp};
+
+pub const LONGITUDE: i128 = 1_296_000_000;
+pub const LATITUDE: i128 = 324_000_000;
+pub const DAY: i128 = 1_000_000;
+pub const NODE: i128 = 4_000_000;
+pub const MARK: i32 = -2_147_483_648;
+pub const NODE_LIST: i128 = 16_777_216;
+pub const QUANTUM: i128 = 20;
+
+const SPACING: i128 = 1_000_000;
+const FACTOR: i128 = 10_000_000;
+
+pub fn longitude(x: i128) -> bool {
+    (-LONGITUDE..=LONGITUDE).contains(&x)
+}
+
+pub fn latitude(y: i128) -> bool {
+    (-LATITUDE..=LATITUDE).contains(&y)
+}
+
+pub fn day(t: i128) -> bool {
+    (-DAY..=DAY).contains(&t)
+}
+
+/// Whether the four numbers of a group line stand in their limits: Q, NP, ramps, grids.
+pub fn head(quantum: i128, parameters: i128, ramps: i128, grids: i128) -> bool {
+    (0..=QUANTUM).contains(&quantum)
+        && (1..=3).contains(&parameters)
+        && (0..=8).contains(&ramps)
+        && (1..=64).contains(&grids)
+}
+
+/// Whether the four numbers of a ramp line stand in their limits, and A not above B.
+pub fn ramp([a, s0, b, s1]: [i128; 4]) -> bool {
+    let factor = |s: i128| (-FACTOR..=FACTOR).contains(&s);
+    day(a) && factor(s0) && day(b) && factor(s1) && a <= b
+}
+
+/// Whether the eight numbers of a grid line stand in their limits.
+pub fn grid([lon, lat, dlon, dlat, ni, nj, rank, start]: [i128; 8]) -> bool {
+    let spacing = |d: i128| (1..=SPACING).contains(&d.abs());
+    let count = |n: i128| (2..=16_384).contains(&n);
+    longitude(lon)
+        && latitude(lat)
+        && spacing(dlon)
+        && spacing(dlat)
+        && count(ni)
+        && count(nj)
+        && (1..=1_000).contains(&rank)
+        && (0..NODE_LIST).contains(&start)
+}
+
+/// Whether a byte may stand in a name.
+fn name_byte(c: u8) -> bool {
+    c.is_ascii_alphanumeric() || c == b'_' || c == b'-'
+}
+
+/// Whether these bytes are a name.
+pub fn name_text(text: &[u8]) -> bool {
+    (1..=24).contains(&text.len()) && text.iter().all(|&c| name_byte(c))
+}
+
+/// Whether a record's name is well formed: 1 to 24 bytes of a name and zeros behind them.
+pub fn name(n: &Name) -> bool {
+    (1..=24).contains(&n.len) && {
+        let (used, behind) = n.bytes.split_at(n.len as usize);
+        name_text(used) && behind.iter().all(|&c| c == 0)
+    }
+}
+
+/// The four numbers of a ramp, as its line has them.
+pub fn ramp_numbers(r: &Ramp) -> [i128; 4] {
+    [r.a, r.s0, r.b, r.s1].map(i128::from)
+}
+
+/// The eight numbers of a grid, as its line has them.
+pub fn grid_numbers(g: &Grid) -> [i128; 8] {
+    [g.lon, g.lat, g.dlon, g.dlat, g.ni, g.nj, g.rank, g.start].map(i128::from)
+}

@@ -1,0 +1,114 @@
+//! Lookup of a point on a day: choice of the grid, cell, bilinear value, day factor, results.
+
+use crate::geometry::{chosen, grids, range_end};
+use crate::judge::judge;
+use crate::limits;
+use crate::refusal::{Refusal, refuse};
+use crate::rounding::nearest_even;
+use interface::{Grid, Ramp, Record};
+
+/// A point in milliarcseconds and a day.
+#[derive(Clone, Copy, Debug)]
+pub struct Position {
+    pub lon: i64,
+    pub lat: i64,
+    pub day: i64,
+}
+
+/// An accepted lookup: the chosen grid's number, from 1, and the results in steps, 0 for a missing parameter.
+#[derive(Clone, Copy, Debug, PartialEq, Eq)]
+pub struct Fix {
+    pub grid: u64,
+    pub results: [i64; 3],
+}
+
+/// Where a point stands on one axis: the cell's index, the spacing's size, the distance from the cell's lower node.
+struct Along {
+    index: i128,
+    size: i128,
+    distance: i128,
+}
+
+fn along(from: i64, spacing: i64, count: i64, at: i64) -> Along {
+    let size = i128::from(spacing).abs();
+    let away = (i128::from(at) - i128::from(from)).abs();
+    let index = (away / size).min(i128::from(count) - 2);
+    Along { index, size, distance: away - index * size }
+}
+
+/// The four corners of a cell as node indices and weights, those of weight 0 left out.
+fn used_corners(x: &Along, y: &Along) -> Vec<(i128, i128, i128)> {
+    let mut corners = Vec::new();
+    for (dj, wy) in [(0, y.size - y.distance), (1, y.distance)] {
+        for (di, wx) in [(0, x.size - x.distance), (1, x.distance)] {
+            if wx * wy != 0 {
+                corners.push((x.index + di, y.index + dj, wx * wy));
+            }
+        }
+    }
+    corners
+}
+
+/// Place in the node list of parameter `p` of node (i, j).
+fn node_place(g: &Grid, parameters: i64, i: i128, j: i128, p: i64) -> usize {
+    (i128::from(g.start) + (j * i128::from(g.ni) + i) * i128::from(parameters) + i128::from(p)) as usize
+}
+
+/// A ramp's factor on a day, in millionths.
+fn ramp_factor(r: &Ramp, day: i64) -> i128 {
+    let [a, s0, b, s1] = limits::ramp_numbers(r);
+    let t = i128::from(day);
+    if t >= b {
+        s1
+    } else if t <= a {
+        s0
+    } else {
+        nearest_even(s0 * (b - t) + s1 * (t - a), b - a)
+    }
+}
+
+/// The sum of the ramps' factors on a day, in millionths; 1,000,000 without ramps.
+pub fn day_factor(ramps: &[Ramp], day: i64) -> i128 {
+    if ramps.is_empty() { 1_000_000 } else { ramps.iter().map(|r| ramp_factor(r, day)).sum() }
+}
+
+/// Looks a position up: refusals 2 to 5, then 6, 9, 13, 7, 8, 11.
+pub fn lookup(record: &Record, nodes: &[i32], at: Position) -> Result<Fix, Refusal> {
+    judge(record)?;
+    let (lon, lat) = (i128::from(at.lon), i128::from(at.lat));
+    if !limits::longitude(lon) || !limits::latitude(lat) {
+        return refuse(6, 0);
+    }
+    if !limits::day(i128::from(at.day)) {
+        return refuse(9, 0);
+    }
+    let grids = grids(record);
+    if let Some(k) = grids.iter().position(|g| range_end(g, record.parameters) > nodes.len() as i128) {
+        return refuse(13, k + 1);
+    }
+    let Some(choice) = chosen(grids, lon, lat) else {
+        return refuse(7, 0);
+    };
+    let g = &grids[choice];
+    let x = along(g.lon, g.dlon, g.ni, at.lon);
+    let y = along(g.lat, g.dlat, g.nj, at.lat);
+    let corners = used_corners(&x, &y);
+    let node = |i: i128, j: i128, p: i64| nodes[node_place(g, record.parameters, i, j, p)];
+    let any = |test: &dyn Fn(i32) -> bool| {
+        corners.iter().any(|&(i, j, _)| (0..record.parameters).any(|p| test(node(i, j, p))))
+    };
+    if any(&|v| v == limits::MARK) {
+        return refuse(8, 0);
+    }
+    if any(&|v| i128::from(v).abs() > limits::NODE) {
+        return refuse(11, 0);
+    }
+    let factor = day_factor(&record.ramp[..record.ramps as usize], at.day);
+    let mut results = [0; 3];
+    for p in 0..record.parameters {
+        let sum: i128 = corners.iter().map(|&(i, j, w)| w * i128::from(node(i, j, p))).sum();
+        let value = nearest_even(sum, x.size * y.size);
+        results[p as usize] = nearest_even(value * factor, 1_000_000) as i64;
+    }
+    Ok(Fix { grid: choice as u64 + 1, results })
+}

@@ -1,0 +1,36 @@
+//! Rounding of an exact fraction to the nearest whole number, a tie to the even one.
+
+use std::cmp::Ordering;
+
+/// The whole number nearest to `numerator / divisor`, for a divisor above 0.
+pub fn nearest_even(numerator: i128, divisor: i128) -> i128 {
+    let below = numerator.div_euclid(divisor);
+    let left = numerator.rem_euclid(divisor);
+    match (2 * left).cmp(&divisor) {
+        Ordering::Less => below,
+        Ordering::Greater => below + 1,
+        Ordering::Equal => below + below.rem_euclid(2),
+    }
+}
+
+#[cfg(test)]
+mod tests {
+    use super::nearest_even;
+
+    #[test]
+    fn ties_go_to_the_even_number() {
+        let halves: Vec<i128> = (-5..=5).map(|n| nearest_even(n, 2)).collect();
+        assert_eq!(halves, [-2, -2, -2, -1, 0, 0, 0, 1, 2, 2, 2]);
+    }
+
+    #[test]
+    fn no_other_whole_number_is_nearer() {
+        for divisor in 1..40 {
+            for numerator in -200..200 {
+                let r = nearest_even(numerator, divisor);
+                let off = (numerator - r * divisor).abs();
+                assert!(2 * off < divisor || 2 * off == divisor && r % 2 == 0);
+            }
+        }
+    }
+}

@@ -1,0 +1,88 @@
+//! The marked cases of document 01, M1 to M12 and the others it names.
+
+use interface::{Grid, Name, Ramp, Record};
+use reference::{Area, Fix, InForce, Position, Refusal, day_factor, grids_in_force, judge, load_nodes, lookup};
+
+const MARK: i32 = i32::MIN;
+const RAMP: Ramp = Ramp { a: 100, s0: 0, b: 200, s1: 1_000_000 };
+
+fn grid(name: &str, lon: i64, ni: i64, rank: i64) -> Grid {
+    Grid { name: Name::new(name.as_bytes()), lon, lat: 0, dlon: 10, dlat: 10, ni, nj: 2, rank, start: 0 }
+}
+
+fn group(grids: &[Grid]) -> Record {
+    let mut record = Record {
+        name: Name::new(b"dock"),
+        unit: 1,
+        quantum: 13,
+        parameters: 1,
+        grids: grids.len() as i64,
+        ..Record::default()
+    };
+    record.grid[..grids.len()].copy_from_slice(grids);
+    record
+}
+
+/// The result of a lookup in grid `basin`, or the number of its refusal.
+fn basin(nodes: [i32; 6], lon: i64, lat: i64) -> Result<i64, u64> {
+    let record = group(&[grid("basin", 0, 3, 1)]);
+    match lookup(&record, &nodes, Position { lon, lat, day: 0 }) {
+        Ok(Fix { grid: 1, results: [result, 0, 0] }) => Ok(result),
+        Ok(fix) => panic!("{fix:?}"),
+        Err(Refusal { number, place: 0 }) => Err(number),
+        Err(refusal) => panic!("{refusal:?}"),
+    }
+}
+
+/// The corners of the first cell; the third column is not used.
+fn corners(row: [i32; 2]) -> [i32; 6] {
+    [row[0], row[1], MARK, row[0], row[1], MARK]
+}
+
+fn in_force(grids: &[Grid], area: Area) -> Vec<(u64, i64, i64)> {
+    let list = grids_in_force(&group(grids), area).expect("an accepted group");
+    list.into_iter().map(|InForce { grid, lon, lat }| (grid, lon, lat)).collect()
+}
+
+#[test]
+fn m1_to_m9_are_lookups() {
+    let nodes = [0, 10, 20, 100, 110, 120];
+    assert_eq!(basin(nodes, 5, 5), Ok(55));
+    assert_eq!(basin(nodes, 20, 10), Ok(120));
+    assert_eq!(basin(nodes, 21, 10), Err(7));
+    assert_eq!(basin(corners([0, 1]), 5, 5), Ok(0));
+    assert_eq!(basin(corners([1, 2]), 5, 5), Ok(2));
+    assert_eq!(basin(corners([0, -1]), 5, 5), Ok(0));
+    assert_eq!(basin(corners([-1, -2]), 5, 5), Ok(-2));
+    let marked = [0, MARK, 20, 100, 110, 120];
+    assert_eq!(basin(marked, 0, 5), Ok(50));
+    assert_eq!(basin(marked, 1, 5), Err(8));
+    assert_eq!(basin(nodes, 0, 324_000_001), Err(6));
+}
+
+#[test]
+fn m10_is_the_day_factor() {
+    assert_eq!([99, 133, 200].map(|day| day_factor(&[RAMP], day)), [0, 330_000, 1_000_000]);
+    assert_eq!(day_factor(&[], 5), 1_000_000);
+    assert_eq!(day_factor(&[Ramp { b: 100, ..RAMP }], 100), 1_000_000);
+}
+
+#[test]
+fn m11_and_m12_are_grids_in_force() {
+    let area = Area { west: 0, east: 20, south: 0, north: 10 };
+    let world = Area { west: -648_000_000, east: 648_000_000, south: -324_000_000, north: 324_000_000 };
+    let m11 = [grid("G1", 0, 3, 3), grid("G2", 0, 2, 1), grid("G3", 10, 2, 2)];
+    assert_eq!(in_force(&m11, area), [(2, 0, 0), (3, 11, 0)]);
+    assert_eq!(in_force(&m11, world), [(2, 0, 0), (3, 11, 0)]);
+    let m12 = [m11[0], m11[1], grid("G3", 12, 2, 2)];
+    assert_eq!(in_force(&m12, area), [(2, 0, 0), (3, 12, 0), (1, 11, 0)]);
+    let touching = [m11[0], m11[1], grid("G3", 10, 2, 1)];
+    assert_eq!(judge(&group(&touching)), Err(Refusal { number: 5, place: 3 }));
+}
+
+#[test]
+fn halves_load_as_even_steps() {
+    let mut nodes = [7; 2];
+    assert_eq!(load_nodes(&[0.5, 1.5], f32::NAN, 0, &mut nodes), Ok(()));
+    assert_eq!(nodes, [0, 2]);
+}

@@ -1,0 +1,7 @@
+//! `replay` over the second program, for tests.
+
+use std::process::ExitCode;
+
+fn main() -> ExitCode {
+    replay::replay(&reference::Reference)
+}

@@ -1,0 +1,99 @@
+//! What `replay` says of cases that differ, of files that are no case files, and its exit statuses.
+
+use cases::CaseFile;
+use reference::Reference;
+use std::fs;
+use std::path::{Path, PathBuf};
+use std::process::{Command, Output};
+
+/// One case for each call whose expected answer is wrong, and where the answer differs from it.
+const WRONG: [(&str, &str, &str); 11] = [
+    ("read_header", "C\t-\t=>\trefuse\t1\t2\n", "answer[0] is 1 instead of 2"),
+    ("read_header", "C\t-\t=>\trefuse\t2\t1\n", "returned 1 instead of 2"),
+    ("judge_record", "G\tg\t- 0 0 0 0 0 0\nC\tg\t=>\tok\n", "returned 2 instead of 0"),
+    (
+        "write_header",
+        "G\tg\t61 1 0 0 1 0 1|G 0 62 1 0 0 1 1 2 2 1 0 0\nC\tg\t99\t=>\tok\t50\t6767\n",
+        "out[1] is 114 instead of 103",
+    ),
+    ("field", "C\t6109\t1\t=>\tok\t2\t3\n", "answer[2] is 2 instead of 3"),
+    (
+        "lookup",
+        "G\tg\t61 1 0 0 1 0 1|G 0 62 1 0 0 1 1 2 2 1 0 0\nN\tn\t4\tlist 7 8 9 10\nC\tg\tn\t0\t0\t0\t=>\tok\t1\t8\t0\t0\n",
+        "answer[2] is 7 instead of 8",
+    ),
+    (
+        "in_force",
+        "G\tg\t61 1 0 0 1 0 1|G 0 62 1 0 0 1 1 2 2 1 0 0\nC\tg\t0\t9\t0\t9\t=>\tok\t0\t\n",
+        "answer[1] is 1 instead of 0",
+    ),
+    ("load", "C\t0\t7fc00000\t1\t3f800000\t=>\tok\t2\n", "nodes[0] is 1 instead of 2"),
+    ("load", "C\t0\t7fc00000\t1\t7f800000\t=>\trefuse\t11\t2\n", "answer[0] is 1 instead of 2"),
+    (
+        "screen",
+        "C\t0\t0\t0\t1\t0\t0\t1\t1\t0\t0\t=>\tok\t0000000000000000 0000000000000000 3ff0000000000000 8000000000000000 \
+         0000000000000000\n",
+        "screen[3] is 0.0 instead of -0.0",
+    ),
+    ("day_factor", "C\t-\t0\t=>\tok\t1000001\n", "answer[2] is 1000000 instead of 1000001"),
+];
+
+#[test]
+fn wrong_expectations_are_found_out() {
+    for (call, text, why) in WRONG {
+        let file = CaseFile::parse(call, text).expect("a case file");
+        let differences = replay::run(&Reference, &file, |_| {});
+        let found: Vec<&str> = differences.iter().map(|difference| difference.why.as_str()).collect();
+        assert_eq!(found, [why], "{call}");
+    }
+}
+
+/// A file of this name and text, in a folder of its own.
+fn file(folder: &str, name: &str, text: &str) -> PathBuf {
+    let folder = Path::new(env!("CARGO_TARGET_TMPDIR")).join(folder);
+    fs::create_dir_all(&folder).expect("the folder can be made");
+    let path = folder.join(name);
+    fs::write(&path, text).expect("the file can be written");
+    path
+}
+
+/// The status, the standard output and the standard error of `replay` over the second program.
+fn replay(files: &[&Path]) -> (Option<i32>, String, String) {
+    let test = std::env::current_exe().expect("this test has a path");
+    let program = test.parent().and_then(Path::parent).expect("it stands in deps/").join("examples/replay_reference");
+    let Output { status, stdout, stderr } = Command::new(program).args(files).output().expect("the program runs");
+    (status.code(), String::from_utf8_lossy(&stdout).into(), String::from_utf8_lossy(&stderr).into())
+}
+
+#[test]
+fn the_status_says_whether_any_case_differs() {
+    let good = file("good", "field.tsv", "C\t-\t0\t=>\tok\t0\t0\n");
+    let wrong = file("wrong", "field.tsv", "C\t-\t0\t=>\tok\t0\t0\nC\t-\t0\t=>\tok\t0\t1\n");
+    let (status, out, err) = replay(&[&good]);
+    assert_eq!((status, out, err), (Some(0), format!("{}: 1 cases, 0 differ\n", good.display()), String::new()));
+    let (status, out, _) = replay(&[&wrong, &good]);
+    let lines: Vec<&str> = out.lines().collect();
+    assert_eq!(status, Some(1));
+    assert_eq!(lines[0], format!("{}: 2 cases, 1 differ", wrong.display()));
+    assert_eq!(lines[1], "  line 2: answer[2] is 0 instead of 1");
+    assert_eq!(lines.last().copied(), Some(format!("{}: 1 cases, 0 differ", good.display()).as_str()));
+}
+
+#[test]
+fn bad_files_have_status_2() {
+    let cases = [
+        ("field.tsv", "C\tzz\t0\t=>\tok\t0\t0\n", "line 1: 'zz' are no hex bytes"),
+        ("field.tsv", "C\t-\t0\t=>\tok\t0\n", "line 1: no answer of a field case"),
+        ("field.tsv", "X\n", "line 1: neither G, N nor C"),
+        ("judge_record.tsv", "C\tg7\t=>\tok\n", "line 1: no group 'g7' is defined before"),
+        ("plan.tsv", "C\t1\t=>\tok\n", "line 1: no inputs of a plan case"),
+    ];
+    for (k, (name, text, why)) in cases.into_iter().enumerate() {
+        let path = file(&format!("bad{k}"), name, text);
+        let (status, out, err) = replay(&[&path]);
+        assert_eq!((status, out), (Some(2), String::new()));
+        assert_eq!(err, format!("replay: {}: {why}\n", path.display()));
+    }
+    assert_eq!(replay(&[]).0, Some(2));
+    assert_eq!(replay(&[Path::new("/nowhere/field.tsv")]).0, Some(2));
+}
