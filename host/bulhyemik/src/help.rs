@@ -54,7 +54,7 @@ Without a point, each line of standard input is one: LON, LAT and DAY parted by
 tabs. Each gets its line, in the same order, a refused one its refusal. Nothing
 is printed unless every line is of this form.
 
-  bulhyemik lookup examples/canyon.txt examples/canyon.nodes 0 0 0
+  bulhyemik lookup examples/canyon.txt examples/canyon.nodes 27720000 143880000 0
 
 exit status: 0 accepted (or points from standard input), 1 refused,
 2 usage or file error
@@ -67,7 +67,7 @@ Looks up a point on a day and prints what the screen shows: its longitude and
 latitude in degrees and three shifts in the group's unit, parted by tabs, each
 the shortest decimal that reads back as the same float.
 
-  bulhyemik screen examples/canyon.txt examples/canyon.nodes 0 0 0
+  bulhyemik screen examples/canyon.txt examples/canyon.nodes 27720000 143880000 0
 
 exit status: 0 accepted, 1 refused, 2 usage or file error
 ";
@@ -94,7 +94,7 @@ and prints their count. NaN and floats with the bits of FLAG become the no-data
 mark. FLAG is a decimal number, as -9999 or 1.5e30, or the 8 hex digits of a
 float's bits, as 0xc61c3c00. NODES appears whole or not at all.
 
-  bulhyemik load canyon.floats canyon.nodes 13 -9999
+  bulhyemik load examples/canyon.floats canyon.nodes 20
 
 exit status: 0 accepted, 1 refused, 2 usage or file error
 ";

@@ -1,0 +1,4 @@
+-- The laws of the cell, of its weights and of its value.
+pub mod AlongLaws
+pub mod WeightLaws
+pub mod ValueLaws

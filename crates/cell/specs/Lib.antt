@@ -1,0 +1,3 @@
+-- What the contracts of `cell` cite.
+pub mod Cell
+pub mod Unsigned

@@ -1,0 +1,3 @@
+-- What the contracts of `day` cite.
+pub mod Day
+pub mod Unsigned

@@ -1,0 +1,4 @@
+-- The laws of a point's place in its grid and of its fix.
+pub mod PlaceLaws
+pub mod FixLaws
+pub mod NodeLaws

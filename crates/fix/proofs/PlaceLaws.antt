@@ -1,0 +1,87 @@
+-- A point's cell lies in its grid, and its corners in the node list.
+use Prim.Native.Nat.{ℕ, suc, _+_, _*_, _≤_, _<_}
+use mathlib.Core.Path.{_≡_, ap, _∙_}
+use native.Mathlib.Nat.{mul-le-mul-right, mul-comm, suc-mul, le-mul-of-pos-right}
+use native.Mathlib.Omega.{arith}
+use mathlib.Core.Bool.{false}
+use mathlib.Core.List.{List}
+use borrow.Author.Tests.{ltb-false}
+use lib.IntN.{ℤ, natAbs}
+use Rattle.numbers.proofs.FirstLaws.{none-at}
+use Rattle.cell.specs.Cell.{cellAlong, Distances, Weighed, isBeyond, usedSome}
+use Rattle.cell.proofs.AlongLaws.{InCell, along-within}
+use Rattle.cell.proofs.WeightLaws.{weighed}
+use Rattle.cell.proofs.ValueLaws.{none-beyond, value-bound}
+use Rattle.fix.specs.declared.Place.{Place}
+use Rattle.fix.specs.declared.Spot.{Spot}
+use Rattle.cell.specs.declared.Corners.{Corners}
+use Rattle.fix.specs.Fix.{Placed, spotOf, cornersAt, cornersOf, cornerSome, valueIn}
+
+module _ {l : Place} (h : Placed l) where
+  abbrev lonCell : InCell (l .dx) (l .sx) (l .ni) (cellAlong (l .dx) (l .sx) (l .ni) .index) (cellAlong (l .dx) (l .sx) (l .ni) .rest)
+  lonCell = along-within (l .dx) (l .sx) (l .ni) (h .sx-pos) (h .ni-least) (h .dx-most)
+
+  abbrev latCell : InCell (l .dy) (l .sy) (l .nj) (cellAlong (l .dy) (l .sy) (l .nj) .index) (cellAlong (l .dy) (l .sy) (l .nj) .rest)
+  latCell = along-within (l .dy) (l .sy) (l .nj) (h .sy-pos) (h .nj-least) (h .dy-most)
+
+  pub distances : Distances (l .sx) (l .sy) (cellAlong (l .dx) (l .sx) (l .ni) .rest) (cellAlong (l .dy) (l .sy) (l .nj) .rest)
+  distances =
+      record {
+        sx-pos = h .sx-pos;
+        sy-pos = h .sy-pos;
+        sx-most = h .sx-most;
+        sy-most = h .sy-most;
+        fx-most = lonCell .rest-most;
+        fy-most = latCell .rest-most;
+      }
+
+  pub spot-weighed : Weighed (spotOf l .weights)
+  unfolding spotOf
+  spot-weighed = weighed distances
+
+  -- no corner lies past the last node
+  pub spot-i : spotOf l .i + 1 < l .ni
+  unfolding spotOf
+  spot-i = let m = lonCell .index-most in omega arith
+
+  pub spot-j : spotOf l .j + 1 < l .nj
+  unfolding spotOf
+  spot-j = let m = latCell .index-most in omega arith
+
+  -- where a node's parameter stands
+  pub record Stands (i j p : ℕ) : Type 0 where
+    pub node : j * l .ni + i < l .ni * l .nj
+    pub count : l .ni * l .nj ≤ l .ni * l .nj * l .np
+    pub inner : (j * l .ni + i) * l .np + p < l .ni * l .nj * l .np
+    pub range : l .start + l .ni * l .nj * l .np ≤ 16777216
+
+  pub stands : (i j p : ℕ) → i < l .ni → j < l .nj → p < l .np → Stands i j p
+  stands i j p hi hj hp =
+      let a : suc j * l .ni ≤ l .nj * l .ni = mul-le-mul-right (l .ni) hj in
+      let b = suc-mul j (l .ni) in let c = mul-comm (l .nj) (l .ni) in
+      let n : j * l .ni + i < l .ni * l .nj = omega arith in
+      let d : suc (j * l .ni + i) * l .np ≤ l .ni * l .nj * l .np = mul-le-mul-right (l .np) n in
+      let e = suc-mul (j * l .ni + i) (l .np) in
+      record {
+        node = n;
+        count = le-mul-of-pos-right (l .ni * l .nj) (omega arith);
+        inner = omega arith;
+        range = h .range-most;
+      }
+
+-- the corners as code reads them
+pub corners-read : (l : Place) (nodes : List ℤ) (p : ℕ) {s : Spot} {v : Corners} → s ≡ spotOf l → v ≡ cornersAt l nodes (s .i) (s .j) p → v ≡ cornersOf l nodes p
+unfolding cornersOf
+corners-read l nodes p e f = f ∙ ap (λ (r : Spot). cornersAt l nodes (r .i) (r .j) p) e
+
+-- ---- the value in a cell whose used corners hold node values
+module _ {l : Place} (h : Placed l) (nodes : List ℤ) (e : cornerSome isBeyond l nodes ≡ false) where
+  pub not-beyond : (p : ℕ) → p < l .np → usedSome isBeyond (spotOf l .weights) (cornersOf l nodes p) ≡ false
+  unfolding cornerSome
+  not-beyond p k = none-at (λ p. usedSome isBeyond (spotOf l .weights) (cornersOf l nodes p)) (l .np) p (ltb-false _ _ e) k
+
+  pub value-most : (p : ℕ) → p < l .np → natAbs (valueIn l nodes p) ≤ 4000000
+  unfolding valueIn
+  value-most p k =
+      value-bound (spot-weighed h) (cornersOf l nodes p) 4000000
+      (none-beyond (spotOf l .weights) (cornersOf l nodes p) (not-beyond p k))

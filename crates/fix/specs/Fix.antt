@@ -1,0 +1,95 @@
+-- Document 01's lookup in the chosen grid: the cell, its corners in the node list, refusals 8 and 11, and the fix.
+use Prim.Native.Nat.{ℕ, _+_, _-_, _*_, _≤_, _<_}
+use mathlib.Core.Bool.{Bool, cond}
+use mathlib.Core.List.{List}
+use lib.Dec.{ltb}
+use lib.IntN.{ℤ, pos}
+use lib.ListN.{getD}
+use Rattle.numbers.specs.First.{some}
+use Rattle.cell.specs.declared.Corners.{Corners}
+use Rattle.cell.specs.Cell.{cellAlong, weightsOf, isMark, isBeyond, usedSome, valueOf}
+use Rattle.day.specs.Day.{resultOf}
+use Rattle.fix.specs.declared.Place.{Place}
+use Rattle.fix.specs.declared.Spot.{Spot}
+use Rattle.fix.specs.declared.Fix.{Fix}
+use Rattle.fix.specs.declared.Fault.{Fault}
+use Rattle.fix.specs.declared.Fault.the-variants.{Mark, Beyond}
+use Rattle.fix.specs.declared.Lookup.{Lookup}
+use Rattle.fix.specs.declared.Lookup.the-variants as L
+
+-- the cell's node of lower indices, and the weights of its corners
+unfoldable pub spotOf : Place → Spot
+spotOf l =
+    let x = cellAlong (l .dx) (l .sx) (l .ni) in let y = cellAlong (l .dy) (l .sy) (l .nj) in
+    record { i = x .index; j = y .index; weights = weightsOf (l .sx) (l .sy) (x .rest) (y .rest) }
+
+-- where parameter p, counted from 0, of node (i, j) stands in the node list
+abbrev pub position : Place → (i j p : ℕ) → ℕ
+position l i j p = l .start + (j * l .ni + i) * l .np + p
+
+abbrev pub nodeAt : Place → List ℤ → (i j p : ℕ) → ℤ
+nodeAt l nodes i j p = getD nodes (position l i j p) (pos 0)
+
+-- the corners of the cell whose node of lower indices is (i, j)
+unfoldable pub cornersAt : Place → List ℤ → (i j p : ℕ) → Corners
+cornersAt l nodes i j p =
+    record {
+      v00 = nodeAt l nodes i j p;
+      v10 = nodeAt l nodes (i + 1) j p;
+      v01 = nodeAt l nodes i (j + 1) p;
+      v11 = nodeAt l nodes (i + 1) (j + 1) p;
+    }
+
+unfoldable pub cornersOf : Place → List ℤ → ℕ → Corners
+cornersOf l nodes p = cornersAt l nodes (spotOf l .i) (spotOf l .j) p
+
+-- a used corner passes a test, any parameter
+unfoldable pub cornerSome : (ℤ → Bool) → Place → List ℤ → Bool
+cornerSome test l nodes = some (λ p. usedSome test (spotOf l .weights) (cornersOf l nodes p)) (l .np)
+
+-- what code tests for
+abbrev pub faultTest : Fault → ℤ → Bool
+faultTest Mark = isMark
+faultTest Beyond = isBeyond
+
+-- the value of parameter p, before the day factor
+unfoldable pub valueIn : Place → List ℤ → ℕ → ℤ
+valueIn l nodes p = valueOf (spotOf l .weights) (cornersOf l nodes p)
+
+-- the result of parameter p; that of a missing parameter is 0
+unfoldable pub resultAt : Place → List ℤ → ℤ → ℕ → ℤ
+resultAt l nodes factor p = cond (ltb p (l .np)) (resultOf (valueIn l nodes p) factor) (pos 0)
+
+-- the refusal where a test is true, else what follows
+unfoldable pub refuseIf : Bool → ℕ → ℕ → Lookup → Lookup
+refuseIf t number place next = cond t (L.Refused (record { number = number; place = place })) next
+
+-- 8, then 11, then the fix in the grid of this number
+unfoldable pub fixIn : Place → List ℤ → ℤ → ℕ → Lookup
+fixIn l nodes factor grid =
+    refuseIf (cornerSome isMark l nodes) 8 0
+    (refuseIf (cornerSome isBeyond l nodes) 11 0
+    (L.Fix
+    (record {
+      grid = grid;
+      first = resultAt l nodes factor 0;
+      second = resultAt l nodes factor 1;
+      third = resultAt l nodes factor 2;
+    })))
+
+-- a point within the extent of a grid whose numbers are within their limits
+pub record Placed (l : Place) : Type 0 where
+  pub sx-pos : 0 < l .sx
+  pub sy-pos : 0 < l .sy
+  pub sx-most : l .sx ≤ 1000000
+  pub sy-most : l .sy ≤ 1000000
+  pub ni-least : 2 ≤ l .ni
+  pub nj-least : 2 ≤ l .nj
+  pub dx-most : l .dx ≤ (l .ni - 1) * l .sx
+  pub dy-most : l .dy ≤ (l .nj - 1) * l .sy
+  pub np-most : l .np ≤ 3
+  pub range-most : l .start + l .ni * l .nj * l .np ≤ 16777216
+
+-- the grid's node range ends within a list of so many nodes
+abbrev pub Listed : Place → ℕ → Type 0
+Listed l count = l .start + l .ni * l .nj * l .np ≤ count

@@ -1,0 +1,3 @@
+-- What the contracts of `fix` cite.
+pub mod Fix
+pub mod Answers

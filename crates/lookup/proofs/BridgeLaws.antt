@@ -1,0 +1,94 @@
+-- The flat lists of an accepted group say what its record says of a point.
+use Prim.Native.Nat.{ℕ, zero, suc, _*_, _≤_, _<_}
+use mathlib.Core.Path.{_≡_, refl, sym, ap, _∙_, subst}
+use mathlib.Core.List.{List}
+use native.Mathlib.Omega.{arith}
+use borrow.Author.Tests.{ltb-false}
+use lib.IntN.{ℤ, natAbs}
+use lib.ListN.{length}
+use Rattle.numbers.specs.Order.{within}
+use Rattle.numbers.proofs.Bools.{and-left, and-right}
+use Rattle.numbers.proofs.FirstLaws.{none-at}
+use Rattle.numbers.proofs.OrderLaws.{within-size}
+use Rattle.group.specs.declared.Group.{Group}
+use Rattle.group.specs.declared.Point.{Point}
+use Rattle.group.specs.Record.{gridAt}
+use Rattle.extent.specs.Sides.{lonFromLeast, latFromLeast}
+use Rattle.judge.specs.Flat.{Sided}
+use Rattle.judge.proofs.Accepted.{accepted-head}
+use Rattle.choice.proofs.ChoiceLaws.{chosen≤}
+use Rattle.choice.proofs.InGroupLaws.{flat-holds, flat-chosen}
+use Rattle.fix.specs.declared.Place.{Place}
+use Rattle.fix.specs.Fix.{Placed, Listed, fixIn}
+use Rattle.choice.specs.InGroup.{chosenIn}
+use Rattle.lookup.specs.declared.Frame.{Frame}
+use Rattle.lookup.specs.Lookup.{endsEarly, placeOf, fixAt, Ready}
+use Rattle.lookup.specs.Flat.{frameAt, Framed, placeIn, fixFlat, Laid}
+use Rattle.lookup.proofs.PlaceLaws.{place-placed, place-seen}
+
+-- places that agree in each grid that can be chosen
+pub fix-at-same : (c n : ℕ) (place seat : ℕ → Place) (nodes : List ℤ) (f : ℤ) → c ≤ n → ((k : ℕ) → k < n → place k ≡ seat k)
+    → fixAt c place nodes f ≡ fixAt c seat nodes f
+unfolding fixAt
+fix-at-same zero n place seat nodes f h e = refl
+fix-at-same (suc k) n place seat nodes f h e = ap (λ (l : Place). fixIn l nodes f (suc k)) (e k (omega arith))
+
+module _ (g : Group) (nodes : List ℤ) (p : Point) (t : ℤ) (r : Ready g (length nodes) p t) (sides ranks frames : List ℕ)
+    (sd : Sided g sides ranks) (fr : Framed g (g .grids) frames) where
+  x : ℕ
+  x = lonFromLeast (p .lon .0)
+
+  y : ℕ
+  y = latFromLeast (p .lat .0)
+
+  lon-small : natAbs (p .lon .0) ≤ 1296000000
+  lon-small = within-size 1296000000 (p .lon .0) (and-left (within 1296000000 (p .lon .0)) (within 324000000 (p .lat .0)) (r .point))
+
+  lat-small : natAbs (p .lat .0) ≤ 324000000
+  lat-small = within-size 324000000 (p .lat .0) (and-right (within 1296000000 (p .lon .0)) (within 324000000 (p .lat .0)) (r .point))
+
+  seen : (k : ℕ) → k < g .grids → placeIn (frameAt frames k) (g .parameters) x y ≡ placeOf (gridAt g k) (g .parameters) p
+  unfolding x y
+  seen k l =
+      ap (λ (f : Frame). placeIn f (g .parameters) x y) (fr k l) ∙ place-seen g (r .accepted) p k l (r .point)
+
+  listed : (k : ℕ) → k < g .grids → Listed (placeOf (gridAt g k) (g .parameters) p) (length nodes)
+  unfolding placeOf
+  listed k l = ltb-false _ _ (none-at (endsEarly g (length nodes)) (g .grids) k (ltb-false _ _ (r .ends)) l)
+
+  laid-here : g .grids * 4 ≤ length sides → g .grids ≤ length ranks → g .grids * 7 ≤ length frames
+      → Laid sides ranks frames (g .grids) (g .parameters) (length nodes) x y
+  unfolding x y
+  laid-here a b c =
+      record {
+        grids-most = accepted-head g (r .accepted) .grids;
+        sides-room = a;
+        ranks-room = b;
+        frames-room = c;
+        placed = λ k l h.
+            subst Placed (sym (seen k l))
+            (place-placed g (r .accepted) p k l
+            (sym (flat-holds g (r .accepted) sides ranks sd (p .lon .0) (p .lat .0) lon-small lat-small k l) ∙ h));
+        listed = λ k l. subst (λ (s : Place). Listed s (length nodes)) (sym (seen k l)) (listed k l);
+      }
+
+  fix-here : (f : ℤ) → fixFlat sides ranks frames (g .grids) (g .parameters) nodes f x y
+      ≡ fixAt (chosenIn g (p .lon .0) (p .lat .0)) (λ k. placeOf (gridAt g k) (g .parameters) p) nodes f
+  unfolding x y
+  fix-here f =
+      fix-at-same _ (g .grids) (λ k. placeIn (frameAt frames k) (g .parameters) x y) (λ k. placeOf (gridAt g k) (g .parameters) p) nodes f
+      (chosen≤ _ _ (g .grids)) seen
+      ∙ ap (λ (c : ℕ). fixAt c (λ k. placeOf (gridAt g k) (g .parameters) p) nodes f)
+      (flat-chosen g (r .accepted) sides ranks sd (p .lon .0) (p .lat .0) lon-small lat-small)
+
+  -- at the distances and the factor that code computes
+  module _ {a b : ℕ} (ea : a ≡ lonFromLeast (p .lon .0)) (eb : b ≡ latFromLeast (p .lat .0)) where
+    pub laid : g .grids * 4 ≤ length sides → g .grids ≤ length ranks → g .grids * 7 ≤ length frames
+        → Laid sides ranks frames (g .grids) (g .parameters) (length nodes) a b
+    unfolding x y
+    laid h k m = rw (ea, eb) (laid-here h k m)
+
+    pub flat-fix : {f h : ℤ} → f ≡ h → fixFlat sides ranks frames (g .grids) (g .parameters) nodes f a b
+        ≡ fixAt (chosenIn g (p .lon .0) (p .lat .0)) (λ k. placeOf (gridAt g k) (g .parameters) p) nodes h
+    unfolding x y
+    flat-fix {f} {h} e = (λ i. fixFlat sides ranks frames (g .grids) (g .parameters) nodes (e i) (ea i) (eb i)) ∙ fix-here h

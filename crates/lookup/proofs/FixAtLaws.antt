@@ -1,0 +1,21 @@
+-- What is answered where no grid is chosen, and where one is.
+use Prim.Native.Nat.{ℕ, suc, _-_}
+use mathlib.Core.Path.{_≡_, ap, _∙_}
+use mathlib.Core.List.{List}
+use native.Mathlib.Omega.{arith}
+use lib.IntN.{ℤ}
+use Rattle.fix.specs.declared.Place.{Place}
+use Rattle.fix.specs.declared.Lookup.the-variants as L
+use Rattle.fix.specs.Fix.{fixIn}
+use Rattle.lookup.specs.Lookup.{fixAt}
+
+module _ (c : ℕ) (place : ℕ → Place) (nodes : List ℤ) (factor : ℤ) where
+  pub fix-at-none : c ≡ 0 → fixAt c place nodes factor ≡ L.Refused (record { number = 7; place = 0 })
+  unfolding fixAt
+  fix-at-none e = ap (λ (n : ℕ). fixAt n place nodes factor) e
+
+  pub fix-at-some : (c ≡ 0 → ⊥) → fixAt c place nodes factor ≡ fixIn (place (c - 1)) nodes factor c
+  unfolding fixAt
+  fix-at-some h =
+      let q : c ≡ suc (c - 1) = omega arith in let r : suc (c - 1) ≡ c = omega arith in
+      ap (λ (n : ℕ). fixAt n place nodes factor) q ∙ ap (λ (n : ℕ). fixIn (place (c - 1)) nodes factor n) r

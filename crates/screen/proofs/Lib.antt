@@ -1,0 +1,2 @@
+-- Laws of the screen.
+pub mod Exact

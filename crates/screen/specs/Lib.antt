@@ -1,0 +1,2 @@
+-- What the screen shows.
+pub mod Screen

@@ -1,0 +1,58 @@
+-- What the screen shows, as 64-bit floats: document 01, 'Loading and showing'.
+use Prim.Native.Nat.{ℕ, _^_}
+use mathlib.Core.Bool.{Bool, false, cond, _&&_}
+use lib.Dec.{leb, ltb}
+use lib.IntN.{ℤ, pos}
+use lib.Ieee.{Float, fin, binary64, ofInt, mul, div}
+use Rattle.group.specs.declared.Point.{Point}
+use Rattle.fix.specs.declared.Lookup.{Lookup}
+use Rattle.fix.specs.declared.Lookup.the-variants as lookup
+use Rattle.screen.specs.declared.ScreenAnswer.{ScreenAnswer}
+use Rattle.screen.specs.declared.ScreenAnswer.the-variants.{Fix, Refused}
+use Rattle.screen.specs.declared.ScreenRecord.{ScreenRecord}
+
+abbrev pub plusZero : Float
+plusZero = fin false 0 (pos 0)
+
+-- 2 to the power -q
+unfoldable pub negPower : ℕ → Float
+negPower q = div binary64 (ofInt binary64 (pos 1)) (ofInt binary64 (pos (2 ^ q)))
+
+-- a whole result as a float times 2 to the power -q
+unfoldable pub shiftOf : ℕ → ℤ → Float
+shiftOf q n = mul binary64 (ofInt binary64 n) (negPower q)
+
+-- the same for parameter p, from 0, of np; a missing parameter shows +0
+unfoldable pub shownShift : ℕ → ℕ → ℕ → ℤ → Float
+shownShift q np p n = cond (ltb p np) (shiftOf q n) plusZero
+
+-- milliarcseconds as degrees, by one float division
+unfoldable pub degreesOf : ℤ → Float
+degreesOf mas = div binary64 (ofInt binary64 mas) (ofInt binary64 (pos 3600000))
+
+-- the limits of Q and NP
+abbrev pub admitted : ℕ → ℕ → Bool
+admitted q np = leb q 20 && (leb 1 np && leb np 3)
+
+-- a lookup's answer for the screen
+unfoldable pub shown : Lookup → ℕ → ℕ → ScreenAnswer
+shown (lookup.Fix f) q np = Fix (shownShift q np 0 (f .first)) (shownShift q np 1 (f .second)) (shownShift q np 2 (f .third))
+shown (lookup.Refused r) q np = Refused r
+
+-- the same, with Q and NP judged first: 2 with place 0
+unfoldable pub answerOf : Lookup → ℕ → ℕ → ScreenAnswer
+answerOf found q np = cond (admitted q np) (shown found q np) (Refused (record { number = 2; place = 0 }))
+
+-- the refusal's number and place, as document 01 has them: 0 and 0 where nothing is refused
+abbrev pub numberOf : ScreenAnswer → ℕ
+numberOf (Fix a b c) = 0
+numberOf (Refused r) = r .number
+
+abbrev pub placeOf : ScreenAnswer → ℕ
+placeOf (Fix a b c) = 0
+placeOf (Refused r) = r .place
+
+-- the screen record at a point
+unfoldable pub recordOf : Point → ScreenAnswer → ScreenRecord
+recordOf point (Fix a b c) = record { longitude = degreesOf (point .lon .0); latitude = degreesOf (point .lat .0); first = a; second = b; third = c }
+recordOf point (Refused r) = record { longitude = plusZero; latitude = plusZero; first = plusZero; second = plusZero; third = plusZero }

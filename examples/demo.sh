@@ -1,0 +1,73 @@
+#!/bin/sh
+# Shows the command line at work on the two examples: sh demo.sh PROGRAM
+#
+# Says what is asked, shows the command and prints its answer. The commands run on copies in a temporary folder; typed
+# in this folder they answer the same. The status is 0 only if all of the output is that of demo.expected.
+
+if [ $# -ne 1 ] || [ ! -f "$1" ] || [ ! -x "$1" ]; then
+    echo "usage: sh demo.sh PROGRAM, the path of the command line bulhyemik" >&2
+    exit 2
+fi
+case $1 in
+    /*) program=$1 ;;
+    *) program=$PWD/$1 ;;
+esac
+
+work=${TMPDIR:-/tmp}/bulhyemik-demo.$$
+(umask 077 && mkdir "$work") || exit 2
+trap 'rm -rf "$work"' EXIT
+trap 'exit 2' HUP INT TERM
+cp "$(dirname "$0")"/canyon.* "$(dirname "$0")"/harbour.* "$(dirname "$0")/demo.expected" "$work" || exit 2
+cd "$work" || exit 2
+
+bulhyemik() {
+    "$program" "$@"
+}
+
+# ask WORDS COMMAND: what the command prints, then what it says on standard error; a status other than 0 is told.
+ask() {
+    printf '\n%s\n$ %s\n' "$1" "$2"
+    eval "$2" 2>words || echo "status $?"
+    cat words
+}
+
+demo() {
+    echo 'Catalano Canyon: two grids that touch, with offsets of latitude and longitude in arc-seconds.'
+    ask 'Are the header and its grids as they should be?' \
+        'bulhyemik check canyon.txt'
+    ask 'Is the header written back byte for byte? (cmp prints nothing if so.)' \
+        'bulhyemik format canyon.txt >written && cmp written canyon.txt'
+    ask 'Do the floats of the grids load as the node file, in steps of 2 to the power -20 arc-second?' \
+        'bulhyemik load canyon.floats loaded 20 && cmp loaded canyon.nodes'
+    ask 'Which grids are used anywhere on the earth, and where is the southmost, then westmost point of each?' \
+        'bulhyemik inforce canyon.txt -648000000 648000000 -324000000 324000000'
+    ask 'And within a tenth of a degree on the line where they touch?' \
+        'bulhyemik inforce canyon.txt 27360000 27720000 144000000 144000000'
+    ask 'Six points (longitude, latitude, day): which grid is used, and what are the two offsets in steps?' \
+        'bulhyemik lookup canyon.txt canyon.nodes <canyon.points'
+    ask 'The first in degrees and arc-seconds. Annex E.1 works out 1.45000 and -2.40333; README.md tells of the second.' \
+        'bulhyemik screen canyon.txt canyon.nodes 27720000 143880000 0'
+
+    printf '\n%s\n' 'Harbour: silt in metres, settling from day 100 to 200; on day 300 two fifths are dredged.'
+    ask 'Are the header and its grids as they should be?' \
+        'bulhyemik check harbour.txt'
+    ask 'Is the header written back byte for byte?' \
+        'bulhyemik format harbour.txt >written && cmp written harbour.txt'
+    ask 'Which grids are used anywhere on the earth?' \
+        'bulhyemik inforce harbour.txt -648000000 648000000 -324000000 324000000'
+    ask 'And over the two basins? Neither hides the bay there alone; together they do.' \
+        'bulhyemik inforce harbour.txt -14390000 -14370000 180010000 180020000'
+    ask 'One milliarcsecond further north the bay comes out again.' \
+        'bulhyemik inforce harbour.txt -14390000 -14370000 180010000 180020001'
+    ask 'One point on five days, then eight places on day 200: the silt in steps of 2 to the power -10 metre.' \
+        'bulhyemik lookup harbour.txt harbour.nodes <harbour.points'
+}
+
+demo >transcript
+cat transcript
+cmp -s transcript demo.expected && exit 0
+{
+    echo 'demo.sh: this is not what demo.expected holds (< expected, > printed):'
+    diff demo.expected transcript
+} >&2
+exit 1
