@@ -1,5 +1,4 @@
 -- The laws of the choice: the chosen grid holds the point with the lowest rank number, and it is the one that no blocker hides.
--- Assumes nothing.
 use mathlib.Core.Path.{_≡_, refl, sym, _∙_, subst}
 use mathlib.Core.Bool.{Bool, true, false, cond, _&&_}
 use Prim.Native.Nat.{ℕ, zero, suc, _≤_, _<_}

@@ -1,4 +1,4 @@
--- Demand 3 over unsigned coordinates: the list that `inForceBy` defines is that of the grids in force. Assumes nothing.
+-- Demand 3 over unsigned coordinates: the list that `inForceBy` defines is that of the grids in force.
 use mathlib.Core.Path.{_≡_, refl, sym, ap, _∙_, subst}
 use mathlib.Core.Bool.{false}
 use mathlib.Core.List.{List, [], _∷_, List·Memᴰ}

@@ -1,4 +1,4 @@
--- The laws of the entries of a list of grids: one for each that has a first coordinate, in the list's order. Assumes nothing.
+-- The laws of the entries of a list of grids: one for each that has a first coordinate, in the list's order.
 use mathlib.Core.Path.{_≡_, refl, sym, ap, _∙_}
 use mathlib.Core.List.{List, [], _∷_, _++_, append-nil, append-assoc, List·Memᴰ, Memᴰ·append-left, Memᴰ·append-right, List·Memᴰ·append-cases, List·Memᴰ·eq-of-singleton, List·Memᴰ·not-nil}
 use mathlib.Core.List.List·Memᴰ.{List·Memᴰ·head, List·Memᴰ·tail}

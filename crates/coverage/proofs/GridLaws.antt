@@ -1,5 +1,4 @@
 -- Where a grid is chosen first: it is the first point that one of its rectangles holds and that is free of the rectangles of its blockers.
--- Assumes nothing.
 use mathlib.Core.Path.{_≡_, refl, sym, ap, _∙_, subst}
 use mathlib.Core.Bool.{Bool, true, false, _&&_, _||_, and-or-distrib-right}
 use mathlib.Core.List.{List}

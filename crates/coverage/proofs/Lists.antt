@@ -1,4 +1,4 @@
--- Lists whose every element stands in a relation to every later one; elements by their index. Assumes nothing.
+-- Lists whose every element stands in a relation to every later one; elements by their index.
 use mathlib.Core.Path.{_≡_, refl, sym}
 use mathlib.Core.List.{List, [], _∷_, _++_, List·Memᴰ, List·Memᴰ·append-cases, List·Memᴰ·not-nil}
 use mathlib.Core.List.List·Memᴰ.{List·Memᴰ·head, List·Memᴰ·tail}

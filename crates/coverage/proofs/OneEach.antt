@@ -1,4 +1,4 @@
--- Layouts in which grid g owns rectangle g alone: what they hold, whom they choose, and when they are sound. Assumes nothing.
+-- Layouts in which grid g owns rectangle g alone: what they hold, whom they choose, and when they are sound.
 use mathlib.Core.Path.{_≡_, refl, sym, ap, _∙_, subst}
 use mathlib.Core.Bool.{Bool, true, false}
 use Prim.Native.Nat.{ℕ, _*_, _≤_, _<_}
@@ -9,9 +9,9 @@ use Rattle.choice.specs.Rect.{at, holds, size}
 use Rattle.choice.specs.Choice.{chosen}
 use Rattle.choice.proofs.RectLaws.{holds-true, true-holds}
 use Rattle.choice.proofs.ChoiceLaws.{chosen-agree}
-use Rattle.coverage.specs.Layout.{Layout, gridHolds, chosenAt, Sound}
+use Rattle.coverage.specs.Layout.{Layout, gridHolds, chosenAt, Share, Sound}
 use Rattle.coverage.proofs.GridLaws.{rect-grid, grid-rect}
-use Rattle.coverage.proofs.Parted.{Share, parted-apart}
+use Rattle.coverage.proofs.Parted.{parted-apart}
 
 -- four sides, an owner and a rank for each grid
 pub record OneEach (l : Layout) : Type 0 where

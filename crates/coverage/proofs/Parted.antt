@@ -1,18 +1,12 @@
--- What a judge has to find so that grids that share a point never share a rank: a test of rectangles alone. Assumes nothing.
+-- What a judge has to find so that grids that share a point never share a rank: a test of rectangles alone.
 use mathlib.Core.Path.{_≡_, sym, ap, _∙_}
 use mathlib.Core.Bool.{true}
-use mathlib.Core.List.{List}
-use Prim.Native.Nat.{ℕ, _≤_, _<_, min, max}
+use Prim.Native.Nat.{ℕ, _≤_, _<_}
 use native.Mathlib.Omega.{arith}
 use lib.ListN.{length}
-use Rattle.choice.specs.Rect.{at, westOf, eastOf, southOf, northOf}
-use Rattle.coverage.specs.Layout.{Layout, gridHolds}
+use Rattle.choice.specs.Rect.{at}
+use Rattle.coverage.specs.Layout.{Layout, gridHolds, Share}
 use Rattle.coverage.proofs.GridLaws.{grid-rect}
-
--- two rectangles share a point; an empty one shares none
-pub record Share (rs : List ℕ) (r q : ℕ) : Type 0 where
-  pub lon : max (westOf rs r) (westOf rs q) ≤ min (eastOf rs r) (eastOf rs q)
-  pub lat : max (southOf rs r) (southOf rs q) ≤ min (northOf rs r) (northOf rs q)
 
 -- rectangles of two grids of equal rank share no point
 abbrev pub Parted : Layout → Type 0

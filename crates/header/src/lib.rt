@@ -18,7 +18,19 @@ ghost use Rattle.header.specs.Answers.{formOf, unitAnswer, headAnswer, r
 ghost use Rattle.header.specs.Whole.{refusedReading, linesReading, afterRamps, readLines, headerText};
 ghost use Rattle.header.specs.Header.{readHeader, written, bytesAfter};
 ghost use Rattle.header.specs.Writing.{Wide};
-use group::{Grid, Group, Latitude, Longitude, Name, Ramp, Refusal, Unit, Verdict, blank_grid, blank_group, blank_name, blank_ramp};
+use group::Grid;
+use group::Group;
+use group::Latitude;
+use group::Longitude;
+use group::Name;
+use group::Ramp;
+use group::Refusal;
+use group::Unit;
+use group::Verdict;
+use group::blank_grid;
+use group::blank_group;
+use group::blank_name;
+use group::blank_ramp;
 use text::Four;
 
 // A group line: all of a group but its ramps and grids.

@@ -8,9 +8,8 @@ use lib.Seq.{getD-take, length-take-le}
 use Rattle.choice.specs.Rect.{at}
 use Rattle.choice.proofs.PartLaws.{side, chosen-part}
 use Rattle.region.specs.declared.Area.{Area}
-use Rattle.coverage.specs.Layout.{Layout, layout, chosenAt, Sound}
+use Rattle.coverage.specs.Layout.{Layout, layout, chosenAt, Share, Sound}
 use Rattle.coverage.specs.InForce.{inForce, inForceBy, listed}
-use Rattle.coverage.proofs.Parted.{Share}
 use Rattle.coverage.proofs.OneEach.{OneEach, one-chosen, one-sound}
 use Rattle.coverage.proofs.Demand3.{in-force-alike}
 use Rattle.inforce.specs.Flat.{Owned, FlatSound, flatChosen, flatListed}

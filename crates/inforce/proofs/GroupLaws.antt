@@ -24,7 +24,7 @@ use Rattle.choice.proofs.ChoiceLaws.{chosen≤}
 use Rattle.choice.proofs.InGroupLaws.{flat-chosen}
 use Rattle.coverage.specs.InForce.{inForceBy, Inside, GridsInForce}
 use Rattle.coverage.specs.InForce as flat
-use Rattle.coverage.proofs.Parted.{Share}
+use Rattle.coverage.specs.Layout.{Share}
 use Rattle.coverage.proofs.EntryLaws.{filled-used, filled-length}
 use Rattle.coverage.proofs.Demand3.{in-force, in-force-alike}
 use Rattle.inforce.specs.declared.Area.{Area}

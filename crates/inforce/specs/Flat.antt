@@ -8,7 +8,7 @@ use Rattle.choice.specs.Choice.{chosen}
 use Rattle.region.specs.declared.Area.{Area}
 use Rattle.coverage.specs.declared.Listing.{Listing}
 use Rattle.coverage.specs.InForce.{inForceBy, listed}
-use Rattle.coverage.proofs.Parted.{Share}
+use Rattle.coverage.specs.Layout.{Share}
 
 -- the first n numbers are 0, 1, .., n - 1
 abbrev pub Owned : List ℕ → ℕ → Type 0

@@ -1,4 +1,4 @@
--- The size of a float, in steps, by the fields of its bits. Assumes nothing.
+-- The size of a float, in steps, by the fields of its bits.
 use mathlib.Core.Path.{_≡_, refl, sym, ap, _∙_, subst}
 use mathlib.Core.Bool.{Bool, true, false, not, cond}
 use Prim.Native.Nat.{ℕ, zero, suc, _+_, _-_, _*_, _/_, _%_, _^_, _<_, min}

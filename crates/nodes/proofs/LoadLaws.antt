@@ -1,4 +1,4 @@
--- What loading does, said of its definitions: the rounding, the mark, and worked cases. Assumes nothing.
+-- What loading does, said of its definitions: the rounding, the mark, and worked cases.
 use mathlib.Core.Path.{_≡_, refl, sym, ap, _∙_, subst}
 use mathlib.Core.Bool.{Bool, true, false, not, _&&_}
 use mathlib.Core.List.{List, [], _∷_, map}

@@ -1,4 +1,4 @@
--- Which floats are NaN, as the code tests it, and what the bits say of the others. Assumes nothing.
+-- Which floats are NaN, as the code tests it, and what the bits say of the others.
 use mathlib.Core.Path.{_≡_, refl, sym, _∙_, subst}
 use mathlib.Core.Bool.{Bool, true, false, not, _&&_, _||_, Bool·beq}
 use Prim.Native.Nat.{ℕ, _*_, _^_, _<_}

@@ -1,4 +1,4 @@
--- digits · 2^up / 2^149, rounded: by how far up lies from 149. Assumes nothing.
+-- digits · 2^up / 2^149, rounded: by how far up lies from 149.
 use mathlib.Core.Path.{_≡_, sym, ap, _∙_}
 use Prim.Native.Nat.{ℕ, _+_, _-_, _*_, _%_, _^_, _≤_, _<_}
 use native.Mathlib.Nat.{lt-of-lt-of-le, mul-le-mul, mul-assoc}

@@ -1,4 +1,4 @@
--- A number by its sign and its size: its rounding and its size. Assumes nothing.
+-- A number by its sign and its size: its rounding and its size.
 use mathlib.Core.Path.{_≡_, refl, ap, _∙_}
 use mathlib.Core.Bool.{Bool, true, false}
 use Prim.Native.Nat.{ℕ}

@@ -1,4 +1,4 @@
--- A float's steps by its sign and its size. Assumes nothing.
+-- A float's steps by its sign and its size.
 use mathlib.Core.Path.{_≡_, ap, _∙_, subst}
 use mathlib.Core.Bool.{false, not}
 use Prim.Native.Nat.{ℕ, _*_, _^_, _≤_, _<_, min}

@@ -1,5 +1,5 @@
 -- Signed numbers read by `omega`: z is up z − dn z, and each law of ℤ is an equation or an order of natural numbers.
--- `up` and `dn` are shut, so `omega` takes `up z` and `dn z` as unknowns; the laws below are what it is handed. Assumes nothing.
+-- `up` and `dn` are shut, so `omega` takes `up z` and `dn z` as unknowns; the laws below are what it is handed.
 use Prim.Native.Nat.{ℕ, zero, suc, _+_, _-_, _*_, _≤_, _<_}
 use mathlib.Core.Path.{_≡_, refl, sym, ap, _∙_, subst}
 use mathlib.Core.Bool.{Bool, true, false, not, cond}

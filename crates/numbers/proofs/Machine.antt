@@ -1,4 +1,4 @@
--- A signed number as the machine holds it. Assumes nothing.
+-- A signed number as the machine holds it.
 use Prim.Native.Nat.{ℕ, _+_, _-_, _*_, _%_, _^_, _≤_, _<_}
 use mathlib.Core.Path.{_≡_, sym, ap, _∙_, subst}
 use mathlib.Core.Logic.{⊎-elim}

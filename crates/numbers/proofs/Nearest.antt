@@ -1,4 +1,4 @@
--- Laws of `nearest`, over every positive divisor. Assumes nothing.
+-- Laws of `nearest`, over every positive divisor.
 use Prim.Native.Nat.{ℕ, zero, suc, _+_, _-_, _*_, _/_, _%_, _^_, _≤_, _<_}
 use mathlib.Core.Path.{_≡_, refl, sym, ap, _∙_}
 use native.Mathlib.Nat.{mul-le-mul-right, mul-le-mul-left, mul-pos, mul-assoc, mul-comm, suc-mul, add-mul, zero-mul, sub-add-cancel, le-mul-of-pos-right, div-add-mod', mod-lt, eq-of-mul-eq-mul-right}

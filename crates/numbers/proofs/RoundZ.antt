@@ -1,4 +1,4 @@
--- Laws of `roundZ`. Assumes nothing.
+-- Laws of `roundZ`.
 use Prim.Native.Nat.{ℕ, zero, suc, _+_, _-_, _*_, _%_, _≤_, _<_}
 use mathlib.Core.Path.{_≡_, refl, sym, ap, _∙_, subst}
 use mathlib.Core.Logic.{⊎-elim}

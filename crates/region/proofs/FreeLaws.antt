@@ -1,5 +1,4 @@
 -- The laws of the points that no blocker holds, and of what a blocker covers.
--- Assumes nothing.
 use mathlib.Core.Path.{_≡_, refl}
 use mathlib.Core.Bool.{Bool, true, false}
 use mathlib.Core.List.{List}

@@ -1,5 +1,4 @@
 -- The laws of the search: it finds nothing exactly where the test holds nowhere inside, and else the one point that `IsFirst` describes.
--- Assumes nothing.
 use mathlib.Core.Path.{_≡_, refl, sym, _∙_, subst}
 use mathlib.Core.Bool.{Bool, true, false, cond, _&&_, _||_}
 use mathlib.Core.Logic.{_⊎_, inl, inr, ⊎-elim}

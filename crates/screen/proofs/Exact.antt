@@ -1,4 +1,4 @@
--- A shift loses nothing: the float is the whole result over 2 to the power q, exactly. Assumes nothing.
+-- A shift loses nothing: the float is the whole result over 2 to the power q, exactly.
 use mathlib.Core.Path.{_≡_, refl, sym, ap, _∙_, subst}
 use mathlib.Core.Bool.{Bool, true, false, cond}
 use mathlib.Core.Logic.{⊎-elim}

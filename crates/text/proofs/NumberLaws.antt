@@ -1,4 +1,4 @@
--- What a scan of a number meets. Assumes nothing.
+-- What a scan of a number meets.
 use Prim.Native.Nat.{ℕ, zero, suc, _+_, _-_, _*_, _<_, _≤_, min}
 use mathlib.Core.Path.{_≡_, refl, sym, ap, subst, _∙_}
 use mathlib.Core.Bool.{Bool, true, false, cond}

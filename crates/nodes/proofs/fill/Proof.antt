@@ -1,4 +1,4 @@
--- `fill`: the first k nodes are those of the first k floats. Assumes nothing.
+-- `fill`: the first k nodes are those of the first k floats.
 use mathlib.Core.Path.{_≡_, refl, sym, ap, _∙_}
 use mathlib.Core.Bool.{false}
 use mathlib.Core.List.{List, [], _∷_, _++_, map, map-append}

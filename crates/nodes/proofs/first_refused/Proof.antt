@@ -1,4 +1,4 @@
--- `first_refused`: no float before i is refused. Assumes nothing.
+-- `first_refused`: no float before i is refused.
 use mathlib.Core.Path.{sym, _∙_}
 use Prim.Native.Nat.{_-_}
 use native.Mathlib.Omega.{arith}

@@ -1,4 +1,4 @@
--- `load_nodes`: the three refusals in their order, then the nodes. Assumes nothing.
+-- `load_nodes`: the three refusals in their order, then the nodes.
 use mathlib.Core.Path.{_≡_, ap, _∙_}
 use mathlib.Core.Bool.{cond}
 use mathlib.Core.List.{List, map}

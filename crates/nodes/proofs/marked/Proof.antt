@@ -1,4 +1,4 @@
--- `marked`: the tests for NaN, then the bits. Assumes nothing.
+-- `marked`: the tests for NaN, then the bits.
 use Rattle.nodes.specs.Load.{marks}
 use Rattle.nodes.proofs.Marks.{ne-nan, not-nan}
 use Rattle.nodes.proofs.marked.Statement.{statement}

@@ -1,4 +1,4 @@
--- `node`: the mark, or the sign and the size. Assumes nothing.
+-- `node`: the mark, or the sign and the size.
 use mathlib.Core.Path.{_≡_, sym, ap, _∙_, subst}
 use mathlib.Core.Bool.{Bool, false, not}
 use native.Mathlib.Omega.{arith}

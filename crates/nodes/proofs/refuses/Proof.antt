@@ -1,4 +1,4 @@
--- `refuses`: marked, or judged by its size. Assumes nothing.
+-- `refuses`: marked, or judged by its size.
 use mathlib.Core.Path.{sym, ap, _∙_, subst}
 use mathlib.Core.Bool.{not}
 use native.Mathlib.Omega.{arith}

@@ -1,4 +1,4 @@
--- `scaled`: beyond 2^31, a product, too small to count, and a quotient. Assumes nothing.
+-- `scaled`: beyond 2^31, a product, too small to count, and a quotient.
 use mathlib.Core.Path.{_≡_, sym, _∙_, subst}
 use Prim.Native.Nat.{ℕ, _-_, _^_, _≤_, _<_, min}
 use native.Mathlib.Nat.{le-of-lt, min-eq-left, min-eq-right}

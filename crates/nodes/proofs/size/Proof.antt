@@ -1,4 +1,4 @@
--- `size`: by the exponent field. Assumes nothing.
+-- `size`: by the exponent field.
 use mathlib.Core.Path.{sym, _∙_}
 use Prim.Native.Nat.{_%_, _/_}
 use lib.Dec.{leb}

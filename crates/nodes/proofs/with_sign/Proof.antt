@@ -1,4 +1,4 @@
--- `with_sign`: the size as an i32, and 0 less it. Assumes nothing.
+-- `with_sign`: the size as an i32, and 0 less it.
 use mathlib.Core.Path.{_≡_, sym, ap, _∙_, subst}
 use mathlib.Core.Bool.{Bool}
 use Prim.Native.Nat.{ℕ, zero, suc, _<_, _^_}

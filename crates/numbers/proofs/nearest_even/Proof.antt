@@ -1,4 +1,4 @@
--- `nearest_even`: the quotient, settled by what is left over. Assumes nothing.
+-- `nearest_even`: the quotient, settled by what is left over.
 use borrow.Author.Needs.{needs}
 use Prim.Native.Nat.{_-_, _*_, _/_}
 use mathlib.Core.Path.{sym, ap, _∙_}

@@ -1,4 +1,4 @@
--- `nearest_shifted`: the shifts are a division and a product by 2 to the power k. Assumes nothing.
+-- `nearest_shifted`: the shifts are a division and a product by 2 to the power k.
 use borrow.Author.Needs.{needs}
 use Prim.Native.Nat.{ℕ, _-_, _*_, _/_, _%_, _^_, _<_}
 use mathlib.Core.Path.{_≡_, _∙_}

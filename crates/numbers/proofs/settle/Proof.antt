@@ -1,4 +1,4 @@
--- `settle`: below, above and at the tie. Assumes nothing.
+-- `settle`: below, above and at the tie.
 use borrow.Author.Needs.{needs}
 use Prim.Native.Nat.{_*_}
 use native.Mathlib.Omega.{arith}

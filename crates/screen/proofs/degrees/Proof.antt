@@ -1,4 +1,4 @@
--- `degrees`: one division. Assumes nothing.
+-- `degrees`: one division.
 use mathlib.Core.Path.{ap, _∙_}
 use lib.IntN.{pos}
 use lib.Ieee.{Float, binary64, ofInt, ofBits, div}

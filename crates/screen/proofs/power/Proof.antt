@@ -1,4 +1,4 @@
--- `power`: the shift is a power of two, which a float counts without a gap. Assumes nothing.
+-- `power`: the shift is a power of two, which a float counts without a gap.
 use mathlib.Core.Path.{sym, ap, subst}
 use Prim.Native.Nat.{ℕ, _^_, _≤_}
 use native.Mathlib.Omega.{arith}

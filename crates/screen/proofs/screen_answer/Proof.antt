@@ -1,4 +1,4 @@
--- `screen_answer`: the limits, then the lookup's answer. Assumes nothing.
+-- `screen_answer`: the limits, then the lookup's answer.
 use mathlib.Core.Path.{_≡_, sym, ap, _∙_}
 use mathlib.Core.Bool.{Bool, true, false, cond, _&&_}
 use Prim.Native.Nat.{ℕ, _≤_}

@@ -1,4 +1,4 @@
--- `screen_record`: the degrees beside the shifts, or five times +0. Assumes nothing.
+-- `screen_record`: the degrees beside the shifts, or five times +0.
 use mathlib.Core.Path.{_≡_, sym, ap, _∙_}
 use lib.Ieee.{Float, ofBits}
 use mir.Syntax.{w64}

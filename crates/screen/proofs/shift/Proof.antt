@@ -1,4 +1,4 @@
--- `shift`: one product. Assumes nothing.
+-- `shift`: one product.
 use mathlib.Core.Path.{ap, _∙_}
 use lib.Ieee.{Float, binary64, ofInt, mul}
 use mir.Syntax.{w64}

@@ -1,4 +1,4 @@
--- `shown_shift`: the shift, or +0. Assumes nothing.
+-- `shown_shift`: the shift, or +0.
 use mathlib.Core.Path.{ap, _∙_}
 use lib.Ieee.{ofBits}
 use mir.Syntax.{w64}

@@ -1,4 +1,4 @@
--- `text::put_digits` meets its contract: n falls. Assumes nothing.
+-- `text::put_digits` meets its contract: n falls.
 use Prim.Native.Nat.{_+_, _/_, _%_, _≤_, _^_}
 use mathlib.Core.Path.{_≡_, refl, sym, ap, _∙_}
 use mathlib.Core.List.{List, [], _∷_}

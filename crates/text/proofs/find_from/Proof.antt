@@ -1,4 +1,4 @@
--- `text::find_from` meets its contract. Assumes nothing.
+-- `text::find_from` meets its contract.
 use Prim.Native.Nat.{_≤_, _+_, _-_, suc}
 use mathlib.Core.Path.{_≡_, refl, sym, ap, _∙_}
 use native.Mathlib.Omega.{arith}

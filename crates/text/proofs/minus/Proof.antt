@@ -1,4 +1,4 @@
--- `text::minus` meets its contract. Assumes nothing.
+-- `text::minus` meets its contract.
 use borrow.Author.Needs.{needs}
 use Prim.Native.Nat.{ℕ, zero, suc, _≤_}
 use mathlib.Core.Path.{_≡_, refl, sym, ap, _∙_}

@@ -1,4 +1,4 @@
--- `text::part_count` meets its contract. Assumes nothing.
+-- `text::part_count` meets its contract.
 use Prim.Native.Nat.{_≤_, _+_, _-_, suc}
 use mathlib.Core.Path.{_≡_, refl, sym, ap, _∙_}
 use mathlib.Core.Logic.{⊎-elim}

@@ -1,4 +1,4 @@
--- `text::plus` meets its contract. Assumes nothing.
+-- `text::plus` meets its contract.
 use borrow.Author.Needs.{needs}
 use native.Mathlib.Omega.{arith}
 use mir.Syntax.{w64}

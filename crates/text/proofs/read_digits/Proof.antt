@@ -1,4 +1,4 @@
--- `text::read_digits` meets its contract. Assumes nothing.
+-- `text::read_digits` meets its contract.
 use Prim.Native.Nat.{ℕ, _≤_, _+_, _-_}
 use mathlib.Core.Path.{_≡_, refl, sym, ap, _∙_}
 use native.Mathlib.Omega.{arith}

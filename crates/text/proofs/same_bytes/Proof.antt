@@ -1,4 +1,4 @@
--- `text::same_bytes` meets its contract. Assumes nothing.
+-- `text::same_bytes` meets its contract.
 use Prim.Native.Nat.{_≤_, _+_, _-_}
 use mathlib.Core.Path.{_≡_, refl, sym, ap, _∙_}
 use native.Mathlib.Omega.{arith}
