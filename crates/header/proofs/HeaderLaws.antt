@@ -1,6 +1,6 @@
 -- What the code meets once the lines of a text are read, and once a group is judged for writing.
 use Prim.Native.Nat.{ℕ, _+_, _<_, _≤_}
-use mathlib.Core.Path.{_≡_, refl, sym, ap, _∙_}
+use mathlib.Core.Path.{_≡_, sym, ap, _∙_}
 use mathlib.Core.Bool.{Bool, cond}
 use mathlib.Core.List.{List, [], _∷_, _++_}
 use native.Mathlib.Omega.{arith}
@@ -17,7 +17,7 @@ use Rattle.group.specs.declared.Verdict.{Verdict}
 use Rattle.group.specs.declared.Verdict.the-variants.{Accepted, Refused}
 use Rattle.judge.specs.Judge.{judged}
 use Rattle.header.specs.declared.Reading.{Reading}
-use Rattle.header.specs.Whole.{Header, stopped, header, readLines, groupOf, refusedReading, acceptedReading, linesReading, headOfGroup, headerText}
+use Rattle.header.specs.Whole.{Header, stopped, header, readLines, groupOf, refusedReading, linesReading, headOfGroup, headerText}
 use Rattle.header.specs.Header.{verdictReading, judgedReading, readHeader, writtenIf, written, bytesIf, bytesAfter}
 
 module _ (t : List ℕ) (q : Reading) (e : q ≡ linesReading (readLines t)) where

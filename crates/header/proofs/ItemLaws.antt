@@ -5,8 +5,8 @@ use mathlib.Core.List.{List, [], _∷_, _++_, append-assoc, append-nil}
 use native.Mathlib.Decide.{decLt}
 use native.Mathlib.Omega.{arith}
 use native.Mathlib.Numerals.{add-one}
-use lib.ListN.{length, length-replicate, take, drop, set, replicate, length-append, length-drop, length-set, take-append-drop}
-use lib.Seq.{drop-drop, drop-set-lt, take-suc-set, take-all, length-take-le}
+use lib.ListN.{length, length-replicate, take, drop, set, replicate, length-drop, length-set, take-append-drop}
+use lib.Seq.{drop-drop, drop-set-lt, take-suc-set, length-take-le}
 use Rattle.text.specs.Parts.{split, join, upTo}
 use Rattle.text.proofs.PartLaws.{Free, split-lead, split-cut, split-last, first-part, upTo-le}
 use Rattle.group.specs.declared.Refusal.{Refusal}

@@ -1,17 +1,16 @@
 -- The three kinds of line are written and read again, and read and written again.
-use Prim.Native.Nat.{ℕ, suc, _+_, _<_, _≤_}
-use mathlib.Core.Path.{_≡_, refl, sym, ap, _∙_}
-use mathlib.Core.Bool.{Bool, true, false, _&&_}
-use mathlib.Core.List.{List, [], _∷_, _++_, map}
+use Prim.Native.Nat.{ℕ, _+_, _<_}
+use mathlib.Core.Path.{_≡_, refl, sym, ap}
+use mathlib.Core.Bool.{true, _&&_}
+use mathlib.Core.List.{List, [], _∷_, _++_}
 use mathlib.Core.Option.{Option, none, some}
 use native.Mathlib.Omega.{arith}
-use lib.ListN.{length, getD, drop}
-use lib.IntN.{ℤ, pos, natAbs}
+use lib.ListN.{length, drop}
+use lib.IntN.{ℤ, pos}
 use borrow.Author.Tests.{ne-eqb}
 use Rattle.numbers.proofs.Bools.{and-left, and-right, both}
-use Rattle.text.specs.Decimal.{intText}
-use Rattle.text.proofs.PartLaws.{Free, AllFree}
-use Rattle.group.specs.Limits.{nameFits, headNumbersFit, originFits, countsFit, headFits, rampFits, gridFits}
+use Rattle.text.proofs.PartLaws.{Free}
+use Rattle.group.specs.Limits.{nameFits, headNumbersFit, originFits, countsFit, rampFits, gridFits}
 use Rattle.group.specs.declared.Name.{Name}
 use Rattle.group.specs.declared.Unit as U
 use Rattle.group.specs.declared.Ramp.{Ramp}

@@ -1,6 +1,6 @@
 -- How long the text of an accepted group can be: at most 6604 bytes.
-use Prim.Native.Nat.{ℕ, zero, suc, _+_, _*_, _<_, _≤_, _^_}
-use mathlib.Core.Path.{_≡_, refl, sym, ap, subst, _∙_}
+use Prim.Native.Nat.{ℕ, suc, _+_, _*_, _<_, _≤_}
+use mathlib.Core.Path.{_≡_, sym, ap, subst}
 use mathlib.Core.Bool.{true, _&&_}
 use mathlib.Core.List.{List, [], _∷_, _++_}
 use native.Mathlib.Nat.{suc-mul}
@@ -8,7 +8,7 @@ use native.Mathlib.Omega.{arith}
 use lib.Dec.{leb}
 use lib.ListN.{length, take, getD, length-append, length-take}
 use lib.Seq.{getD-take}
-use lib.IntN.{ℤ, pos, natAbs}
+use lib.IntN.{ℤ, pos}
 use borrow.Author.Tests.{leb-true}
 use Rattle.numbers.specs.First.{every}
 use Rattle.numbers.proofs.Bools.{and-left, and-right}
@@ -16,7 +16,7 @@ use Rattle.text.specs.Decimal.{intText}
 use Rattle.text.specs.Fields.{ledInts}
 use Rattle.text.proofs.DecimalLaws.{intText-length, posText-length}
 use Rattle.text.proofs.FieldLaws.{and-parts}
-use Rattle.group.specs.Limits.{byteFits, nameFits, headNumbersFit, headFits, rampFits, originFits, countsFit, gridFits}
+use Rattle.group.specs.Limits.{byteFits, nameFits, headNumbersFit, headFits, rampFits, gridFits}
 use Rattle.group.specs.Record.{noRamp, noGrid, rampAt, gridAt}
 use Rattle.group.specs.declared.Name.{Name}
 use Rattle.group.specs.declared.Unit as U
@@ -35,7 +35,7 @@ use Rattle.header.specs.Whole.{headOfGroup, headerText}
 use Rattle.header.specs.Writing.{Wide}
 use Rattle.header.proofs.LimitLaws.{head-sizes, ramp-sizes, origin-sizes, counts-sizes}
 use Rattle.header.proofs.KindLaws.{grid-name, grid-numbers}
-use Rattle.header.proofs.WriteLaws.{originInts, countInts, ramp-pieces, grid-pieces, head-pieces}
+use Rattle.header.proofs.WriteLaws.{originInts, countInts, grid-pieces, head-pieces}
 
 -- ---- the parts of a line
 

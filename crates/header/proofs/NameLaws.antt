@@ -1,22 +1,22 @@
 -- Laws of names and units: as text and as records.
 use Prim.Native.Nat.{ℕ, zero, suc, _+_, _-_, _<_, _≤_}
-use mathlib.Core.Path.{_≡_, refl, sym, ap, subst, _∙_}
+use mathlib.Core.Path.{_≡_, refl, sym, ap, _∙_}
 use mathlib.Core.Bool.{Bool, true, false, not, cond, _&&_, _||_, and-false}
 use mathlib.Core.List.{List, [], _∷_, _++_}
-use mathlib.Core.Option.{Option, none, some}
+use mathlib.Core.Option.{none, some}
 use native.Mathlib.Decide.{decLt}
 use native.Mathlib.Numerals.{add-one}
 use native.Mathlib.Omega.{arith}
-use lib.Dec.{leb, ltb, eqb}
+use lib.Dec.{leb, eqb}
 use lib.ListN.{length, take, drop, getD, set, replicate, length-replicate, length-drop, drop-of-length-le, take-append-drop, List·getD-append}
 use lib.Seq.{drop-cons, take-at, take-suc, set-at, length-take-le, append-snoc, getD-take, getD-drop, getD-append-add, ext-getD}
 use borrow.Author.Tests.{le-leb, lt-leb, leb-true, lt-ltb, le-ltb, eqb-true, ne-eqb}
 use Rattle.numbers.specs.First.{every}
-use Rattle.numbers.proofs.FirstLaws.{Passed, every-at, passed-every}
-use Rattle.numbers.proofs.Bools.{and-left, and-right, or-no}
+use Rattle.numbers.proofs.FirstLaws.{every-at, passed-every}
+use Rattle.numbers.proofs.Bools.{and-left, and-right}
 use Rattle.text.specs.Fields.{same}
 use Rattle.text.proofs.PartLaws.{Free}
-use Rattle.text.proofs.FieldLaws.{false-not-true, and-parts, same-refl, same-true}
+use Rattle.text.proofs.FieldLaws.{false-not-true, and-parts, same-true}
 use Rattle.group.specs.Limits.{nameByte, byteFits, nameFits, nameBlank}
 use Rattle.group.specs.declared.Name.{Name}
 use Rattle.group.specs.declared.Unit as U
@@ -146,9 +146,6 @@ module _ (n : Name) (room : length (n .bytes) ≡ 24) where
     where
       zero-at : (i : ℕ) → n .len + i < 24 → getD (n .bytes) (n .len + i) 0 ≡ 0
       zero-at i h = eqb-true _ _ (sym (byte-behind n (n .len + i) (omega arith)) ∙ every-at (byteFits n) 24 (n .len + i) e h)
-
-  pub fits-length : nameFits n ≡ true → length (nameText n) ≤ 24
-  fits-length e = let l = len-of e in let k = length-take-le (n .len) (n .bytes) (omega arith) in omega arith
 
   pub fits-isName : nameFits n ≡ true → isName (nameText n) ≡ true
   fits-isName e =

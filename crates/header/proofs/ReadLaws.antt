@@ -1,8 +1,8 @@
 -- What the code meets on the three kinds of line, in terms of what its callees answer.
-use Prim.Native.Nat.{ℕ, suc}
+use Prim.Native.Nat.{ℕ}
 use mathlib.Core.Path.{_≡_, refl, sym, ap, _∙_}
 use mathlib.Core.Bool.{Bool, true, false, cond, _&&_}
-use mathlib.Core.List.{List, [], _∷_}
+use mathlib.Core.List.{List, []}
 use mathlib.Core.Option.{Option, none, some}
 use native.Mathlib.Omega.{arith}
 use mir.Syntax.{w64}
@@ -11,9 +11,9 @@ use mir.Facts.{toZ-ofZ}
 use lib.Dec.{eqb}
 use lib.ListN.{length, getD, drop}
 use lib.Seq.{getD-drop}
-use lib.IntN.{ℤ, pos}
+use lib.IntN.{ℤ}
 use Rattle.text.specs.Parts.{split, fieldOf}
-use Rattle.text.specs.Fields.{same, fourAt}
+use Rattle.text.specs.Fields.{same}
 use Rattle.text.specs.declared.Four.{Four}
 use Rattle.text.specs.declared.Four.the-variants.{Whole}
 use Rattle.text.proofs.PartLaws.{field-split}

@@ -1,13 +1,13 @@
 -- Both round trips of a whole header: accepted text is written back as the same bytes, and an accepted group's text reads back as
 -- that group.
 use Prim.Native.Nat.{ℕ, zero, suc, _+_, _-_, _<_, _≤_}
-use mathlib.Core.Path.{_≡_, refl, sym, ap, subst, _∙_}
+use mathlib.Core.Path.{_≡_, refl, sym, ap, _∙_}
 use mathlib.Core.Bool.{Bool, true, false, not, _&&_}
 use mathlib.Core.List.{List, [], _∷_, _++_, append-nil}
 use native.Mathlib.Omega.{arith}
-use lib.Dec.{leb, eqb}
+use lib.Dec.{eqb}
 use lib.ListN.{length, take, drop, getD, replicate, length-replicate, length-drop, getD-replicate, take-append-drop}
-use lib.Seq.{drop-cons, take-suc, take-at, length-take-le, getD-drop, ext-getD}
+use lib.Seq.{take-at, length-take-le, getD-drop, ext-getD}
 use lib.IntN.{ℤ, pos, negsuc, natAbs}
 use borrow.Author.Tests.{le-leb, eqb-true}
 use Rattle.numbers.specs.Order.{within}
@@ -15,22 +15,21 @@ use Rattle.numbers.proofs.OrderLaws.{within-size}
 use Rattle.text.specs.Parts.{split, join}
 use Rattle.text.proofs.PartLaws.{join-split}
 use Rattle.text.proofs.FieldLaws.{and-parts}
-use Rattle.group.specs.Limits.{nameFits, nameBlank, headNumbersFit, headFits, rampFits, rampBlank, gridFits, gridBlank}
+use Rattle.group.specs.Limits.{nameBlank, rampFits, rampBlank, gridBlank}
 use Rattle.group.specs.Record.{noRamp, noGrid, rampAt, gridAt}
-use Rattle.group.specs.declared.Refusal.{Refusal}
 use Rattle.group.specs.declared.Verdict.{Verdict}
 use Rattle.group.specs.declared.Verdict.the-variants.{Accepted, Refused}
 use Rattle.group.specs.declared.Ramp.{Ramp}
 use Rattle.group.specs.declared.Grid.{Grid}
 use Rattle.group.specs.declared.Group.{Group}
-use Rattle.judge.specs.Judge.{judged, unusedRamp, unusedGrid, Sound}
+use Rattle.judge.specs.Judge.{judged}
 use Rattle.judge.proofs.Accepted.{accepted}
 use Rattle.header.specs.declared.Head.{Head}
 use Rattle.header.specs.declared.Reading.{Reading}
 use Rattle.group.specs.Blank.{blankRamp, blankGrid}
 use Rattle.header.specs.Items.{Line, Items, refused, items, readItems, closed, entries}
 use Rattle.header.specs.Lines.{headLine, headText, rampLine, rampText, gridLine, gridText}
-use Rattle.header.specs.Whole.{Header, stopped, header, ending, afterGrids, afterRamps, afterHead, readLines, groupOf, refusedReading, acceptedReading, headOfGroup, linesText, headerText}
+use Rattle.header.specs.Whole.{Header, stopped, header, ending, afterGrids, afterRamps, afterHead, readLines, groupOf, acceptedReading, headOfGroup, linesText, headerText}
 use Rattle.header.specs.Header.{verdictReading, judgedReading, readHeader}
 use Rattle.header.proofs.ItemLaws.{All, read-closed, closed-read, count-read}
 use Rattle.header.proofs.NameLaws.{blank-name}

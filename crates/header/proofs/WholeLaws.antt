@@ -1,5 +1,5 @@
 -- What the code meets on a whole text, in terms of what its callees answer.
-use Prim.Native.Nat.{ℕ, zero, suc, _+_, _-_, _<_, _≤_}
+use Prim.Native.Nat.{ℕ, _+_, _-_, _<_, _≤_}
 use mathlib.Core.Path.{_≡_, refl, sym, ap, subst, _∙_}
 use mathlib.Core.Bool.{Bool, true, false, cond}
 use mathlib.Core.List.{List, [], _∷_}
@@ -7,7 +7,6 @@ use native.Mathlib.Decide.{decLt}
 use native.Mathlib.Omega.{arith}
 use lib.Dec.{eqb}
 use lib.ListN.{length, take, drop, length-drop, drop-of-length-le}
-use lib.IntN.{ℤ, natAbs}
 use Rattle.text.specs.Parts.{glue, split, upTo}
 use Rattle.text.proofs.PartLaws.{first-part}
 use Rattle.text.proofs.FieldLaws.{length-ints}

@@ -1,5 +1,4 @@
 -- What the functions that read a line answer: the verdict beside the record, which is blank after a refusal.
-use Prim.Native.Nat.{ℕ}
 use mathlib.Core.Bool.{Bool, true, false}
 use mathlib.Core.Option.{Option, none, some}
 use Rattle.group.specs.declared.Unit as U

@@ -1,8 +1,8 @@
 -- Laws of a line's fields: a keyword, and numbers that are read and written again.
-use Prim.Native.Nat.{ℕ, zero, suc, _+_, _<_, _≤_, min}
-use mathlib.Core.Path.{_≡_, refl, sym, ap, subst, _∙_}
+use Prim.Native.Nat.{ℕ, zero, suc, _+_, _<_, _≤_}
+use mathlib.Core.Path.{_≡_, refl, sym, ap, _∙_}
 use mathlib.Core.Bool.{Bool, true, false, cond, _&&_, and-false}
-use mathlib.Core.List.{List, [], _∷_, _++_, map, append-assoc, append-nil}
+use mathlib.Core.List.{List, [], _∷_, _++_, map, append-nil}
 use mathlib.Core.Option.{Option, none, some}
 use native.Mathlib.Numerals.{add-one}
 use native.Mathlib.Omega.{arith}
@@ -11,8 +11,8 @@ use lib.ListN.{length, getD, drop, drop-of-length-le}
 use lib.Seq.{drop-cons}
 use lib.IntN.{ℤ, pos, negsuc, natAbs}
 use borrow.Author.Tests.{eqb-true, eq-eqb, ne-eqb}
-use Rattle.numbers.proofs.Bools.{and-left, and-right}
-use Rattle.text.specs.Parts.{split, led, fieldOf}
+use Rattle.numbers.proofs.Bools.{and-left, and-right, untrue}
+use Rattle.text.specs.Parts.{split, fieldOf}
 use Rattle.text.specs.Decimal.{readInt, intText}
 use Rattle.text.specs.Number.{most, clamp, numberOf}
 use Rattle.text.specs.Fields.{same, fieldsOf, both, readInts, fourOf, fourAt, ledInts}
@@ -42,12 +42,8 @@ same-true (x ∷ xs) (y ∷ ys) e =
     let h : x ≡ y = eqb-true x y (and-left (eqb x y) (same xs ys) e) in
     let t : xs ≡ ys = same-true xs ys (and-right (eqb x y) (same xs ys) e) in cc
 
-bool-cases : (b : Bool) → (b ≡ true → ⊥) → b ≡ false
-bool-cases true h = absurd (h refl)
-bool-cases false h = refl
-
 pub same-false : (s t : List ℕ) → (s ≡ t → ⊥) → same s t ≡ false
-same-false s t h = bool-cases (same s t) (λ e. h (same-true s t e))
+same-false s t h = untrue (same s t) (λ e. h (same-true s t e))
 
 pub same-unequal : (s t : List ℕ) → (length s ≡ length t → ⊥) → same s t ≡ false
 same-unequal s t h = same-false s t (λ e. h (ap length e))
@@ -113,14 +109,7 @@ pub clamp-id : (z : ℤ) → natAbs z ≤ most → clamp z ≡ z
 clamp-id (pos n) h = ap pos (omega arith)
 clamp-id (negsuc n) h = ap negsuc (omega arith)
 
-pub clamp-small : (z : ℤ) (m : ℕ) → natAbs (clamp z) ≤ m → m < most → clamp z ≡ z
-clamp-small (pos n) m h l = ap pos (omega arith)
-clamp-small (negsuc n) m h l = ap negsuc (omega arith)
-
 -- ---- four fields at once
-
-four-one : (o p q : Option ℤ) → fourOf none o p q ≡ F.Malformed
-four-one o p q = refl
 
 four-two : (o p q : Option ℤ) → fourOf o none p q ≡ F.Malformed
 four-two none p q = refl

@@ -1,21 +1,18 @@
 -- What a scan of a number meets.
 use Prim.Native.Nat.{ℕ, zero, suc, _+_, _-_, _*_, _<_, _≤_, min}
-use mathlib.Core.Path.{_≡_, refl, sym, ap, subst, _∙_}
+use mathlib.Core.Path.{_≡_, refl, sym, ap, _∙_}
 use mathlib.Core.Bool.{Bool, true, false, cond}
 use mathlib.Core.List.{List, [], _∷_}
 use mathlib.Core.Option.{Option, none, some}
 use native.Mathlib.Numerals.{add-one}
 use native.Mathlib.Omega.{arith}
-use lib.Dec.{eqb, leb}
-use lib.ListN.{length, drop, getD, drop-of-length-le, length-drop}
-use lib.IntN.{ℤ, pos, negsuc, negℤ}
+use lib.ListN.{length, drop, getD, drop-of-length-le}
+use lib.IntN.{pos, negsuc, negℤ}
 use lib.Seq.{drop-cons}
 use borrow.Author.Tests.{eq-eqb, ne-eqb, le-leb, lt-leb}
 use Rattle.text.specs.Decimal.{isDigit, digitsFrom, readNat, readInt, above, below}
-use Rattle.text.specs.declared.Number.{Number}
 use Rattle.text.specs.declared.Number.the-variants.{Malformed, Whole}
 use Rattle.text.specs.Number.{most, naturalOf, numberOf}
-use Rattle.text.specs.declared.Natural.{Natural}
 use Rattle.text.specs.declared.Natural.the-variants.{Bad, Value}
 use Rattle.text.proofs.DecimalLaws.{digit-yes}
 

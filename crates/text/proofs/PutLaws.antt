@@ -1,12 +1,12 @@
 -- Laws of put, and of writers one after the other.
-use Prim.Native.Nat.{ℕ, zero, suc, _+_, _-_, _<_, _≤_, min}
-use mathlib.Core.Path.{_≡_, refl, sym, ap, subst, _∙_}
-use mathlib.Core.List.{List, [], _∷_, _++_, append-assoc, append-nil}
-use native.Mathlib.Nat.{add-zero, add-assoc}
+use Prim.Native.Nat.{ℕ, _+_, _-_, _<_, _≤_}
+use mathlib.Core.Path.{_≡_, refl, sym, ap, _∙_}
+use mathlib.Core.List.{List, [], _∷_, _++_, append-assoc}
+use native.Mathlib.Nat.{add-zero}
 use native.Mathlib.Numerals.{add-one}
 use native.Mathlib.Omega.{arith}
 use lib.ListN.{length, take, drop, set, getD, length-append, length-take, length-drop, take-append-drop}
-use lib.Seq.{length-take-le, take-suc, take-length, set-split, take-append-add, drop-append-add, take-append-seam, take-append-le, drop-append-le, drop-append-seam, take-at, drop-at, drop-drop}
+use lib.Seq.{length-take-le, take-suc, set-split, take-at, drop-at, drop-drop}
 use Rattle.text.specs.Put.{put, Wrote}
 
 pub put-nil : (at : ℕ) (out : List ℕ) → put at [] out ≡ out

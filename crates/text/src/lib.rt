@@ -25,7 +25,7 @@ pub fn find_from(s: &[u8], a: usize, c: u8) -> usize
 }
 
 // Where part k of s, parted at c, starts: behind the k-th c, or at the end.
-fn part_start(s: &[u8], k: usize, c: u8) -> usize
+pub fn part_start(s: &[u8], k: usize, c: u8) -> usize
     ensures { λ r. ⌜ r ≡ startOf c (now (s .entry)) k ⌝ }
 {
     let mut seps = k;

@@ -1,5 +1,5 @@
 -- `header::head_made` meets its contract.
-use mathlib.Core.Path.{_≡_, ap, _∙_}
+use mathlib.Core.Path.{ap, _∙_}
 use mir.Facts.{toZ-ofZ}
 use Rattle.header.specs.Lines.{counted}
 use borrow.Author.Needs.{needs}

@@ -1,11 +1,11 @@
 -- `header::name_form` meets its contract.
-use Prim.Native.Nat.{_≤_, _<_, _+_, _-_}
+use Prim.Native.Nat.{_≤_, _-_}
 use mathlib.Core.Path.{_≡_, refl, sym, ap, _∙_}
 use native.Mathlib.Omega.{arith}
 use borrow.Author.Needs.{needs}
 use borrow.Author.Tests.{not-true, not-false}
-use lib.ListN.{length, drop, getD}
-use Rattle.header.specs.Names.{nameBytes, isName}
+use lib.ListN.{length, drop}
+use Rattle.header.specs.Names.{nameBytes}
 use Rattle.header.specs.Answers.{formOf}
 use Rattle.header.proofs.NameLaws.{bytes-bad, bytes-good, bytes-end, name-empty, name-long, name-bytes}
 use Rattle.header.proofs.name_form.Statement.{statement}

@@ -1,6 +1,6 @@
 -- `header::put_unit` meets its contract.
 use Prim.Native.Nat.{_+_, _≤_}
-use mathlib.Core.Path.{_≡_, sym, subst}
+use mathlib.Core.Path.{sym, subst}
 use mathlib.Core.List.{_∷_}
 use lib.ListN.{length}
 use Rattle.text.specs.Put.{Wrote}

@@ -1,5 +1,4 @@
 -- `header::ramp_line` meets its contract.
-use Prim.Native.Nat.{ℕ}
 use mathlib.Core.Path.{_≡_, refl, sym, ap, _∙_}
 use mathlib.Core.Bool.{Bool, true, cond, _&&_}
 use mathlib.Core.List.{List, [], _∷_}
@@ -8,9 +7,8 @@ use lib.Dec.{eqb}
 use lib.IntN.{ℤ}
 use lib.ListN.{length, getD}
 use borrow.Author.Tests.{not-true, not-false}
-use Rattle.text.specs.Parts.{split, fieldOf}
+use Rattle.text.specs.Parts.{split}
 use Rattle.text.specs.Fields.{same, fourAt}
-use Rattle.text.specs.declared.Four.the-variants.{Whole}
 use Rattle.group.specs.declared.Ramp.{Ramp}
 use Rattle.header.specs.Items.{refusal, Line, bad, good}
 use Rattle.header.specs.Lines.{rampWord, rampTexts, rampFit, rampOf, rampLine}

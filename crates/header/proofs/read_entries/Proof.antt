@@ -1,5 +1,5 @@
 -- `header::read_entries` meets its contract.
-use mathlib.Core.Path.{_≡_, sym, ap, _∙_}
+use mathlib.Core.Path.{sym, ap, _∙_}
 use Rattle.group.specs.declared.Verdict.the-variants.{Accepted}
 use Rattle.header.specs.Whole.{linesReading}
 use Rattle.header.proofs.WholeLaws.{ramps-stop, grids-stop, more-stops, entries-done}

@@ -1,14 +1,11 @@
 -- `header::read_grids` meets its contract.
-use Prim.Native.Nat.{ℕ, _≤_, _-_, _+_}
-use mathlib.Core.Path.{_≡_, refl, sym, ap, _∙_}
+use Prim.Native.Nat.{_-_}
+use mathlib.Core.Path.{ap}
 use native.Mathlib.Omega.{arith}
 use borrow.Author.Needs.{needs}
-use lib.ListN.{length}
-use Rattle.group.specs.declared.Grid.{Grid}
 use Rattle.header.specs.declared.GridsRead.{GridsRead}
 use Rattle.group.specs.Blank.{blankGrid}
 use Rattle.header.specs.Lines.{gridLine}
-use Rattle.header.specs.Answers.{gridAnswer}
 use Rattle.header.proofs.ItemLaws.{Loop, loop-enters, loop-stops, loop-unclosed, loop-refuses, loop-reads, loop-leaves, end-le}
 use Rattle.header.proofs.ReadLaws.{grid-refused, grid-accepted}
 use Rattle.header.proofs.read_grids.Statement.{statement}

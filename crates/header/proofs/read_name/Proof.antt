@@ -1,12 +1,11 @@
 -- `header::read_name` meets its contract.
-use Prim.Native.Nat.{ℕ, _≤_, _<_, _+_, _-_}
-use mathlib.Core.Path.{_≡_, refl, sym, ap, _∙_}
+use Prim.Native.Nat.{ℕ, _≤_, _+_, _-_}
+use mathlib.Core.Path.{_≡_, refl, ap, _∙_}
 use mathlib.Core.List.{List, _++_}
 use native.Mathlib.Omega.{arith}
 use borrow.Author.Needs.{needs}
-use lib.ListN.{length, take, drop, getD, set, replicate}
+use lib.ListN.{length, take, getD, set, replicate}
 use lib.Seq.{take-all}
-use Rattle.header.specs.Names.{nameOf}
 use Rattle.header.proofs.NameLaws.{name-step}
 use Rattle.header.proofs.read_name.Statement.{statement}
 use Rattle.header.proofs.read_name.Tie as tie

@@ -1,14 +1,11 @@
 -- `header::read_ramps` meets its contract.
-use Prim.Native.Nat.{ℕ, _≤_, _-_, _+_}
-use mathlib.Core.Path.{_≡_, refl, sym, ap, _∙_}
+use Prim.Native.Nat.{_-_}
+use mathlib.Core.Path.{ap}
 use native.Mathlib.Omega.{arith}
 use borrow.Author.Needs.{needs}
-use lib.ListN.{length}
-use Rattle.group.specs.declared.Ramp.{Ramp}
 use Rattle.header.specs.declared.RampsRead.{RampsRead}
 use Rattle.group.specs.Blank.{blankRamp}
 use Rattle.header.specs.Lines.{rampLine}
-use Rattle.header.specs.Answers.{rampAnswer}
 use Rattle.header.proofs.ItemLaws.{Loop, loop-enters, loop-stops, loop-unclosed, loop-refuses, loop-reads, loop-leaves, end-le}
 use Rattle.header.proofs.ReadLaws.{ramp-refused, ramp-accepted}
 use Rattle.header.proofs.read_ramps.Statement.{statement}

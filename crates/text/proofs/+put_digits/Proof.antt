@@ -1,9 +1,8 @@
 -- `text::put_digits` meets its contract: n falls.
-use Prim.Native.Nat.{_+_, _/_, _%_, _≤_, _^_}
-use mathlib.Core.Path.{_≡_, refl, sym, ap, _∙_}
-use mathlib.Core.List.{List, [], _∷_}
+use Prim.Native.Nat.{_+_, _/_, _%_}
+use mathlib.Core.Path.{_≡_, sym, ap, _∙_}
+use mathlib.Core.List.{List}
 use native.Mathlib.Omega.{arith}
-use borrow.Author.Needs.{needs}
 use lib.ListN.{length, set, length-set}
 use Rattle.text.specs.Decimal.{decimal}
 use Rattle.text.specs.Put.{put}

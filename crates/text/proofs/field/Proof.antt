@@ -3,7 +3,7 @@ use Prim.Native.Nat.{ℕ, _+_, _-_}
 use mathlib.Core.Path.{_≡_, ap, _∙_}
 use native.Mathlib.Omega.{arith}
 use borrow.Author.Needs.{needs}
-use lib.ListN.{take, drop, length-drop}
+use lib.ListN.{drop, length-drop}
 use Rattle.text.specs.Parts.{startOf, upTo}
 use Rattle.text.proofs.PartLaws.{startOf-le, upTo-le}
 use Rattle.text.proofs.field.Statement.{statement}

@@ -1,9 +1,9 @@
 -- `text::find_from` meets its contract.
-use Prim.Native.Nat.{_≤_, _+_, _-_, suc}
-use mathlib.Core.Path.{_≡_, refl, sym, ap, _∙_}
+use Prim.Native.Nat.{_+_, _-_}
+use mathlib.Core.Path.{_≡_, refl}
 use native.Mathlib.Omega.{arith}
 use borrow.Author.Needs.{needs}
-use lib.ListN.{length, drop, getD}
+use lib.ListN.{length, drop}
 use Rattle.text.specs.Parts.{upTo}
 use Rattle.text.proofs.PartLaws.{upTo-here, upTo-more, upTo-end}
 use Rattle.text.proofs.find_from.Statement.{statement}

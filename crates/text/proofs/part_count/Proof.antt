@@ -1,10 +1,10 @@
 -- `text::part_count` meets its contract.
-use Prim.Native.Nat.{_≤_, _+_, _-_, suc}
-use mathlib.Core.Path.{_≡_, refl, sym, ap, _∙_}
+use Prim.Native.Nat.{_≤_, _+_, _-_}
+use mathlib.Core.Path.{_≡_}
 use mathlib.Core.Logic.{⊎-elim}
 use native.Mathlib.Omega.{arith}
 use borrow.Author.Needs.{needs}
-use lib.ListN.{length, drop, getD}
+use lib.ListN.{length, drop}
 use Rattle.text.specs.Parts.{split}
 use Rattle.text.proofs.PartLaws.{count-sep, count-other, count-end}
 use Rattle.text.proofs.part_count.Statement.{statement}

@@ -1,11 +1,10 @@
 -- `text::part_start` meets its contract.
-use Prim.Native.Nat.{_≤_, _+_, _-_, suc}
-use mathlib.Core.Path.{_≡_, refl, sym, ap, _∙_}
+use Prim.Native.Nat.{_≤_, _+_, _-_}
+use mathlib.Core.Path.{_≡_, ap}
 use mathlib.Core.Logic.{⊎-elim}
 use native.Mathlib.Omega.{arith}
-use native.Mathlib.Nat.{zero-add}
 use borrow.Author.Needs.{needs}
-use lib.ListN.{length, drop, getD}
+use lib.ListN.{length, drop}
 use Rattle.text.specs.Parts.{startOf}
 use Rattle.text.proofs.PartLaws.{startOf-sep, startOf-other, startOf-end, startOf-zero}
 use Rattle.text.proofs.part_start.Statement.{statement}

@@ -1,11 +1,10 @@
 -- `text::put_counts` meets its contract.
 use Prim.Native.Nat.{ℕ, _+_, _≤_}
-use mathlib.Core.Path.{_≡_, sym, subst}
-use mathlib.Core.List.{List, [], _∷_, _++_}
-use native.Mathlib.Omega.{arith}
+use mathlib.Core.Path.{sym, subst}
+use mathlib.Core.List.{List, _∷_, _++_}
 use lib.ListN.{length}
 use lib.IntN.{pos}
-use Rattle.text.specs.Decimal.{decimal, intText}
+use Rattle.text.specs.Decimal.{intText}
 use Rattle.text.specs.Put.{Wrote}
 use Rattle.text.proofs.FieldLaws.{four-led}
 use Rattle.text.proofs.PutLaws.{room-first, room-next, wrote-both}

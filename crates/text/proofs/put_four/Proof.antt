@@ -1,6 +1,6 @@
 -- `text::put_four` meets its contract.
 use Prim.Native.Nat.{ℕ, _+_, _≤_}
-use mathlib.Core.Path.{_≡_, sym, ap, subst, _∙_}
+use mathlib.Core.Path.{sym, subst}
 use mathlib.Core.List.{List, _∷_, _++_}
 use mir.Facts.{toZ-ofZ}
 use lib.ListN.{length}

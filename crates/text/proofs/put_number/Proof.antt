@@ -1,5 +1,5 @@
 -- `text::put_number` meets its contract.
-use Prim.Native.Nat.{ℕ, suc, _≤_, _<_, _+_}
+use Prim.Native.Nat.{ℕ, _+_}
 use mathlib.Core.Path.{_≡_, refl, sym, ap, _∙_}
 use mathlib.Core.List.{List, [], _∷_}
 use native.Mathlib.Omega.{arith}
@@ -10,7 +10,7 @@ use lib.Signed.{ltZ}
 use Rattle.text.specs.Decimal.{decimal, intText}
 use Rattle.text.specs.Put.{put}
 use Rattle.text.proofs.DecimalLaws.{intText-below, intText-above}
-use Rattle.text.proofs.PutLaws.{put-one, put-two, put-more, length-put}
+use Rattle.text.proofs.PutLaws.{put-one, put-two, put-more}
 use borrow.Author.Needs.{needs}
 use Rattle.text.proofs.put_number.Statement.{statement}
 use Rattle.text.proofs.put_number.Tie as tie

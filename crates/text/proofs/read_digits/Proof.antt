@@ -3,7 +3,7 @@ use Prim.Native.Nat.{ℕ, _≤_, _+_, _-_}
 use mathlib.Core.Path.{_≡_, refl, sym, ap, _∙_}
 use native.Mathlib.Omega.{arith}
 use borrow.Author.Needs.{needs}
-use lib.ListN.{length, drop, getD}
+use lib.ListN.{length, drop}
 use Rattle.text.specs.Decimal.{digitsFrom}
 use Rattle.text.specs.Number.{most, naturalOf}
 use Rattle.text.proofs.NumberLaws.{digits-low, digits-high, digits-step, digits-end}

@@ -1,9 +1,9 @@
 -- `text::same_bytes` meets its contract.
-use Prim.Native.Nat.{_≤_, _+_, _-_}
-use mathlib.Core.Path.{_≡_, refl, sym, ap, _∙_}
+use Prim.Native.Nat.{_≤_, _-_}
+use mathlib.Core.Path.{_≡_, refl, sym, _∙_}
 use native.Mathlib.Omega.{arith}
 use borrow.Author.Needs.{needs}
-use lib.ListN.{length, drop, getD}
+use lib.ListN.{length, drop}
 use Rattle.text.specs.Fields.{same}
 use Rattle.text.proofs.FieldLaws.{same-unequal, same-step, same-differ, same-end}
 use Rattle.text.proofs.same_bytes.Statement.{statement}

@@ -1,0 +1,86 @@
+-- `put_entries` meets its contract.
+use Prim.Native.Nat.{_-_}
+use mathlib.Core.Path.{refl}
+use mathlib.Core.List.{[], _∷_}
+use borrow.Author.Needs.{needs}
+use native.Mathlib.Omega.{arith}
+use lib.ListN.{getD}
+use Rattle.inforce.specs.InForce.{noGrid}
+use Rattle.layout.proofs.ListLaws.{Run, run-none, run-length, run-more, run-all}
+use Rattle.layout.proofs.NumberLaws.{told}
+use Rattle.capi.specs.InForce.{entryNumbers}
+use Rattle.capi.proofs.put_entries.Statement.{statement}
+use Rattle.capi.proofs.put_entries.Tie as tie
+
+abbrev Inv-loop : tie.InvT-loop
+Inv-loop out₀ entries i₀ out i = Run (λ k. entryNumbers (getD entries k noGrid)) 64 out₀ 2 i out
+
+abbrev μ-loop : tie.MeasureT-loop
+μ-loop out₀ entries i₀ out i = 64 - i
+
+loop-holds : tie.Need-loop-holds Inv-loop μ-loop
+loop-holds c = run-none _ 64 _ 2
+
+mul-e : tie.Need-mul-e Inv-loop μ-loop
+mul-e c = search needs
+
+array-copy-out-e : tie.Need-array-copy-out-e Inv-loop μ-loop
+array-copy-out-e c = search needs
+
+as-stored-requires : tie.Need-as-stored-requires Inv-loop μ-loop
+as-stored-requires c κs = search needs
+
+mul-put-numbers : tie.Need-mul-put-numbers Inv-loop μ-loop
+mul-put-numbers c = search needs
+
+add-put-numbers : tie.Need-add-put-numbers Inv-loop μ-loop
+add-put-numbers c = search needs
+
+slice-aggregate-put-numbers : tie.Need-slice-aggregate-put-numbers Inv-loop μ-loop
+slice-aggregate-put-numbers c = search needs
+
+put-numbers-requires : tie.Need-put-numbers-requires Inv-loop μ-loop
+put-numbers-requires c κs =
+    let e = run-length _ 64 _ 2 _ _ (c .before .before .before .before .before .before .loop .inv) in
+    omega (arith, c .before .before .before .before .before .before .before .pre)
+
+add-i : tie.Need-add-i Inv-loop μ-loop
+add-i c = search needs
+
+loop-less : tie.Need-loop-less Inv-loop μ-loop
+loop-less c = search needs
+
+loop-again : tie.Need-loop-again Inv-loop μ-loop
+loop-again c =
+    let t = c .before .before .before .before .struct-told .given in
+    let grid = told (c .before .before .before .before .before .as-stored .ok) (c .before .before .before .before .before .as-stored .ensures) in
+    let lon = told (t .1 .0 .1 .1 .0 .1) refl in
+    let lat = told (t .1 .1 .0 .1 .1 .0 .1) refl in
+    run-more _ 3 64 _ 2 _ _ _ _ (λ k. refl) (c .before .before .before .before .before .before .before .before .loop .inv) (c .before .before .before .before .before .before .before .loop-test .taken) (c .before .put-numbers .ensures)
+    (λ i. grid i ∷ lon i ∷ lat i ∷ [])
+
+same-length : tie.Need-same-length Inv-loop μ-loop
+same-length c = run-length _ 64 _ 2 _ _ (c .before .loop .inv)
+
+returns : tie.Need-returns Inv-loop μ-loop
+returns c = run-all _ 64 _ 2 _ _ (c .before .loop .inv) (c .loop-test .left)
+
+pub put-entries-spec : {M : Type 1} → statement M
+put-entries-spec =
+    tie.close
+    (tie.spec
+    Inv-loop
+    μ-loop
+    loop-holds
+    mul-e
+    array-copy-out-e
+    as-stored-requires
+    mul-put-numbers
+    add-put-numbers
+    slice-aggregate-put-numbers
+    put-numbers-requires
+    add-i
+    loop-less
+    loop-again
+    same-length
+    returns)

@@ -1,0 +1,6 @@
+-- The laws of the crate `layout`.
+pub mod ListLaws
+pub mod NumberLaws
+pub mod NameLaws
+pub mod GroupLaws
+pub mod BackLaws

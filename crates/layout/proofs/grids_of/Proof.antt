@@ -1,0 +1,61 @@
+-- `grids_of` meets its contract.
+use Prim.Native.Nat.{_-_}
+use mathlib.Core.Path.{refl}
+use borrow.Author.Needs.{needs}
+use Rattle.group.specs.Record.{noGrid}
+use Rattle.layout.specs.Layout.{gridOf}
+use Rattle.layout.proofs.ListLaws.{Filled, filled-none, filled-more, filled-all}
+use Rattle.layout.proofs.grids_of.Statement.{statement}
+use Rattle.layout.proofs.grids_of.Tie as tie
+
+abbrev Inv-loop : tie.InvT-loop
+Inv-loop numbers names grids₀ i₀ grids i = Filled (gridOf numbers names) noGrid 64 i grids
+
+abbrev μ-loop : tie.MeasureT-loop
+μ-loop numbers names grids₀ i₀ grids i = 64 - i
+
+blank-grid-requires : tie.Need-blank-grid-requires Inv-loop μ-loop
+blank-grid-requires c κs = search needs
+
+loop-holds : tie.Need-loop-holds Inv-loop μ-loop
+loop-holds c = filled-none _ noGrid 64 _ refl
+
+grid-of-requires : tie.Need-grid-of-requires Inv-loop μ-loop
+grid-of-requires c κs = search needs
+
+mul-grids : tie.Need-mul-grids Inv-loop μ-loop
+mul-grids c = search needs
+
+array-set-from-grids : tie.Need-array-set-from-grids Inv-loop μ-loop
+array-set-from-grids c = search needs
+
+add-i : tie.Need-add-i Inv-loop μ-loop
+add-i c = search needs
+
+loop-less : tie.Need-loop-less Inv-loop μ-loop
+loop-less c = search needs
+
+loop-again : tie.Need-loop-again Inv-loop μ-loop
+loop-again c =
+    filled-more _ noGrid 64 _ _ _ (c .before .before .loop .inv) (c .before .loop-test .taken) (c .grid-of .ensures)
+
+returns : tie.Need-returns Inv-loop μ-loop
+returns c =
+    let s = c .before .before .before .before .args in
+    filled-all (gridOf (s .numbers .now) (s .names .now)) noGrid 64 _ _ (c .before .loop .inv) (c .loop-test .left)
+
+pub grids-of-spec : {M : Type 1} → statement M
+grids-of-spec =
+    tie.close
+    (tie.spec
+    Inv-loop
+    μ-loop
+    blank-grid-requires
+    loop-holds
+    grid-of-requires
+    mul-grids
+    array-set-from-grids
+    add-i
+    loop-less
+    loop-again
+    returns)

@@ -1,0 +1,46 @@
+-- `head_numbers` meets its contract.
+use mathlib.Core.List.{[], _∷_}
+use Rattle.layout.proofs.NumberLaws.{told}
+use borrow.Author.Needs.{needs}
+use Rattle.layout.proofs.head_numbers.Statement.{statement}
+use Rattle.layout.proofs.head_numbers.Tie as tie
+
+as-stored-requires : tie.Need-as-stored-requires
+as-stored-requires c κs = search needs
+
+unit-number-requires : tie.Need-unit-number-requires
+unit-number-requires c κs = search needs
+
+as-stored-requires-2 : tie.Need-as-stored-requires-2
+as-stored-requires-2 c κs = search needs
+
+as-stored-requires-3 : tie.Need-as-stored-requires-3
+as-stored-requires-3 c κs = search needs
+
+as-stored-requires-4 : tie.Need-as-stored-requires-4
+as-stored-requires-4 c κs = search needs
+
+as-stored-requires-5 : tie.Need-as-stored-requires-5
+as-stored-requires-5 c κs = search needs
+
+returns : tie.Need-returns
+returns c =
+    let len = told (c .before .before .before .before .before .as-stored .ok) (c .before .before .before .before .before .as-stored .ensures) in
+    let unit = told (c .before .before .before .before .unit-number .ok) (c .before .before .before .before .unit-number .ensures) in
+    let quantum = told (c .before .before .before .as-stored2 .ok) (c .before .before .before .as-stored2 .ensures) in
+    let parameters = told (c .before .before .as-stored3 .ok) (c .before .before .as-stored3 .ensures) in
+    let ramps = told (c .before .as-stored4 .ok) (c .before .as-stored4 .ensures) in
+    let grids = told (c .as-stored5 .ok) (c .as-stored5 .ensures) in
+    λ i. len i ∷ unit i ∷ quantum i ∷ parameters i ∷ ramps i ∷ grids i ∷ []
+
+pub head-numbers-spec : {M : Type 1} → statement M
+head-numbers-spec =
+    tie.close
+    (tie.spec
+    as-stored-requires
+    unit-number-requires
+    as-stored-requires-2
+    as-stored-requires-3
+    as-stored-requires-4
+    as-stored-requires-5
+    returns)

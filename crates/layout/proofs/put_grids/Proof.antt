@@ -1,0 +1,83 @@
+-- `put_grids` meets its contract.
+use Prim.Native.Nat.{_-_}
+use mathlib.Core.Path.{_≡_, refl, sym, ap}
+use borrow.Author.Needs.{needs}
+use native.Mathlib.Omega.{arith}
+use lib.ListN.{length, getD}
+use Rattle.group.specs.Record.{noGrid}
+use Rattle.layout.specs.Layout.{gridNumbers}
+use Rattle.layout.proofs.ListLaws.{Run, run-none, run-length, run-more, run-all}
+use Rattle.layout.proofs.put_grids.Statement.{statement}
+use Rattle.layout.proofs.put_grids.Tie as tie
+
+abbrev Inv-loop : tie.InvT-loop
+Inv-loop out₀ grids i₀ out i = Run (λ k. gridNumbers (getD grids k noGrid)) 64 out₀ 38 i out
+
+abbrev μ-loop : tie.MeasureT-loop
+μ-loop out₀ grids i₀ out i = 64 - i
+
+loop-holds : tie.Need-loop-holds Inv-loop μ-loop
+loop-holds c = run-none _ 64 _ 38
+
+mul-g : tie.Need-mul-g Inv-loop μ-loop
+mul-g c = search needs
+
+array-copy-out-g : tie.Need-array-copy-out-g Inv-loop μ-loop
+array-copy-out-g c = search needs
+
+grid-numbers-requires : tie.Need-grid-numbers-requires Inv-loop μ-loop
+grid-numbers-requires c κs = search needs
+
+mul-put-numbers : tie.Need-mul-put-numbers Inv-loop μ-loop
+mul-put-numbers c = search needs
+
+add-put-numbers : tie.Need-add-put-numbers Inv-loop μ-loop
+add-put-numbers c = search needs
+
+slice-aggregate-put-numbers : tie.Need-slice-aggregate-put-numbers Inv-loop μ-loop
+slice-aggregate-put-numbers c = sym (ap length (c .before .before .grid-numbers .ensures))
+
+put-numbers-requires : tie.Need-put-numbers-requires Inv-loop μ-loop
+put-numbers-requires c κs =
+    let l = c .before .before .before .before .before .loop in
+    let e = run-length _ 64 _ 38 _ _ (l .inv) in
+    let n : length (c .before .before .grid-numbers .result) ≡ 9 = ap length (c .before .before .grid-numbers .ensures) in
+    omega (arith, c .before .before .before .before .before .before .pre)
+
+add-i : tie.Need-add-i Inv-loop μ-loop
+add-i c = search needs
+
+loop-less : tie.Need-loop-less Inv-loop μ-loop
+loop-less c = search needs
+
+loop-again : tie.Need-loop-again Inv-loop μ-loop
+loop-again c =
+    let l = c .before .before .before .before .before .before .before .loop in
+    run-more _ 9 64 _ 38 _ _ _ _ (λ k. refl) (l .inv) (c .before .before .before .before .before .before .loop-test .taken) (c .before .put-numbers .ensures)
+    (c .before .before .before .before .grid-numbers .ensures)
+
+same-length : tie.Need-same-length Inv-loop μ-loop
+same-length c = run-length _ 64 _ 38 _ _ (c .before .loop .inv)
+
+returns : tie.Need-returns Inv-loop μ-loop
+returns c = run-all _ 64 _ 38 _ _ (c .before .loop .inv) (c .loop-test .left)
+
+pub put-grids-spec : {M : Type 1} → statement M
+put-grids-spec =
+    tie.close
+    (tie.spec
+    Inv-loop
+    μ-loop
+    loop-holds
+    mul-g
+    array-copy-out-g
+    grid-numbers-requires
+    mul-put-numbers
+    add-put-numbers
+    slice-aggregate-put-numbers
+    put-numbers-requires
+    add-i
+    loop-less
+    loop-again
+    same-length
+    returns)

@@ -1,0 +1,85 @@
+-- `put_ramps` meets its contract.
+use Prim.Native.Nat.{_-_}
+use mathlib.Core.Path.{refl}
+use borrow.Author.Needs.{needs}
+use native.Mathlib.Omega.{arith}
+use mathlib.Core.List.{[], _∷_}
+use lib.ListN.{getD}
+use Rattle.layout.proofs.ListLaws.{Run, run-none, run-length, run-more, run-all}
+use Rattle.layout.proofs.NumberLaws.{told}
+use Rattle.group.specs.Record.{noRamp}
+use Rattle.layout.specs.Layout.{rampNumbers}
+use Rattle.layout.proofs.put_ramps.Statement.{statement}
+use Rattle.layout.proofs.put_ramps.Tie as tie
+
+abbrev Inv-loop : tie.InvT-loop
+Inv-loop out₀ ramps i₀ out i = Run (λ k. rampNumbers (getD ramps k noRamp)) 8 out₀ 6 i out
+
+abbrev μ-loop : tie.MeasureT-loop
+μ-loop out₀ ramps i₀ out i = 8 - i
+
+loop-holds : tie.Need-loop-holds Inv-loop μ-loop
+loop-holds c = run-none _ 8 _ 6
+
+mul-r : tie.Need-mul-r Inv-loop μ-loop
+mul-r c = search needs
+
+array-copy-out-r : tie.Need-array-copy-out-r Inv-loop μ-loop
+array-copy-out-r c = search needs
+
+mul-put-numbers : tie.Need-mul-put-numbers Inv-loop μ-loop
+mul-put-numbers c = search needs
+
+add-put-numbers : tie.Need-add-put-numbers Inv-loop μ-loop
+add-put-numbers c = search needs
+
+slice-aggregate-put-numbers : tie.Need-slice-aggregate-put-numbers Inv-loop μ-loop
+slice-aggregate-put-numbers c = search needs
+
+put-numbers-requires : tie.Need-put-numbers-requires Inv-loop μ-loop
+put-numbers-requires c κs =
+    let l = c .before .before .before .before .before .loop in
+    let e = run-length _ 8 _ 6 _ _ (l .inv) in
+    omega (arith, c .before .before .before .before .before .before .pre)
+
+add-i : tie.Need-add-i Inv-loop μ-loop
+add-i c = search needs
+
+loop-less : tie.Need-loop-less Inv-loop μ-loop
+loop-less c = search needs
+
+loop-again : tie.Need-loop-again Inv-loop μ-loop
+loop-again c =
+    let l = c .before .before .before .before .before .before .before .loop in
+    let t = c .before .before .before .before .struct-told .given in
+    let a = told (t .0 .1) refl in
+    let s0 = told (t .1 .0 .1) refl in
+    let b = told (t .1 .1 .0 .1) refl in
+    let s1 = told (t .1 .1 .1 .0 .1) refl in
+    run-more _ 4 8 _ 6 _ _ _ _ (λ k. refl) (l .inv) (c .before .before .before .before .before .before .loop-test .taken) (c .before .put-numbers .ensures)
+    (λ i. a i ∷ s0 i ∷ b i ∷ s1 i ∷ [])
+
+same-length : tie.Need-same-length Inv-loop μ-loop
+same-length c = run-length _ 8 _ 6 _ _ (c .before .loop .inv)
+
+returns : tie.Need-returns Inv-loop μ-loop
+returns c = run-all _ 8 _ 6 _ _ (c .before .loop .inv) (c .loop-test .left)
+
+pub put-ramps-spec : {M : Type 1} → statement M
+put-ramps-spec =
+    tie.close
+    (tie.spec
+    Inv-loop
+    μ-loop
+    loop-holds
+    mul-r
+    array-copy-out-r
+    mul-put-numbers
+    add-put-numbers
+    slice-aggregate-put-numbers
+    put-numbers-requires
+    add-i
+    loop-less
+    loop-again
+    same-length
+    returns)

@@ -1,0 +1,69 @@
+-- `ramp_of` meets its contract.
+use borrow.Author.Needs.{needs}
+use Rattle.layout.specs.Layout.{rampOf}
+use Rattle.layout.proofs.NumberLaws.{told}
+use Rattle.layout.proofs.ramp_of.Statement.{statement}
+use Rattle.layout.proofs.ramp_of.Tie as tie
+
+mul-number-at : tie.Need-mul-number-at
+mul-number-at c = search needs
+
+add-number-at : tie.Need-add-number-at
+add-number-at c = search needs
+
+number-at-requires : tie.Need-number-at-requires
+number-at-requires c κs = search needs
+
+mul-number-at-2 : tie.Need-mul-number-at-2
+mul-number-at-2 c = search needs
+
+add-number-at-2 : tie.Need-add-number-at-2
+add-number-at-2 c = search needs
+
+number-at-requires-2 : tie.Need-number-at-requires-2
+number-at-requires-2 c κs = search needs
+
+mul-number-at-3 : tie.Need-mul-number-at-3
+mul-number-at-3 c = search needs
+
+add-number-at-3 : tie.Need-add-number-at-3
+add-number-at-3 c = search needs
+
+number-at-requires-3 : tie.Need-number-at-requires-3
+number-at-requires-3 c κs = search needs
+
+mul-number-at-4 : tie.Need-mul-number-at-4
+mul-number-at-4 c = search needs
+
+add-number-at-4 : tie.Need-add-number-at-4
+add-number-at-4 c = search needs
+
+number-at-requires-4 : tie.Need-number-at-requires-4
+number-at-requires-4 c κs = search needs
+
+returns : tie.Need-returns
+unfolding rampOf
+returns c =
+    let a = told (c .before .before .before .number-at .ok) (c .before .before .before .number-at .ensures) in
+    let s0 = told (c .before .before .number-at2 .ok) (c .before .before .number-at2 .ensures) in
+    let b = told (c .before .number-at3 .ok) (c .before .number-at3 .ensures) in
+    let s1 = told (c .number-at4 .ok) (c .number-at4 .ensures) in
+    λ i. record { a = a i; s0 = s0 i; b = b i; s1 = s1 i }
+
+pub ramp-of-spec : {M : Type 1} → statement M
+ramp-of-spec =
+    tie.close
+    (tie.spec
+    mul-number-at
+    add-number-at
+    number-at-requires
+    mul-number-at-2
+    add-number-at-2
+    number-at-requires-2
+    mul-number-at-3
+    add-number-at-3
+    number-at-requires-3
+    mul-number-at-4
+    add-number-at-4
+    number-at-requires-4
+    returns)

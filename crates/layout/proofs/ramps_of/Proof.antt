@@ -1,0 +1,61 @@
+-- `ramps_of` meets its contract.
+use Prim.Native.Nat.{_-_}
+use mathlib.Core.Path.{refl}
+use borrow.Author.Needs.{needs}
+use Rattle.group.specs.Record.{noRamp}
+use Rattle.layout.specs.Layout.{rampOf}
+use Rattle.layout.proofs.ListLaws.{Filled, filled-none, filled-more, filled-all}
+use Rattle.layout.proofs.ramps_of.Statement.{statement}
+use Rattle.layout.proofs.ramps_of.Tie as tie
+
+abbrev Inv-loop : tie.InvT-loop
+Inv-loop numbers ramps₀ i₀ ramps i = Filled (rampOf numbers) noRamp 8 i ramps
+
+abbrev μ-loop : tie.MeasureT-loop
+μ-loop numbers ramps₀ i₀ ramps i = 8 - i
+
+blank-ramp-requires : tie.Need-blank-ramp-requires Inv-loop μ-loop
+blank-ramp-requires c κs = search needs
+
+loop-holds : tie.Need-loop-holds Inv-loop μ-loop
+loop-holds c = filled-none _ noRamp 8 _ refl
+
+ramp-of-requires : tie.Need-ramp-of-requires Inv-loop μ-loop
+ramp-of-requires c κs = search needs
+
+mul-ramps : tie.Need-mul-ramps Inv-loop μ-loop
+mul-ramps c = search needs
+
+array-set-from-ramps : tie.Need-array-set-from-ramps Inv-loop μ-loop
+array-set-from-ramps c = search needs
+
+add-i : tie.Need-add-i Inv-loop μ-loop
+add-i c = search needs
+
+loop-less : tie.Need-loop-less Inv-loop μ-loop
+loop-less c = search needs
+
+loop-again : tie.Need-loop-again Inv-loop μ-loop
+loop-again c =
+    filled-more _ noRamp 8 _ _ _ (c .before .before .loop .inv) (c .before .loop-test .taken) (c .ramp-of .ensures)
+
+returns : tie.Need-returns Inv-loop μ-loop
+returns c =
+    let s = c .before .before .before .args in
+    filled-all (rampOf (s .numbers .now)) noRamp 8 _ _ (c .before .loop .inv) (c .loop-test .left)
+
+pub ramps-of-spec : {M : Type 1} → statement M
+ramps-of-spec =
+    tie.close
+    (tie.spec
+    Inv-loop
+    μ-loop
+    blank-ramp-requires
+    loop-holds
+    ramp-of-requires
+    mul-ramps
+    array-set-from-ramps
+    add-i
+    loop-less
+    loop-again
+    returns)

@@ -1,0 +1,2 @@
+-- The definitions of the crate `layout`.
+pub mod Layout
