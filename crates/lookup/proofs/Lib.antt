@@ -1,8 +1,7 @@
--- The laws of the lookup: frames, choice, places, stages, promises, and the marked cases.
+-- The laws of the lookup: frames, choice, places, stages and promises.
 pub mod FrameLaws
 pub mod PlaceLaws
 pub mod FixAtLaws
 pub mod BridgeLaws
 pub mod StageLaws
 pub mod Promises
-pub mod Marked

@@ -43,3 +43,7 @@ endOf c s k = startOf c s k + upTo c (drop (startOf c s k) s)
 -- field k of a line: what stands from its start up to its end, parted at tabs
 abbrev pub fieldOf : List ℕ → ℕ → List ℕ
 fieldOf line k = take (endOf 9 line k - startOf 9 line k) (drop (startOf 9 line k) line)
+
+-- the place of a byte in memory, a block and an offset in it, k bytes behind another
+abbrev pub behind : ℕ × ℕ → ℕ → ℕ × ℕ
+behind p k = (p .0, k + p .1)

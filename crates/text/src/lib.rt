@@ -4,7 +4,7 @@ ghost use mathlib.Core.List.{_∷_, []};
 ghost use Prim.Native.Nat.{_+_, _-_, _*_, _≤_, _<_, min};
 ghost use lib.IntN.{pos, negℤ};
 ghost use lib.ListN.{length, drop};
-ghost use Rattle.text.specs.Parts.{split, upTo, startOf, fieldOf};
+ghost use Rattle.text.specs.Parts.{behind, split, upTo, startOf, fieldOf};
 ghost use Rattle.text.specs.Decimal.{digitsFrom, readNat, readInt, decimal, intText};
 ghost use Rattle.text.specs.Number.{most, naturalOf, numberOf};
 ghost use Rattle.text.specs.Fields.{same, fourAt, ledInts};
@@ -61,6 +61,7 @@ pub fn part_count(s: &[u8], c: u8) -> usize
 // line's end. A line is all the bytes lent, parted at tabs alone.
 pub fn field(line: &[u8], number: usize) -> &[u8]
     ensures { λ r. ⌜ now r ≡ fieldOf (now (line .entry)) number ⌝ }
+    ensures { λ r. ⌜ r .ptr ≡ behind (line .entry .ptr) (startOf 9 (now (line .entry)) number) ⌝ }
 {
     let a = part_start(line, number, 9);
     let e = find_from(line, a, 9);

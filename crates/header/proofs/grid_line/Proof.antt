@@ -36,7 +36,7 @@ abbrev s₁ : tie.After-enum-told → tie.Start
 s₁ c = c .before .before .before .before .before .before .before .before
 
 named : (c : tie.After-enum-told) → isName (fieldOf (s₁ c .args .line .now) 1) ≡ true
-named c = form-good _ _ _ (c .before .before .before .field .ensures) (c .before .before .name-form .ensures) (c .enum-told .given .1)
+named c = form-good _ _ _ (c .before .before .before .field .ensures .0) (c .before .before .name-form .ensures) (c .enum-told .given .1)
 
 -- the eight numbers, and what the line is judged
 abbrev s₂ : tie.After-known-told2 → tie.Start
@@ -79,7 +79,7 @@ made c =
     let u = c .before .before .before .before .ni .given .0 in
     c .grid-made .ensures
     ∙ ap (λ (m : Name). countedGrid m (bits (v .0)) (bits (v .1 .0)) (bits (v .1 .1 .0)) (bits (v .1 .1 .1 .0)) (bits (u .0)) (bits (u .1 .0)) (bits (u .1 .1 .0)) (bits (u .1 .1 .1 .0)))
-    (c .before .read-name .ensures ∙ ap nameOf (c .before .before .field2 .ensures))
+    (c .before .read-name .ensures ∙ ap nameOf (c .before .before .field2 .ensures .0))
 
 fits : (c : tie.After-grid-fits) → gridFit (ints (c .before .before .before .before)) ≡ c .grid-fits .result
 fits c =
@@ -121,7 +121,7 @@ returns-2 c =
     let k = c .before .before .before in
     let s = k .before .before .before .before .before .before in
     c .refused-grid2 .ensures
-    ∙ sym (ap gridAnswer (line-text gridWord 1 8 gridTexts gridFit gridOf (s .args .n) (s .args .line .now) (opened (k .before .before)) (grid-unnamed (s .args .line .now) (form-bad _ _ _ (k .before .field .ensures) (k .name-form .ensures) (c .before .enum-told2 .given .1)))))
+    ∙ sym (ap gridAnswer (line-text gridWord 1 8 gridTexts gridFit gridOf (s .args .n) (s .args .line .now) (opened (k .before .before)) (grid-unnamed (s .args .line .now) (form-bad _ _ _ (k .before .field .ensures .0) (k .name-form .ensures) (c .before .enum-told2 .given .1)))))
 
 four-numbers-requires : tie.Need-four-numbers-requires
 four-numbers-requires c κs = search needs
@@ -166,7 +166,7 @@ read-name-requires : tie.Need-read-name-requires
 read-name-requires c κs =
     let k = c .before in
     let l = name-length (fieldOf (s₂ k .args .line .now) 1) (named (k .before .before .before .before .before .before .before .before)) in
-    let e = ap length (c .field2 .ensures) in
+    let e = ap length (c .field2 .ensures .0) in
     omega (arith, l .1)
 
 grid-made-requires : tie.Need-grid-made-requires

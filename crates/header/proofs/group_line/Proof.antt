@@ -39,10 +39,10 @@ abbrev s₁ : tie.After-enum-told → tie.Start
 s₁ c = c .before .before .before .before .before .before .before .before
 
 named : (c : tie.After-enum-told) → isName (fieldOf (s₁ c .args .line .now) 1) ≡ true
-named c = form-good _ _ _ (c .before .before .before .field .ensures) (c .before .before .name-form .ensures) (c .enum-told .given .1)
+named c = form-good _ _ _ (c .before .before .before .field .ensures .0) (c .before .before .name-form .ensures) (c .enum-told .given .1)
 
 united : (c : tie.After-known-told) → readUnit (fieldOf (s₁ (c .before .before .before .before .before) .args .line .now) 2) ≡ some (c .before .unit .given .0 .0)
-united c = unit-good _ _ _ _ (c .before .before .before .before .field2 .ensures) (c .before .before .before .read-unit .ensures) (c .before .unit .given .1)
+united c = unit-good _ _ _ _ (c .before .before .before .before .field2 .ensures .0) (c .before .before .before .read-unit .ensures) (c .before .unit .given .1)
 
 -- the four numbers, and what the line is judged
 abbrev s₂ : tie.After-known-told2 → tie.Start
@@ -77,7 +77,7 @@ made c =
     let v = c .before .before .before .before .q .given .0 in
     c .head-made .ensures
     ∙ ap (λ (m : Name). countedHead m (unit (c .before .before .before)) (bits (v .0)) (bits (v .1 .0)) (bits (v .1 .1 .0)) (bits (v .1 .1 .1 .0)))
-    (c .before .read-name .ensures ∙ ap nameOf (c .before .before .field3 .ensures))
+    (c .before .read-name .ensures ∙ ap nameOf (c .before .before .field3 .ensures .0))
 
 fits : (c : tie.After-head-numbers-fit) → headFit (ints (c .before .before .before .before)) ≡ c .head-numbers-fit .result
 fits c =
@@ -120,7 +120,7 @@ returns-2 c =
     let k = c .before .before .before in
     let s = k .before .before .before .before .before .before .args in
     c .refused-head2 .ensures
-    ∙ sym (ap headAnswer (line-text groupWord 2 4 headTexts headFit headOf 1 (s .line .now) (opened (k .before .before)) (head-unnamed (s .line .now) (form-bad _ _ _ (k .before .field .ensures) (k .name-form .ensures) (c .before .enum-told2 .given .1)))))
+    ∙ sym (ap headAnswer (line-text groupWord 2 4 headTexts headFit headOf 1 (s .line .now) (opened (k .before .before)) (head-unnamed (s .line .now) (form-bad _ _ _ (k .before .field .ensures .0) (k .name-form .ensures) (c .before .enum-told2 .given .1)))))
 
 field-requires-2 : tie.Need-field-requires-2
 field-requires-2 c κs = search needs
@@ -142,7 +142,7 @@ returns-3 c =
     let k = c .before .before .before in
     let s = c .before .before .before .before .before .before .before .before .before .before .before .before .before .args in
     c .refused-head3 .ensures
-    ∙ sym (ap headAnswer (line-text groupWord 2 4 headTexts headFit headOf 1 (s .line .now) (opened (c .before .before .before .before .before .before .before .before .before)) (head-unitless (s .line .now) (unit-bad _ _ _ (k .before .field2 .ensures) (k .read-unit .ensures) (c .before .enum-told3 .given .1)))))
+    ∙ sym (ap headAnswer (line-text groupWord 2 4 headTexts headFit headOf 1 (s .line .now) (opened (c .before .before .before .before .before .before .before .before .before)) (head-unitless (s .line .now) (unit-bad _ _ _ (k .before .field2 .ensures .0) (k .read-unit .ensures) (c .before .enum-told3 .given .1)))))
 
 four-numbers-requires : tie.Need-four-numbers-requires
 four-numbers-requires c κs = search needs
@@ -169,7 +169,7 @@ read-name-requires : tie.Need-read-name-requires
 read-name-requires c κs =
     let k = c .before in
     let l = name-length (fieldOf (s₂ k .args .line .now) 1) (named (k .before .before .before .before .before .before .before .before .before)) in
-    let e = ap length (c .field3 .ensures) in
+    let e = ap length (c .field3 .ensures .0) in
     omega (arith, l .1)
 
 head-made-requires : tie.Need-head-made-requires

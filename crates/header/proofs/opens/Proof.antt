@@ -27,7 +27,7 @@ same-bytes-requires c κs = search needs
 returns-2 : tie.Need-returns-2
 returns-2 c =
     let a = c .before .before .before .before .before .before .args in
-    c .same-bytes .ensures ∙ ap (λ (l : List ℕ). same l (a .word .now)) (c .before .field .ensures)
+    c .same-bytes .ensures ∙ ap (λ (l : List ℕ). same l (a .word .now)) (c .before .field .ensures .0)
     ∙ sym (ap (λ (b : Bool). b && same (fieldOf (a .line .now) 0) (a .word .now)) (eq-eqb _ _ (sym (c .before .before .before .part-count .ensures) ∙ c .before .before .if1 .left)))
 
 pub opens-spec : {M : Type 1} → statement M

@@ -3,8 +3,8 @@ use Prim.Native.Nat.{ℕ, _+_, _-_}
 use mathlib.Core.Path.{_≡_, ap, _∙_}
 use native.Mathlib.Omega.{arith}
 use borrow.Author.Needs.{needs}
-use lib.ListN.{drop, length-drop}
-use Rattle.text.specs.Parts.{startOf, upTo}
+use lib.ListN.{take, drop, length-drop}
+use Rattle.text.specs.Parts.{startOf, upTo, fieldOf, behind}
 use Rattle.text.proofs.PartLaws.{startOf-le, upTo-le}
 use Rattle.text.proofs.field.Statement.{statement}
 use Rattle.text.proofs.field.Tie as tie
@@ -35,7 +35,8 @@ returns c =
     let p = startOf 9 s (a .number) in
     let e₁ : c .before .before .part-start .result ≡ p = c .before .before .part-start .ensures in
     let e₂ : c .before .find-from .result ≡ p + upTo 9 (drop p s) = c .before .find-from .ensures ∙ ap (λ (i : ℕ). i + upTo 9 (drop i s)) e₁ in
-    cc
+    let same : take (c .before .find-from .result - c .before .before .part-start .result) (drop (c .before .before .part-start .result) s) ≡ fieldOf s (a .number) = cc in
+    (same, ap (behind (a .line .ptr)) e₁)
 
 pub field-spec : {M : Type 1} → statement M
 field-spec =

@@ -24,7 +24,7 @@ abbrev start1 : tie.After-read-number → tie.Start
 start1 c = c .before .before .before
 
 answer1 : (c : tie.After-read-number) → numberOf (readInt (getD (parts (start1 c)) (start1 c .args .k) [])) ≡ c .read-number .result
-answer1 c = answer (start1 c .args .line .now) (start1 c .args .k) _ _ (c .read-number .ensures) (c .before .field .ensures)
+answer1 c = answer (start1 c .args .line .now) (start1 c .args .k) _ _ (c .read-number .ensures) (c .before .field .ensures .0)
 
 number1 : (c : tie.After-known-told) → numberOf (readInt (getD (parts (start1 (c .before .before .before))) (start1 (c .before .before .before) .args .k) [])) ≡ Whole (toZ w64 (ofZ w64 (c .before .a .given .0 .0)))
 number1 c = answer1 (c .before .before .before) ∙ c .before .a .given .1 ∙ ap Whole (sym (toZ-ofZ {w = w64} (record { sfits = c .known-told .given .0 .1 })))
@@ -33,7 +33,7 @@ abbrev start2 : tie.After-read-number2 → tie.Start
 start2 c = start1 (c .before .before .before .before .before)
 
 answer2 : (c : tie.After-read-number2) → numberOf (readInt (getD (parts (start2 c)) (start2 c .args .k + 1) [])) ≡ c .read-number2 .result
-answer2 c = answer (start2 c .args .line .now) (start2 c .args .k + 1) _ _ (c .read-number2 .ensures) (c .before .field2 .ensures)
+answer2 c = answer (start2 c .args .line .now) (start2 c .args .k + 1) _ _ (c .read-number2 .ensures) (c .before .field2 .ensures .0)
 
 number2 : (c : tie.After-known-told2) → numberOf (readInt (getD (parts (start2 (c .before .before .before))) (start2 (c .before .before .before) .args .k + 1) [])) ≡ Whole (toZ w64 (ofZ w64 (c .before .b .given .0 .0)))
 number2 c = answer2 (c .before .before .before) ∙ c .before .b .given .1 ∙ ap Whole (sym (toZ-ofZ {w = w64} (record { sfits = c .known-told2 .given .0 .1 })))
@@ -42,7 +42,7 @@ abbrev start3 : tie.After-read-number3 → tie.Start
 start3 c = start2 (c .before .before .before .before .before)
 
 answer3 : (c : tie.After-read-number3) → numberOf (readInt (getD (parts (start3 c)) (start3 c .args .k + 2) [])) ≡ c .read-number3 .result
-answer3 c = answer (start3 c .args .line .now) (start3 c .args .k + 2) _ _ (c .read-number3 .ensures) (c .before .field3 .ensures)
+answer3 c = answer (start3 c .args .line .now) (start3 c .args .k + 2) _ _ (c .read-number3 .ensures) (c .before .field3 .ensures .0)
 
 number3 : (c : tie.After-known-told3) → numberOf (readInt (getD (parts (start3 (c .before .before .before))) (start3 (c .before .before .before) .args .k + 2) [])) ≡ Whole (toZ w64 (ofZ w64 (c .before .c .given .0 .0)))
 number3 c = answer3 (c .before .before .before) ∙ c .before .c .given .1 ∙ ap Whole (sym (toZ-ofZ {w = w64} (record { sfits = c .known-told3 .given .0 .1 })))
@@ -51,7 +51,7 @@ abbrev start4 : tie.After-read-number4 → tie.Start
 start4 c = start3 (c .before .before .before .before .before)
 
 answer4 : (c : tie.After-read-number4) → numberOf (readInt (getD (parts (start4 c)) (start4 c .args .k + 3) [])) ≡ c .read-number4 .result
-answer4 c = answer (start4 c .args .line .now) (start4 c .args .k + 3) _ _ (c .read-number4 .ensures) (c .before .field4 .ensures)
+answer4 c = answer (start4 c .args .line .now) (start4 c .args .k + 3) _ _ (c .read-number4 .ensures) (c .before .field4 .ensures .0)
 
 number4 : (c : tie.After-known-told4) → numberOf (readInt (getD (parts (start4 (c .before .before .before))) (start4 (c .before .before .before) .args .k + 3) [])) ≡ Whole (toZ w64 (ofZ w64 (c .before .d .given .0 .0)))
 number4 c = answer4 (c .before .before .before) ∙ c .before .d .given .1 ∙ ap Whole (sym (toZ-ofZ {w = w64} (record { sfits = c .known-told4 .given .0 .1 })))

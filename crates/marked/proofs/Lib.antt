@@ -1,0 +1,2 @@
+-- Document 01's marked cases, proved of the written meanings.
+pub mod Marked
