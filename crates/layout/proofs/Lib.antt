@@ -4,3 +4,4 @@ pub mod NumberLaws
 pub mod NameLaws
 pub mod GroupLaws
 pub mod BackLaws
+pub mod KeptLaws
