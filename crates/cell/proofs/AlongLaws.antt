@@ -12,14 +12,6 @@ module _ (d s n : ℕ) where
   unfolding cellIndex
   index-most = omega arith
 
-  -- the cell's node of lower index does not lie beyond the point
-  pub index-reach : cellIndex d s n * s ≤ d
-  unfolding cellIndex
-  index-reach =
-      let m : min (d / s) (n - 2) * s ≤ d / s * s = mul-le-mul-right s (omega arith) in
-      let e = div-add-mod' d s in
-      omega arith
-
 -- a point on the axis, edges included
 pub record InCell (d s n i f : ℕ) : Type 0 where
   pub index-most : i + 2 ≤ n

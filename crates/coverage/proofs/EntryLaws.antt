@@ -3,11 +3,11 @@ use mathlib.Core.Path.{_≡_, refl, sym, ap, _∙_}
 use mathlib.Core.List.{List, [], _∷_, _++_, append-nil, append-assoc, List·Memᴰ, Memᴰ·append-left, Memᴰ·append-right, List·Memᴰ·append-cases, List·Memᴰ·eq-of-singleton, List·Memᴰ·not-nil}
 use mathlib.Core.List.List·Memᴰ.{List·Memᴰ·head, List·Memᴰ·tail}
 use mathlib.Core.Logic.{⊎-elim}
-use Prim.Native.Nat.{ℕ, zero, suc, _+_, _-_, _≤_, _<_}
+use Prim.Native.Nat.{ℕ, suc, _+_, _-_, _≤_, _<_}
 use native.Mathlib.Omega.{arith}
 use native.Mathlib.Numerals.{add-one}
 use lib.ListN.{length, getD, take, set, replicate, length-append, length-replicate, List·getD-append}
-use lib.Seq.{set-append-seam, append-snoc, take-suc, length-take-le, getD-append-add}
+use lib.Seq.{set-append-seam, append-snoc, take-suc, length-take-le}
 use Rattle.choice.specs.Rect.{at}
 use Rattle.region.specs.declared.Spot.{Spot}
 use Rattle.region.specs.declared.Spot.the-variants.{At, Nothing}
@@ -109,19 +109,9 @@ module _ (spot : ℕ → Spot) (order : List ℕ) (k found : ℕ) (entries : Lis
         }
 
 -- what stands in each of the 64 places
-replicate-at : (n j : ℕ) → getD (replicate n noEntry) j noEntry ≡ noEntry
-replicate-at zero j = refl
-replicate-at (suc n) zero = refl
-replicate-at (suc n) (suc j) = replicate-at n j
-
 module _ (es : List Entry) where
   pub filled-used : (i : ℕ) → i < length es → getD (filled es) i noEntry ≡ getD es i noEntry
   filled-used i l = List·getD-append es (replicate (64 - length es) noEntry) noEntry i l
-
-  pub filled-unused : (i : ℕ) → length es ≤ i → getD (filled es) i noEntry ≡ noEntry
-  filled-unused i l =
-      let e : i ≡ length es + (i - length es) = omega arith in
-      rw e (getD-append-add es (replicate (64 - length es) noEntry) (i - length es) noEntry ∙ replicate-at (64 - length es) (i - length es))
 
   pub filled-length : length es ≤ 64 → length (filled es) ≡ 64
   filled-length l = omega (arith, length-append es (replicate (64 - length es) noEntry), length-replicate (64 - length es) noEntry)

@@ -17,10 +17,6 @@ module _ {A : Type 0} where
   mem-at d (List·Memᴰ·head p) = (0, omega arith, sym p)
   mem-at d (List·Memᴰ·tail m) = let r = mem-at d m in (suc (r .0), omega (arith, r .1), r .2)
 
-  pub none-mem : (l : List A) → ((a : A) → List·Memᴰ a l → ⊥) → l ≡ []
-  none-mem [] h = refl
-  none-mem (a ∷ l) h = absurd (h a (List·Memᴰ·head refl))
-
   module _ (R : A → A → Type 0) where
     abbrev pub Pairs : List A → Type 0
     Pairs [] = Unit {0}

@@ -5,3 +5,4 @@ pub mod NameLaws
 pub mod GroupLaws
 pub mod BackLaws
 pub mod KeptLaws
+pub mod BlankLaws

@@ -8,7 +8,7 @@ use native.Mathlib.Nat.{mul-add, mul-comm, mul-zero}
 use native.Mathlib.Omega.{arith}
 use lib.Dec.{T, ltb, leb, ltb→lt, nltb→le, leb→le, le→leb, lt→ltb}
 use lib.IntN.{ℤ, pos, negsuc, negℤ, subℕ, _+ℤ_, _-ℤ_, _*ℤ_, natAbs, *ℤ-comm}
-use lib.Signed.{_≤ℤ_, _<ℤ_, leZ, ltZ, mag, nonNeg}
+use lib.Signed.{_≤ℤ_, _<ℤ_, leZ, ltZ, mag}
 
 pub up : ℤ → ℕ
 up (pos n) = n
@@ -149,10 +149,6 @@ diff-scale w {x} {a} {b} d =
     let e : w * (up x + b) ≡ w * (a + dn x) = ap (λ (n : ℕ). w * n) (d .diff) in
     record { diff = omega (arith, e, mul-add w (up x) b, mul-add w a (dn x), up-dn-scale w x) }
 
--- two readings of one number
-pub diff-same : {z : ℤ} {a b c d : ℕ} → Diff z a b → Diff z c d → a + d ≡ c + b
-diff-same p q = let e = p .diff in let f = q .diff in omega arith
-
 -- one reading of two numbers
 pub diff-one : {x y : ℤ} {a b : ℕ} → Diff x a b → Diff y a b → x ≡ y
 diff-one p q = let e = p .diff in let f = q .diff in diff-≡ (omega arith)
@@ -177,11 +173,6 @@ pub up-mag : (z : ℤ) {H : ℕ} → up z < H → dn z ≤ H → mag z < H
 unfolding up dn
 up-mag (pos n) h k = h
 up-mag (negsuc n) h k = k
-
-pub nonNeg-up : (z : ℤ) → dn z ≡ 0 → T (nonNeg z)
-unfolding dn
-nonNeg-up (pos n) e = tt
-nonNeg-up (negsuc n) e = absurd (omega arith)
 
 -- x plus b is a
 pub diff-of : (x : ℤ) (a b : ℕ) → x +ℤ pos b ≡ pos a → Diff x a b
