@@ -1,28 +1,59 @@
-# make: build/bulhyemik (the command line), build/replay, build/bench, build/differ and build/libbulhyemik.a
-# make demo: the examples through the command line    make test: the gate    make bench: times against plain Rust
-# make check: the quick round, every crate proved and every program run, without the must-fail edits
-.PHONY: all library programs demo check test bench
+# make          build/bulhyemik (the command line), build/replay, build/bench, build/differ and build/libbulhyemik.a
+# make library  build/libbulhyemik.a alone
+# make demo     the examples through the command line
+# make check    the quick round: every crate proved and every program run, without the must-fail edits
+# make test     the gate: every test there is
+# make bench    times against plain Rust
+# make clean    removes build/ and target/: the next make proves every crate anew
+# make help     this list
+.PHONY: all library programs demo check test bench clean help tools always
 
 all: library programs
 
-library:
+# Before any work: what is missing, what it is for, and which version is known to work.
+tools:
+	@missing=0; need() { command -v "$$1" > /dev/null 2>&1 || { echo "make: $$1 is missing: it $$2; $$3 is known to work" >&2; missing=1; }; }; \
+	need rt 'proves the crates and builds the library' 'rt of rattle-kit-5b'; \
+	need cargo 'builds the command line and runs the tests' 'cargo 1.95.0'; \
+	need cc 'links the programs and compiles the C tests' 'gcc 12.2.0'; \
+	if [ $$missing = 1 ]; then echo 'make: install it, or put its folder into PATH' >&2; exit 1; fi
+
+library: build/libbulhyemik.a
+
+# What the library is made of: the toolchain, and the bytes of every file of the crates but the must-fail edits. The list is
+# replaced only where it differs, so that the library is built anew if a file was changed, added or deleted, or the toolchain changed.
+build/crates.sums: always | tools
 	@mkdir -p build
+	@rt version > $@.new
+	@find crates.txt crates -name must-fail -prune -o -type f -print | LC_ALL=C sort | xargs sha256sum >> $@.new
+	@if cmp -s $@.new $@; then rm $@.new; else mv $@.new $@; fi
+
+build/libbulhyemik.a: build/crates.sums
 	@echo "proving the crates and building build/libbulhyemik.a (some minutes on a fresh clone)"
 	@rt staticlib capi > build/staticlib.log 2>&1 || { cat build/staticlib.log; exit 1; }
-	@cmp -s target/staticlib/libcapi.a build/libbulhyemik.a || cp target/staticlib/libcapi.a build/libbulhyemik.a
+	@cp target/staticlib/libcapi.a $@
 
-programs: library
+# cargo itself knows what has changed
+programs: library | tools
 	@cd host && cargo build --quiet --release --offline --features library
-	@cp build/cargo/release/bulhyemik build/cargo/release/replay build/cargo/release/bench build/cargo/release/differ build/
+	@for program in bulhyemik replay bench differ; do \
+		cmp -s build/cargo/release/$$program build/$$program || cp build/cargo/release/$$program build/ || exit 1; \
+	done
 
 demo: all
 	@sh examples/demo.sh build/bulhyemik
 
-check:
+check: | tools
 	@rt check
 
-test:
+test: | tools
 	@tests/gate
 
 bench: all
 	@build/bench
+
+clean:
+	@rm -rf build target
+
+help:
+	@sed -n 's/^# make/make/p' Makefile

@@ -27,14 +27,20 @@ bulhyemik() {
 # ask WORDS COMMAND: what the command prints, then what it says on standard error; a status other than 0 is told.
 ask() {
     printf '\n%s\n$ %s\n' "$1" "$2"
-    eval "$2" 2>words || echo "status $?"
+    eval "$2" 2>words
+    status=$?
     cat words
+    [ $status -eq 0 ] || echo "status $status"
 }
 
 demo() {
     echo 'Catalano Canyon: two grids that touch, with offsets of latitude and longitude in arc-seconds.'
     ask 'Are the header and its grids as they should be?' \
         'bulhyemik check canyon.txt'
+    ask 'Which grids are they, and where do they lie?' \
+        'bulhyemik grids canyon.txt'
+    ask 'Is the node file long enough? For each grid: its values, and how many of them are no data or beyond the limit.' \
+        'bulhyemik check canyon.txt canyon.nodes'
     ask 'Is the header written back byte for byte? (cmp prints nothing if so.)' \
         'bulhyemik format canyon.txt >written && cmp written canyon.txt'
     ask 'Do the floats of the grids load as the node file, in steps of 2 to the power -20 arc-second?' \
@@ -47,10 +53,12 @@ demo() {
         'bulhyemik lookup canyon.txt canyon.nodes <canyon.points'
     ask 'The first in degrees and arc-seconds. Annex E.1 works out 1.45000 and -2.40333; README.md tells of the second.' \
         'bulhyemik screen canyon.txt canyon.nodes 27720000 143880000 0'
+    ask 'What if Q were 21?' \
+        'sed 1s/20/21/ canyon.txt | bulhyemik check -'
 
     printf '\n%s\n' 'Harbour: silt in metres, settling from day 100 to 200; on day 300 two fifths are dredged.'
-    ask 'Are the header and its grids as they should be?' \
-        'bulhyemik check harbour.txt'
+    ask 'Are the header, its grids and its node file as they should be? One value of the third grid is no data.' \
+        'bulhyemik check harbour.txt harbour.nodes'
     ask 'Is the header written back byte for byte?' \
         'bulhyemik format harbour.txt >written && cmp written harbour.txt'
     ask 'Which grids are used anywhere on the earth?' \

@@ -1,45 +1,40 @@
 /* bulhyemik.h: the C interface of Bulhyemik, shift grids for simulators.
  *
- * A group of grids is read from its header text once (bulhyemik_read_header) and handed to every other call as two
- * arrays: its numbers and its names. Angles are whole milliarcseconds (mas; 1 degree is 3,600,000), results whole steps
- * (one step is 2 to the power -Q of the group's unit), days plain numbers, factors millionths.
+ * A group of grids is read from its header text once (bulhyemik_read_header) and handed to every other call as one struct.
  *
- * What every function has in common
- * - It returns the number of the refusal, 0 if the call is accepted. `answer[BULHYEMIK_PLACE]` is the refusal's place
- *   (a line, a grid from 1 or a position from 1), 0 if none is named. After a refusal every other number handed back is 0.
- * - It is total: any numbers, any bytes and any lengths get the answer that this page gives. Nothing is asked of the
- *   caller but valid memory: a pointer that is not NULL, aligned for its type, good for its length, and written memory
- *   that overlaps no other argument. A length counts elements, not bytes.
- * - Numbers or bytes of `group`, `names` and `found` that are not there (the array is shorter than its length below) count
- *   as 0; what stands behind that length is not looked at.
- * - A lent output of fixed length (`answer`; `group` and `names` of bulhyemik_read_header; `shifts`; `screen`) that is
- *   shorter than that length is refused by 12, before all other refusals, and nothing at all is written, no place
- *   either. What stands behind that length stays as it is.
- * - It keeps no memory, allocates none and has no state; calls may run at once on different threads.
- *
- * Refusals, and their places
- *    1  header text not of its form, or it ends early         first bad or missing line
- *    2  number outside its limit, A above B, malformed name,
- *       unused entry not zero                                 its line (the group's is 1; 1 for unused entries)
- *    3  grid name stands earlier                              lowest such grid
- *    4  far edge outside the limits, or START + NI*NJ*NP
- *       above 16,777,216                                      lowest such grid
- *    5  shares a coordinate and its rank with an earlier grid lowest such later grid
- *    6  point outside the limits                              0
- *    7  no grid holds the point                               0
- *    8  a used corner is the no-data mark                     0
- *    9  day outside the limit                                 0
- *   10  area: a side outside the limits, west above east or
- *       south above north                                     0
- *   11  node or float beyond 4,000,000 steps                  loading: first position, from 1; else 0
- *   12  lent output too short, or (loading) of another length 0
- *   13  node list ends before some grid's range does          lowest such grid
+ * Units
+ *   Longitudes, latitudes and spacings are whole milliarcseconds (mas): 1 degree is 3,600,000. Nodes and results are whole
+ *   steps: one step is 2 to the power -Q of the group's unit. Days are plain numbers. Ramp factors are millionths.
  *
  * Limits
  *   longitude +-1,296,000,000   latitude +-324,000,000   day, A, B +-1,000,000   S0, S1 +-10,000,000
  *   DLON, DLAT 1 to 1,000,000 in size, not 0             NI, NJ 2 to 16,384      rank 1 to 1,000
  *   START 0 to 16,777,215   Q 0 to 20   NP 1 to 3        ramps 0 to 8            grids 1 to 64
- *   node value +-4,000,000, or the no-data mark
+ *   node value +-4,000,000, or the no-data mark          name 1 to 24 bytes of A to Z, a to z, 0 to 9, `_`, `-`
+ *
+ * What every function has in common
+ * - It returns the number of the refusal, BULHYEMIK_ACCEPTED (0) if the call is accepted, and writes the refusal's place to
+ *   `*place`: a line, a grid from 1 or a position from 1, and 0 if none is named. Where several refusals apply, the one that
+ *   comes first in the function's list counts. (bulhyemik_version and bulhyemik_field refuse nothing and have no place.)
+ * - Lent memory: `out`, `nodes` and the group to be read are unchanged after every refusal. Place, fix, list, count, shifts
+ *   and screen are the handed-back answer: every call writes them whole, and beside a refusal all but the place are 0. What a
+ *   call takes as const is only read.
+ * - It is total: any numbers, any bytes and any lengths get the answer that this page gives. Nothing is asked of the caller
+ *   but valid memory: a pointer that is not NULL, aligned for its type, good for its type or for the length beside it, and
+ *   written memory that overlaps no other argument. `text`, `nodes`, `floats`, `out` and `line` may be NULL where the length
+ *   beside them is 0. A length counts elements, not bytes.
+ * - It keeps no memory, allocates none and has no state; calls may run at once on different threads. It needs at most 96 KiB
+ *   of stack.
+ * - bulhyemik_screen_answer and bulhyemik_screen_record want the processor to round to nearest, as it does unless fesetround
+ *   was called: otherwise degrees, and shifts of results beyond 2 to the power 53, can differ in the last bit. No other call
+ *   minds the rounding mode, and none minds flush-to-zero.
+ *
+ * docs/RULES.md says how a header text is written, how each answer is worked out, and when each refusal comes.
+ *
+ * The examples are one program, host/c/examples.c, which the tests compile and run. In it stand <stdio.h> and <string.h>,
+ * `bulhyemik_group group`, which the example of bulhyemik_read_header fills, `uint64_t place`, and the nodes of that group:
+ *
+ *     static const int32_t nodes[6] = {0, 10, 20, 100, 110, 120};
  */
 #ifndef BULHYEMIK_H
 #define BULHYEMIK_H
@@ -51,226 +46,320 @@
 extern "C" {
 #endif
 
-/* The numbers of a group: `int64_t group[BULHYEMIK_GROUP_NUMBERS]`. Entries behind a count are all 0. A number below zero
- * where only counts make sense is outside its limit like any other. */
-enum {
-    BULHYEMIK_NAME_LENGTH = 0, /* bytes of the group's name, 1 to 24 */
-    BULHYEMIK_UNIT = 1,        /* BULHYEMIK_ARC_SECOND or BULHYEMIK_METRE; any other is refused by 2 at 1 */
-    BULHYEMIK_QUANTUM = 2,     /* Q */
-    BULHYEMIK_PARAMETERS = 3,  /* NP */
-    BULHYEMIK_RAMPS = 4,       /* count of ramps */
-    BULHYEMIK_GRIDS = 5,       /* count of grids */
-    BULHYEMIK_RAMP = 6,        /* ramp k, from 0, begins at BULHYEMIK_RAMP + k * BULHYEMIK_RAMP_NUMBERS */
-    BULHYEMIK_GRID = 38,       /* grid k, from 0, begins at BULHYEMIK_GRID + k * BULHYEMIK_GRID_NUMBERS */
-    BULHYEMIK_GROUP_NUMBERS = 614
+/* The version of this page: major * 1,000,000 + minor * 1,000 + patch; bulhyemik_version answers the library's. An added call
+ * raises the minor number; a changed struct, limit or meaning raises the major one. */
+#define BULHYEMIK_VERSION 1000000
+
+/* The refusals, and their places. */
+enum bulhyemik_refusal {
+    BULHYEMIK_ACCEPTED = 0,    /* no refusal; place 0 */
+    BULHYEMIK_BAD_FORM = 1,    /* header text not of its form, or it ends early; first bad or missing line */
+    BULHYEMIK_BAD_NUMBER = 2,  /* number outside its limit, A above B, malformed name, unused entry not zero; its line, or 0 */
+    BULHYEMIK_SAME_NAME = 3,   /* grid name stands earlier; lowest such grid */
+    BULHYEMIK_BAD_EXTENT = 4,  /* far edge outside the limits, or START + NI*NJ*NP above 16,777,216; lowest such grid */
+    BULHYEMIK_SAME_RANK = 5,   /* shares a coordinate and its rank with an earlier grid; lowest such later grid */
+    BULHYEMIK_BAD_POINT = 6,   /* point outside the limits; 0 */
+    BULHYEMIK_NO_GRID = 7,     /* no grid holds the point; 0 */
+    BULHYEMIK_NO_DATA = 8,     /* a used corner is the no-data mark, any parameter; 0 */
+    BULHYEMIK_BAD_DAY = 9,     /* day outside the limit; 0 */
+    BULHYEMIK_BAD_AREA = 10,   /* area: a side outside the limits, west above east or south above north; 0 */
+    BULHYEMIK_BAD_NODE = 11,   /* node or float beyond 4,000,000 steps; loading: first position, from 1; else 0 */
+    BULHYEMIK_BAD_LENGTH = 12, /* lent output too short (writing) or of another length (loading); 0 */
+    BULHYEMIK_FEW_NODES = 13   /* node list ends before some grid's range does; lowest such grid */
 };
 
-/* The numbers of a ramp. */
-enum {
-    BULHYEMIK_RAMP_A = 0,
-    BULHYEMIK_RAMP_S0 = 1,
-    BULHYEMIK_RAMP_B = 2,
-    BULHYEMIK_RAMP_S1 = 3,
-    BULHYEMIK_RAMP_NUMBERS = 4
+/* The units of a group's steps. */
+enum bulhyemik_unit { BULHYEMIK_ARC_SECOND = 0, BULHYEMIK_METRE = 1 };
+
+enum bulhyemik_size {
+    BULHYEMIK_NAME_BYTES = 24,     /* bytes of a name, used or not */
+    BULHYEMIK_MOST_RAMPS = 8,      /* ramps of a group, used or not */
+    BULHYEMIK_MOST_GRIDS = 64,     /* grids of a group, used or not */
+    BULHYEMIK_MOST_PARAMETERS = 3, /* results of a lookup, used or not */
+    BULHYEMIK_HEADER_BYTES = 16384 /* holds every header of this and later versions (proved today: at most 6,604 bytes) */
 };
-
-/* The numbers of a grid. */
-enum {
-    BULHYEMIK_GRID_NAME_LENGTH = 0,
-    BULHYEMIK_GRID_LON = 1,
-    BULHYEMIK_GRID_LAT = 2,
-    BULHYEMIK_GRID_DLON = 3,
-    BULHYEMIK_GRID_DLAT = 4,
-    BULHYEMIK_GRID_NI = 5,
-    BULHYEMIK_GRID_NJ = 6,
-    BULHYEMIK_GRID_RANK = 7,
-    BULHYEMIK_GRID_START = 8,
-    BULHYEMIK_GRID_NUMBERS = 9
-};
-
-/* The names of a group: `uint8_t names[BULHYEMIK_GROUP_NAMES]`. The group's name begins at 0, that of grid k, from 0, at
- * (k + 1) * BULHYEMIK_NAME_BYTES. A name is 1 to 24 bytes of A to Z, a to z, 0 to 9, `_`, `-`, and zeros behind them. */
-enum { BULHYEMIK_NAME_BYTES = 24, BULHYEMIK_GROUP_NAMES = 1560 };
-
-enum { BULHYEMIK_ARC_SECOND = 0, BULHYEMIK_METRE = 1 };
-
-/* No accepted group has a longer header text. */
-enum { BULHYEMIK_HEADER_BYTES = 6604 };
 
 /* The no-data mark of a node list. */
 #define BULHYEMIK_MARK INT32_MIN
 
-/* Lengths of the answers, and what stands in them. */
-enum {
-    BULHYEMIK_PLACE = 0,            /* in every answer: the place of the refusal */
-    BULHYEMIK_PLACE_NUMBERS = 1,    /* an answer that holds nothing else */
-    BULHYEMIK_WRITE_COUNT = 1,      /* writing: count of bytes */
-    BULHYEMIK_WRITE_NUMBERS = 2,
-    BULHYEMIK_FIELD_FROM = 1,       /* field: first byte, and the byte behind the last */
-    BULHYEMIK_FIELD_TO = 2,
-    BULHYEMIK_FIELD_NUMBERS = 3,
-    BULHYEMIK_LOOKUP_GRID = 1,      /* lookup: number of the chosen grid, from 1 */
-    BULHYEMIK_LOOKUP_RESULT = 2,    /* lookup: the first of three results in steps; a missing parameter is 0 */
-    BULHYEMIK_LOOKUP_NUMBERS = 5,
-    BULHYEMIK_IN_FORCE_COUNT = 1,   /* grids in force: how many */
-    BULHYEMIK_IN_FORCE_ENTRY = 2,   /* grids in force: the first of 64 entries of three numbers: */
-    BULHYEMIK_ENTRY_GRID = 0,       /*   the grid's number, from 1, */
-    BULHYEMIK_ENTRY_LON = 1,        /*   and longitude */
-    BULHYEMIK_ENTRY_LAT = 2,        /*   and latitude of the southmost, then westmost coordinate where it is chosen */
-    BULHYEMIK_ENTRY_NUMBERS = 3,
-    BULHYEMIK_IN_FORCE_NUMBERS = 194,
-    BULHYEMIK_SHIFTS = 3,           /* floats of a screen answer */
-    BULHYEMIK_SCREEN_FLOATS = 5     /* floats of a screen record: longitude, latitude in degrees, three shifts */
-};
+/* A ramp of the day factor: `s0` at and before day `a`, `s1` at and after day `b`, in a straight line between them; on a day
+ * that is both, `s1`. */
+typedef struct {
+    int64_t a;  /* day, not above b */
+    int64_t s0; /* factor, in millionths */
+    int64_t b;  /* day */
+    int64_t s1; /* factor, in millionths */
+} bulhyemik_ramp;
+
+/* A grid: node (i, j) lies at lon + i*dlon, lat + j*dlat, and its parameter p, from 0, stands in the node list at
+ * start + (j*ni + i)*NP + p. */
+typedef struct {
+    uint8_t name[BULHYEMIK_NAME_BYTES]; /* zeros behind it, so that one of 24 bytes has no closing zero: print it by `%.24s` */
+    int64_t name_length;                /* 1 to 24 */
+    int64_t lon, lat;                   /* of node (0, 0), in mas */
+    int64_t dlon, dlat;                 /* spacings, in mas; signed, not 0 */
+    int64_t ni, nj;                     /* counts of nodes */
+    int64_t rank;                       /* 1 is best; grids that share a coordinate differ in it */
+    int64_t start;                      /* first position in the node list, from 0 */
+} bulhyemik_grid;
+
+/* A group. Entries behind a count are all zero. All numbers are signed, so that any can be judged: one below zero is outside
+ * the limit of a count, and a unit that is neither of the two is refused by 2 at line 1. */
+typedef struct {
+    uint8_t name[BULHYEMIK_NAME_BYTES];        /* as a grid's */
+    int64_t name_length;                       /* 1 to 24 */
+    int64_t unit;                              /* BULHYEMIK_ARC_SECOND or BULHYEMIK_METRE */
+    int64_t quantum;                           /* Q: one step is 2 to the power -Q of the unit */
+    int64_t parameters;                        /* NP: results of a lookup */
+    int64_t ramps;                             /* count of ramps */
+    int64_t grids;                             /* count of grids */
+    bulhyemik_ramp ramp[BULHYEMIK_MOST_RAMPS]; /* their factors are added; with none the factor is 1 */
+    bulhyemik_grid grid[BULHYEMIK_MOST_GRIDS]; /* grid number k is grid[k - 1]; no two grids share a name */
+} bulhyemik_group;
+
+/* What a lookup finds. */
+typedef struct {
+    int64_t grid;                              /* number of the chosen grid, from 1 */
+    int64_t result[BULHYEMIK_MOST_PARAMETERS]; /* in steps; a missing parameter is 0 */
+} bulhyemik_fix;
+
+/* A grid in force, and of the area's coordinates at which it is chosen the southmost, of these the westmost. */
+typedef struct {
+    int64_t grid;     /* its number, from 1 */
+    int64_t lon, lat; /* in mas */
+} bulhyemik_entry;
+
+/* The grids in force in an area, by rank, best first, and at equal ranks by number. */
+typedef struct {
+    int64_t count;                               /* how many there are, 0 to 64 */
+    bulhyemik_entry entry[BULHYEMIK_MOST_GRIDS]; /* the first `count` are theirs; the others are zero */
+} bulhyemik_in_force;
+
+/* A field of a line: its bytes from `from` up to, not with, `to`. */
+typedef struct {
+    uint64_t from, to; /* from 0; both are the line's length where there is no such field */
+} bulhyemik_part;
+
+/* A point and its shifts for the screen. */
+typedef struct {
+    double longitude, latitude;              /* in degrees */
+    double shift[BULHYEMIK_MOST_PARAMETERS]; /* in units; a missing parameter is +0 */
+} bulhyemik_screen;
+
+/* The library reads and writes these structs as arrays of 64-bit words: a compiler that lays them out otherwise stops here. */
+#define BULHYEMIK_WORDS(type, words) \
+    typedef char bulhyemik_##type##_words[sizeof(bulhyemik_##type) == 8 * (words) ? 1 : -1]
+#define BULHYEMIK_WORD(type, field, word) \
+    typedef char bulhyemik_##type##_##field##_word[offsetof(bulhyemik_##type, field) == 8 * (word) ? 1 : -1]
+BULHYEMIK_WORDS(ramp, 4);
+BULHYEMIK_WORD(ramp, a, 0);
+BULHYEMIK_WORD(ramp, s0, 1);
+BULHYEMIK_WORD(ramp, b, 2);
+BULHYEMIK_WORD(ramp, s1, 3);
+BULHYEMIK_WORDS(grid, 12);
+BULHYEMIK_WORD(grid, name, 0);
+BULHYEMIK_WORD(grid, name_length, 3);
+BULHYEMIK_WORD(grid, lon, 4);
+BULHYEMIK_WORD(grid, lat, 5);
+BULHYEMIK_WORD(grid, dlon, 6);
+BULHYEMIK_WORD(grid, dlat, 7);
+BULHYEMIK_WORD(grid, ni, 8);
+BULHYEMIK_WORD(grid, nj, 9);
+BULHYEMIK_WORD(grid, rank, 10);
+BULHYEMIK_WORD(grid, start, 11);
+BULHYEMIK_WORDS(group, 809);
+BULHYEMIK_WORD(group, name, 0);
+BULHYEMIK_WORD(group, name_length, 3);
+BULHYEMIK_WORD(group, unit, 4);
+BULHYEMIK_WORD(group, quantum, 5);
+BULHYEMIK_WORD(group, parameters, 6);
+BULHYEMIK_WORD(group, ramps, 7);
+BULHYEMIK_WORD(group, grids, 8);
+BULHYEMIK_WORD(group, ramp, 9);
+BULHYEMIK_WORD(group, grid, 41);
+BULHYEMIK_WORDS(fix, 4);
+BULHYEMIK_WORD(fix, grid, 0);
+BULHYEMIK_WORD(fix, result, 1);
+BULHYEMIK_WORDS(entry, 3);
+BULHYEMIK_WORD(entry, grid, 0);
+BULHYEMIK_WORD(entry, lon, 1);
+BULHYEMIK_WORD(entry, lat, 2);
+BULHYEMIK_WORDS(in_force, 193);
+BULHYEMIK_WORD(in_force, count, 0);
+BULHYEMIK_WORD(in_force, entry, 1);
+BULHYEMIK_WORDS(part, 2);
+BULHYEMIK_WORD(part, from, 0);
+BULHYEMIK_WORD(part, to, 1);
+BULHYEMIK_WORDS(screen, 5);
+BULHYEMIK_WORD(screen, longitude, 0);
+BULHYEMIK_WORD(screen, latitude, 1);
+BULHYEMIK_WORD(screen, shift, 2);
+#undef BULHYEMIK_WORDS
+#undef BULHYEMIK_WORD
+
+/* Answers the version of the library, as BULHYEMIK_VERSION is of this page. A program works with every library of the same
+ * major number and at least its own minor one. Nothing is refused.
+ *
+ *     uint64_t version = bulhyemik_version();
+ *     if (version / 1000000 != BULHYEMIK_VERSION / 1000000 || version / 1000 < BULHYEMIK_VERSION / 1000)
+ *         printf("this program needs another library\n");
+ */
+uint64_t bulhyemik_version(void);
 
 /* Judges a group as its header text would be judged.
  *
- * Refusals: 2, 3, 4, 5, in this order.
- * answer: BULHYEMIK_PLACE_NUMBERS.
+ * Units and limits: as on top of this page.
+ * Refusals, in this order: 2 at the least line that has a number outside its limit, A above B, a malformed name or a byte that
+ * is not zero behind it (1 is the group's line, then come the ramps' and the grids'; an unused entry that is not zero counts
+ * for line 1); 3, then 4, then 5, each at the lowest such grid.
+ * Lent memory: `*group` is read.
  *
- *     int64_t answer[BULHYEMIK_PLACE_NUMBERS];
- *     if (bulhyemik_judge(group, BULHYEMIK_GROUP_NUMBERS, names, BULHYEMIK_GROUP_NAMES,
- *                         answer, BULHYEMIK_PLACE_NUMBERS) == 5)
- *         printf("grid %lld shares a coordinate and its rank with an earlier one\n", (long long)answer[BULHYEMIK_PLACE]);
+ *     group.quantum = 21;
+ *     if (bulhyemik_judge(&group, &place) == BULHYEMIK_BAD_NUMBER)
+ *         printf("line %lu has a number outside its limit\n", (unsigned long)place);
+ *     group.quantum = 13;
  */
-uint64_t bulhyemik_judge(const int64_t *group, size_t group_len, const uint8_t *names, size_t names_len,
-                         int64_t *answer, size_t answer_len);
+uint64_t bulhyemik_judge(const bulhyemik_group *group, uint64_t *place);
 
-/* Reads a header text into a group's numbers and names.
+/* Reads a header text: text_len bytes of any kind, not closed by a zero byte. One record a line, fields parted by one tab,
+ * each line closed by one line feed: `group` NAME UNIT Q NP ramps grids, then for each ramp `ramp` A S0 B S1, then for each
+ * grid `grid` NAME LON LAT DLON DLAT NI NJ RANK START. UNIT is `arc-second` or `metre`. Numbers are decimal, below zero led by
+ * `-`, with no plus, no leading zero and no -0.
  *
- * text: the whole header, any bytes, of any length; it is not closed by a zero byte.
- * Refusals: 1 or 2 at the first faulty line, then 3, 4, 5. After a refusal all numbers and names are 0.
- * group: BULHYEMIK_GROUP_NUMBERS, names: BULHYEMIK_GROUP_NAMES, answer: BULHYEMIK_PLACE_NUMBERS.
+ * Units and limits: as on top of this page; a text may have any length, a number any count of digits.
+ * Refusals, in this order: 1 or 2 at the first faulty line, 1 before 2 on one line (bytes behind the last line are 1 at the
+ * line after it; an empty text is 1 at line 1); 3, then 4, then 5, each at the lowest such grid.
+ * Lent memory: `*group` is filled whole where the text is accepted, and stays as it was after a refusal.
  *
- *     int64_t group[BULHYEMIK_GROUP_NUMBERS], answer[BULHYEMIK_PLACE_NUMBERS];
- *     uint8_t names[BULHYEMIK_GROUP_NAMES];
- *     uint64_t number = bulhyemik_read_header(text, text_len, group, BULHYEMIK_GROUP_NUMBERS,
- *                                             names, BULHYEMIK_GROUP_NAMES, answer, BULHYEMIK_PLACE_NUMBERS);
- *     if (number != 0)
- *         printf("refused by %llu at %lld\n", (unsigned long long)number, (long long)answer[BULHYEMIK_PLACE]);
+ *     static const char text[] =
+ *         "group\tdock\tmetre\t13\t1\t1\t1\n"
+ *         "ramp\t100\t0\t200\t1000000\n"
+ *         "grid\tbasin\t0\t0\t10\t10\t3\t2\t1\t0\n";
+ *     uint64_t number = bulhyemik_read_header((const uint8_t *)text, strlen(text), &group, &place);
+ *     if (number == BULHYEMIK_ACCEPTED)
+ *         printf("group %.24s, grids: %ld\n", (const char *)group.name, (long)group.grids);
+ *     else
+ *         printf("refused by %lu at %lu\n", (unsigned long)number, (unsigned long)place);
  */
-uint64_t bulhyemik_read_header(const uint8_t *text, size_t text_len, int64_t *group, size_t group_len,
-                               uint8_t *names, size_t names_len, int64_t *answer, size_t answer_len);
+uint64_t bulhyemik_read_header(const uint8_t *text, size_t text_len, bulhyemik_group *group, uint64_t *place);
 
-/* Writes the header text of a group.
+/* Writes the header text of a group; a group that was read from a text gives the same bytes.
  *
- * out: of any length; BULHYEMIK_HEADER_BYTES hold every header. The first answer[BULHYEMIK_WRITE_COUNT] bytes become the
- *      text, the rest stays; after a refusal all of it stays. A group that was read from a text gives the same bytes.
- * Refusals: 2, 3, 4, 5, then 12 if `out` is too short.
- * answer: BULHYEMIK_WRITE_NUMBERS.
+ * Units and limits: as on top of this page; `*count` is in bytes, and no closing zero is written.
+ * Refusals, in this order: 2, 3, 4, 5 as of bulhyemik_judge; 12 at 0 if `out` is too short, which never happens where out_len
+ * is BULHYEMIK_HEADER_BYTES.
+ * Lent memory: the first `*count` bytes of `out` become the text, the rest stays; after a refusal all of it stays and `*count`
+ * is 0.
  *
  *     uint8_t out[BULHYEMIK_HEADER_BYTES];
- *     int64_t answer[BULHYEMIK_WRITE_NUMBERS];
- *     if (bulhyemik_write_header(group, BULHYEMIK_GROUP_NUMBERS, names, BULHYEMIK_GROUP_NAMES,
- *                                out, sizeof out, answer, BULHYEMIK_WRITE_NUMBERS) == 0)
- *         fwrite(out, 1, (size_t)answer[BULHYEMIK_WRITE_COUNT], stdout);
+ *     uint64_t count;
+ *     if (bulhyemik_write_header(&group, out, sizeof out, &count, &place) == BULHYEMIK_ACCEPTED)
+ *         fwrite(out, 1, (size_t)count, stdout);
  */
-uint64_t bulhyemik_write_header(const int64_t *group, size_t group_len, const uint8_t *names, size_t names_len,
-                                uint8_t *out, size_t out_len, int64_t *answer, size_t answer_len);
+uint64_t bulhyemik_write_header(const bulhyemik_group *group, uint8_t *out, size_t out_len, uint64_t *count,
+                                uint64_t *place);
 
-/* Finds a field of a line: all the bytes lent, parted at tabs alone.
+/* Finds field `number`, from 0, of a line: all the bytes lent, parted at tabs alone.
  *
- * number: the field's, from 0. It is the part of the line from answer[BULHYEMIK_FIELD_FROM] up to, not with,
- *         answer[BULHYEMIK_FIELD_TO]; past the last field both are line_len.
- * Refusals: none.
- * answer: BULHYEMIK_FIELD_NUMBERS.
+ * Units and limits: the part's ends are in bytes from the line's first; `number` has no limit.
+ * Nothing is refused: past the last field both ends of the part are line_len.
+ * Lent memory: `line` is read; `*part` is filled whole.
  *
- *     int64_t answer[BULHYEMIK_FIELD_NUMBERS];
- *     bulhyemik_field((const uint8_t *)"ramp\t100\t0", 10, 1, answer, BULHYEMIK_FIELD_NUMBERS);
- *     (field 1 is bytes 5 up to 8: "100")
+ *     static const char line[] = "ramp\t100\t0\t200\t1000000";
+ *     bulhyemik_part part;
+ *     bulhyemik_field((const uint8_t *)line, strlen(line), 3, &part);
+ *     printf("B is %.*s\n", (int)(part.to - part.from), line + part.from);
  */
-uint64_t bulhyemik_field(const uint8_t *line, size_t line_len, uint64_t number, int64_t *answer, size_t answer_len);
+void bulhyemik_field(const uint8_t *line, size_t line_len, uint64_t number, bulhyemik_part *part);
 
-/* Looks a point up on a day.
+/* Looks a point up on a day: the grid of the lowest rank number among those that hold the point, and NP results, each the
+ * bilinear value of the point's cell, rounded to a whole step, times the day's factor, rounded again; ties go to even. A corner
+ * of weight 0 is not used: its content changes nothing.
  *
- * nodes: the group's node list, of any length; parameter p of node (i, j) of a grid stands at START + (j*NI + i)*NP + p.
- * lon, lat: the point in mas. day: the day of the ramps' factors; without ramps the factor is 1.
- * The best grid that holds the point is used, rank 1 being best, and of its nodes the corners of the point's cell with a
- * weight above 0.
- * Refusals: 2, 3, 4, 5, then 6, 9, 13, 7, 8, 11.
- * answer: BULHYEMIK_LOOKUP_NUMBERS.
+ * Units and limits: `lon` (+-1,296,000,000) and `lat` (+-324,000,000) are in mas, `day` is +-1,000,000; nodes and results are in
+ * steps. A node list may be longer than every grid's range.
+ * Refusals, in this order: 2, 3, 4, 5 as of bulhyemik_judge; 6, then 9, at 0 if point or day is outside its limit; 13 at the
+ * lowest grid whose range ends behind the node list; 7 at 0 if no grid holds the point; 8, then 11, at 0 if any parameter of a
+ * used corner is the no-data mark, or is beyond +-4,000,000.
+ * Lent memory: `*group` and `nodes` are read; `*fix` is filled whole, with zeros after a refusal.
  *
- *     int64_t answer[BULHYEMIK_LOOKUP_NUMBERS];
- *     if (bulhyemik_lookup(group, BULHYEMIK_GROUP_NUMBERS, names, BULHYEMIK_GROUP_NAMES, nodes, nodes_len,
- *                          457200000, 133200000, 20, answer, BULHYEMIK_LOOKUP_NUMBERS) == 0)
- *         printf("grid %lld, %lld steps\n", (long long)answer[BULHYEMIK_LOOKUP_GRID],
- *                (long long)answer[BULHYEMIK_LOOKUP_RESULT]);
+ *     bulhyemik_fix fix;
+ *     uint64_t number = bulhyemik_lookup(&group, nodes, 6, 5, 5, 200, &fix, &place);
+ *     if (number == BULHYEMIK_ACCEPTED)
+ *         printf("grid %.24s: %ld steps\n", (const char *)group.grid[fix.grid - 1].name, (long)fix.result[0]);
  */
-uint64_t bulhyemik_lookup(const int64_t *group, size_t group_len, const uint8_t *names, size_t names_len,
-                          const int32_t *nodes, size_t nodes_len, int64_t lon, int64_t lat, int64_t day,
-                          int64_t *answer, size_t answer_len);
+uint64_t bulhyemik_lookup(const bulhyemik_group *group, const int32_t *nodes, size_t nodes_len,
+                          int64_t lon, int64_t lat, int64_t day, bulhyemik_fix *fix, uint64_t *place);
 
-/* Lists the grids in force in an area: those chosen at one or more of its whole coordinates, sides included.
+/* Lists the grids that are chosen at one or more coordinates of an area: all points of whole mas from west to east and from
+ * south to north, sides included. An area that no grid meets has an empty list, which is no refusal.
  *
- * west, east, south, north: the area's sides in mas.
- * The first answer[BULHYEMIK_IN_FORCE_COUNT] of the 64 entries are filled, by rank, best first, and at equal ranks by
- * number; the others are 0. An area that no grid meets has none, which is no refusal.
- * Refusals: 2, 3, 4, 5, then 10.
- * answer: BULHYEMIK_IN_FORCE_NUMBERS.
+ * Units and limits: the sides are in mas, `west` and `east` +-1,296,000,000, `south` and `north` +-324,000,000.
+ * Refusals, in this order: 2, 3, 4, 5 as of bulhyemik_judge; 10 at 0 if a side is outside its limit, west above east or south
+ * above north.
+ * Lent memory: `*group` is read; `*list` is filled whole, with zeros after a refusal.
  *
- *     int64_t answer[BULHYEMIK_IN_FORCE_NUMBERS];
- *     if (bulhyemik_grids_in_force(group, BULHYEMIK_GROUP_NUMBERS, names, BULHYEMIK_GROUP_NAMES,
- *                                  -648000000, 648000000, -324000000, 324000000,
- *                                  answer, BULHYEMIK_IN_FORCE_NUMBERS) == 0)
- *         printf("%lld grids in force\n", (long long)answer[BULHYEMIK_IN_FORCE_COUNT]);
+ *     bulhyemik_in_force list;
+ *     int64_t k;
+ *     bulhyemik_grids_in_force(&group, -648000000, 648000000, 3, 324000000, &list, &place);
+ *     for (k = 0; k < list.count; k++)
+ *         printf("grid %ld from %ld, %ld\n", (long)list.entry[k].grid, (long)list.entry[k].lon, (long)list.entry[k].lat);
  */
-uint64_t bulhyemik_grids_in_force(const int64_t *group, size_t group_len, const uint8_t *names, size_t names_len,
-                                  int64_t west, int64_t east, int64_t south, int64_t north,
-                                  int64_t *answer, size_t answer_len);
+uint64_t bulhyemik_grids_in_force(const bulhyemik_group *group, int64_t west, int64_t east, int64_t south, int64_t north,
+                                  bulhyemik_in_force *list, uint64_t *place);
 
-/* Loads floats in units as nodes in steps.
+/* Loads floats in units as nodes in steps: each float times 2 to the power `quantum`, to the nearest, ties to even. NaN, and
+ * floats of the same bits as `flag`, become the no-data mark; with NaN for `flag` these are the NaN alone.
  *
- * floats: in units. flag: floats of the same bits become the no-data mark, as every NaN does; a NaN flag adds nothing.
- * quantum: Q, 0 to 20; each float times 2 to the power Q is rounded to the nearest whole step, a tie to the even one.
- * nodes: as many as floats; every one is written, or after a refusal none.
- * Refusals: 2 (Q, place 0), 12 (nodes_len is not floats_len), 11 (the position from 1 of the first float that is infinite
- *           or rounds beyond +-4,000,000).
- * answer: BULHYEMIK_PLACE_NUMBERS.
+ * Units and limits: floats are in the group's unit, nodes in steps; `quantum` is Q, 0 to 20.
+ * Refusals, in this order: 2 at 0 if `quantum` is outside its limit; 12 at 0 if nodes_len is not floats_len; 11 at the position,
+ * from 1, of the first float that is infinite or rounds beyond +-4,000,000 and does not become the mark.
+ * Lent memory: `floats` is read; all of `nodes` is filled where the call is accepted, none of it after a refusal.
  *
- *     float floats[3] = {0.5f, 1.5f, -9999.0f};
- *     int32_t nodes[3];
- *     int64_t answer[BULHYEMIK_PLACE_NUMBERS];
- *     bulhyemik_load_nodes(floats, 3, -9999.0f, 0, nodes, 3, answer, BULHYEMIK_PLACE_NUMBERS);
- *     (nodes are 0, 2, BULHYEMIK_MARK)
+ *     static const float floats[3] = {0.5f, 1.5f, -9999.0f};
+ *     int32_t loaded[3];
+ *     if (bulhyemik_load_nodes(floats, 3, -9999.0f, 0, loaded, 3, &place) == BULHYEMIK_ACCEPTED)
+ *         printf("%ld, %ld, %s\n", (long)loaded[0], (long)loaded[1], loaded[2] == BULHYEMIK_MARK ? "no data" : "data");
  */
-uint64_t bulhyemik_load_nodes(const float *floats, size_t floats_len, float flag, uint64_t quantum,
-                              int32_t *nodes, size_t nodes_len, int64_t *answer, size_t answer_len);
+uint64_t bulhyemik_load_nodes(const float *floats, size_t floats_len, float flag, int64_t quantum,
+                              int32_t *nodes, size_t nodes_len, uint64_t *place);
 
-/* Turns the answer of a lookup into shifts in units for the screen.
+/* Turns the answer of a lookup into shifts in units for the screen: `number` is what the lookup returned, `at` its place,
+ * `quantum` and `parameters` are the group's. Each of the first NP shifts is the result times 2 to the power -Q, which loses
+ * nothing; a missing parameter is +0.
  *
- * quantum, parameters: the group's Q and NP. number: what the lookup returned. found: the answer that it filled,
- *         BULHYEMIK_LOOKUP_NUMBERS.
- * shifts: BULHYEMIK_SHIFTS; each is the whole result times 2 to the power -Q, which loses nothing; a missing parameter
- *         is +0, and after a refusal all are.
- * Refusals: 2 (Q above 20 or NP not 1 to 3, place 0); then `number`, if it is not 0, with the place in `found`.
- * answer: BULHYEMIK_PLACE_NUMBERS.
+ * Units and limits: results are in steps, shifts in the group's unit; `quantum` is Q, 0 to 20, `parameters` NP, 1 to 3, and
+ * `number` 0 to 13.
+ * Refusals, in this order: 2 at 0 if one of these is outside its limit; then the lookup's own, `number` at `at`.
+ * Lent memory: `*fix` is read; all of `shifts` is filled, with +0 after a refusal.
  *
- *     double shifts[BULHYEMIK_SHIFTS];
- *     int64_t answer[BULHYEMIK_PLACE_NUMBERS];
- *     if (bulhyemik_screen_answer((uint64_t)group[BULHYEMIK_QUANTUM], (uint64_t)group[BULHYEMIK_PARAMETERS],
- *                                 number, found, BULHYEMIK_LOOKUP_NUMBERS,
- *                                 shifts, BULHYEMIK_SHIFTS, answer, BULHYEMIK_PLACE_NUMBERS) == 0)
- *         printf("%.17g\n", shifts[0]);
+ *     bulhyemik_fix fix;
+ *     double shifts[3];
+ *     uint64_t at, number = bulhyemik_lookup(&group, nodes, 6, 5, 5, 200, &fix, &at);
+ *     number = bulhyemik_screen_answer(group.quantum, group.parameters, number, at, &fix, shifts, &place);
+ *     if (number == BULHYEMIK_ACCEPTED)
+ *         printf("%.6f metres\n", shifts[0]);
  */
-uint64_t bulhyemik_screen_answer(uint64_t quantum, uint64_t parameters, uint64_t number,
-                                 const int64_t *found, size_t found_len, double *shifts, size_t shifts_len,
-                                 int64_t *answer, size_t answer_len);
+uint64_t bulhyemik_screen_answer(int64_t quantum, int64_t parameters, uint64_t number, uint64_t at,
+                                 const bulhyemik_fix *fix, double shifts[BULHYEMIK_MOST_PARAMETERS], uint64_t *place);
 
-/* Fills the screen record: the degrees of a point and its shifts.
+/* Fills the screen record: the degrees of a point, each one float division by 3,600,000, and the shifts as of
+ * bulhyemik_screen_answer.
  *
- * lon, lat: the point in mas; degrees are one division by 3,600,000. The other arguments, the refusals and the shifts are
- * those of bulhyemik_screen_answer; after a refusal all five floats are +0.
- * screen: BULHYEMIK_SCREEN_FLOATS: longitude, latitude, three shifts. answer: BULHYEMIK_PLACE_NUMBERS.
+ * Units and limits: `lon` and `lat` are in mas and have no limit here, since the lookup has judged them; all else is as of
+ * bulhyemik_screen_answer.
+ * Refusals: as of bulhyemik_screen_answer, in the same order.
+ * Lent memory: `*fix` is read; `*screen` is filled whole, with five +0 after a refusal.
  *
- *     double screen[BULHYEMIK_SCREEN_FLOATS];
- *     int64_t answer[BULHYEMIK_PLACE_NUMBERS];
- *     bulhyemik_screen_record(lon, lat, (uint64_t)group[BULHYEMIK_QUANTUM], (uint64_t)group[BULHYEMIK_PARAMETERS],
- *                             number, found, BULHYEMIK_LOOKUP_NUMBERS,
- *                             screen, BULHYEMIK_SCREEN_FLOATS, answer, BULHYEMIK_PLACE_NUMBERS);
+ *     bulhyemik_fix fix;
+ *     bulhyemik_screen screen;
+ *     uint64_t at, number = bulhyemik_lookup(&group, nodes, 6, 21, 10, 200, &fix, &at);
+ *     number = bulhyemik_screen_record(21, 10, group.quantum, group.parameters, number, at, &fix, &screen, &place);
+ *     if (number == BULHYEMIK_NO_GRID)
+ *         printf("no grid holds the point: %.1f, %.1f\n", screen.longitude, screen.latitude);
  */
-uint64_t bulhyemik_screen_record(int64_t lon, int64_t lat, uint64_t quantum, uint64_t parameters, uint64_t number,
-                                 const int64_t *found, size_t found_len, double *screen, size_t screen_len,
-                                 int64_t *answer, size_t answer_len);
+uint64_t bulhyemik_screen_record(int64_t lon, int64_t lat, int64_t quantum, int64_t parameters, uint64_t number, uint64_t at,
+                                 const bulhyemik_fix *fix, bulhyemik_screen *screen, uint64_t *place);
 
 #ifdef __cplusplus
 }

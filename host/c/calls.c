@@ -1,8 +1,8 @@
-/* Calls every function of include/bulhyemik.h once from C99, on the marked cases of document 01, and prints what differs. */
+/* Calls every function of include/bulhyemik.h from C (C89 to C++23): the marked cases of document 01, every refusal, all lent
+ * memory before and after, and empty memory; prints what differs. */
 
 #include "bulhyemik.h"
 
-#include <inttypes.h>
 #include <stdio.h>
 #include <string.h>
 
@@ -11,133 +11,306 @@ static const char HEADER[] =
     "ramp\t100\t0\t200\t1000000\n"
     "grid\tbasin\t0\t0\t10\t10\t3\t2\t1\t0\n";
 
-enum { HEADER_LENGTH = sizeof HEADER - 1 };
-
 static const int32_t NODES[6] = {0, 10, 20, 100, 110, 120};
 
 static int checks = 0;
 static int failures = 0;
 
 /* Counts a check, and prints it if it fails. */
-static void expect(const char *what, int64_t got, int64_t expected) {
+#define EXPECT(test) expect((test) ? 1 : 0, #test, __LINE__)
+
+static void expect(int holds, const char *test, int line) {
     checks++;
-    if (got != expected) {
+    if (!holds) {
         failures++;
-        printf("%s is %" PRId64 " instead of %" PRId64 "\n", what, got, expected);
+        printf("line %d: %s\n", line, test);
     }
 }
 
-/* The same for a float. */
-static void expect_float(const char *what, double got, double expected) {
-    checks++;
-    if (memcmp(&got, &expected, sizeof got) != 0) {
-        failures++;
-        printf("%s is %.17g instead of %.17g\n", what, got, expected);
-    }
+static const uint8_t *bytes(const char *text) {
+    return (const uint8_t *)text;
 }
 
-static int64_t group[BULHYEMIK_GROUP_NUMBERS];
-static uint8_t names[BULHYEMIK_GROUP_NAMES];
+/* Whether all bytes of some memory are this one. */
+static int all(const void *memory, size_t length, int byte) {
+    size_t k;
+    for (k = 0; k < length; k++)
+        if (((const uint8_t *)memory)[k] != byte)
+            return 0;
+    return 1;
+}
+
+/* Whether two floats have the same bits. */
+static int same(double one, double other) {
+    return memcmp(&one, &other, sizeof one) == 0;
+}
+
+/* The group of HEADER. */
+static bulhyemik_group dock(void) {
+    bulhyemik_group group;
+    uint64_t place;
+    memset(&group, 0xa5, sizeof group);
+    EXPECT(bulhyemik_read_header(bytes(HEADER), strlen(HEADER), &group, &place) == BULHYEMIK_ACCEPTED && place == 0);
+    return group;
+}
+
+static void put_grid(bulhyemik_grid *grid, const char *name, int64_t lon, int64_t ni, int64_t rank) {
+    memset(grid, 0, sizeof *grid);
+    memcpy(grid->name, name, strlen(name));
+    grid->name_length = (int64_t)strlen(name);
+    grid->lon = lon;
+    grid->dlon = 10;
+    grid->dlat = 10;
+    grid->ni = ni;
+    grid->nj = 2;
+    grid->rank = rank;
+}
+
+/* The group of M11. */
+static bulhyemik_group three_grids(void) {
+    bulhyemik_group group = dock();
+    group.grids = 3;
+    put_grid(&group.grid[0], "G1", 0, 3, 3);
+    put_grid(&group.grid[1], "G2", 0, 2, 1);
+    put_grid(&group.grid[2], "G3", 10, 2, 2);
+    return group;
+}
+
+static void version(void) {
+    EXPECT(bulhyemik_version() == BULHYEMIK_VERSION);
+}
 
 static void read_header(void) {
-    int64_t answer[BULHYEMIK_PLACE_NUMBERS];
-    uint64_t number = bulhyemik_read_header((const uint8_t *)HEADER, HEADER_LENGTH, group, BULHYEMIK_GROUP_NUMBERS,
-                                            names, BULHYEMIK_GROUP_NAMES, answer, BULHYEMIK_PLACE_NUMBERS);
-    expect("read_header", (int64_t)number, 0);
-    expect("place of read_header", answer[BULHYEMIK_PLACE], 0);
-    expect("unit", group[BULHYEMIK_UNIT], BULHYEMIK_METRE);
-    expect("quantum", group[BULHYEMIK_QUANTUM], 13);
-    expect("B of the ramp", group[BULHYEMIK_RAMP + BULHYEMIK_RAMP_B], 200);
-    expect("NI of the grid", group[BULHYEMIK_GRID + BULHYEMIK_GRID_NI], 3);
-    expect("length of the grid's name", group[BULHYEMIK_GRID + BULHYEMIK_GRID_NAME_LENGTH], 5);
-    expect("name of the grid", memcmp(names + BULHYEMIK_NAME_BYTES, "basin", 6), 0);
+    bulhyemik_group group = dock();
+    EXPECT(memcmp(group.name, "dock\0\0\0\0\0\0\0\0\0\0\0\0\0\0\0\0\0\0\0", 24) == 0 && group.name_length == 4);
+    EXPECT(group.unit == BULHYEMIK_METRE && group.quantum == 13 && group.parameters == 1);
+    EXPECT(group.ramps == 1 && group.ramp[0].a == 100 && group.ramp[0].s0 == 0);
+    EXPECT(group.ramp[0].b == 200 && group.ramp[0].s1 == 1000000);
+    EXPECT(all(&group.ramp[1], sizeof group.ramp - sizeof group.ramp[0], 0));
+    EXPECT(group.grids == 1 && group.grid[0].name_length == 5);
+    EXPECT(memcmp(group.grid[0].name, "basin\0\0\0\0\0\0\0\0\0\0\0\0\0\0\0\0\0\0", 24) == 0);
+    EXPECT(group.grid[0].lon == 0 && group.grid[0].lat == 0 && group.grid[0].dlon == 10 && group.grid[0].dlat == 10);
+    EXPECT(group.grid[0].ni == 3 && group.grid[0].nj == 2 && group.grid[0].rank == 1 && group.grid[0].start == 0);
+    EXPECT(all(&group.grid[1], sizeof group.grid - sizeof group.grid[0], 0));
+}
+
+/* Reads a text that is refused, which leaves the group as it was. */
+static void refused(const char *text, size_t length, uint64_t number, uint64_t at) {
+    bulhyemik_group group;
+    uint64_t place = 77;
+    memset(&group, 0xa5, sizeof group);
+    EXPECT(bulhyemik_read_header(bytes(text), length, &group, &place) == number);
+    EXPECT(place == at);
+    EXPECT(all(&group, sizeof group, 0xa5));
+}
+
+static void read_refused_headers(void) {
+    static const char limit[] = "group\tdock\tmetre\t21\t1\t0\t1\n";
+    static const char name[] = "group\tg\tmetre\t0\t1\t0\t2\ngrid\ta\t0\t0\t1\t1\t2\t2\t1\t0\ngrid\ta\t9\t0\t1\t1\t2\t2\t1\t0\n";
+    static const char far_edge[] = "group\tg\tmetre\t0\t1\t0\t1\ngrid\ta\t0\t324000000\t1\t1\t2\t2\t1\t0\n";
+    static const char rank[] = "group\tg\tmetre\t0\t1\t0\t2\ngrid\ta\t0\t0\t1\t1\t2\t2\t1\t0\ngrid\tb\t1\t1\t1\t1\t2\t2\t1\t0\n";
+    refused("", 0, BULHYEMIK_BAD_FORM, 1);
+    refused(NULL, 0, BULHYEMIK_BAD_FORM, 1);
+    refused(HEADER, 30, BULHYEMIK_BAD_FORM, 2);
+    refused(HEADER, strlen(HEADER) - 1, BULHYEMIK_BAD_FORM, 3);
+    refused(HEADER, sizeof HEADER, BULHYEMIK_BAD_FORM, 4);
+    refused(limit, strlen(limit), BULHYEMIK_BAD_NUMBER, 1);
+    refused(name, strlen(name), BULHYEMIK_SAME_NAME, 2);
+    refused(far_edge, strlen(far_edge), BULHYEMIK_BAD_EXTENT, 1);
+    refused(rank, strlen(rank), BULHYEMIK_SAME_RANK, 2);
 }
 
 static void judge(void) {
-    int64_t answer[BULHYEMIK_PLACE_NUMBERS];
-    expect("judge", (int64_t)bulhyemik_judge(group, BULHYEMIK_GROUP_NUMBERS, names, BULHYEMIK_GROUP_NAMES, answer,
-                                             BULHYEMIK_PLACE_NUMBERS), 0);
-    expect("judge of nothing", (int64_t)bulhyemik_judge(group, 0, names, 0, answer, BULHYEMIK_PLACE_NUMBERS), 2);
-    expect("place of nothing", answer[BULHYEMIK_PLACE], 1);
-    answer[BULHYEMIK_PLACE] = 77;
-    expect("judge without answer", (int64_t)bulhyemik_judge(group, BULHYEMIK_GROUP_NUMBERS, names,
-                                                            BULHYEMIK_GROUP_NAMES, answer, 0), 12);
-    expect("place without answer", answer[BULHYEMIK_PLACE], 77);
+    bulhyemik_group group = dock();
+    uint64_t place = 77;
+    int k;
+    EXPECT(bulhyemik_judge(&group, &place) == BULHYEMIK_ACCEPTED && place == 0);
+    for (k = 0; k < 24; k++) {
+        group = dock();
+        group.grid[0].name[k] = 0xc3;
+        EXPECT(bulhyemik_judge(&group, &place) == BULHYEMIK_BAD_NUMBER && place == 3);
+    }
+    group = dock();
+    memcpy(group.grid[0].name, "ABCDEFGHIJKLMNOPQRSTUVWX", 24);
+    group.grid[0].name_length = 24;
+    EXPECT(bulhyemik_judge(&group, &place) == BULHYEMIK_ACCEPTED && place == 0);
+    group.grid[63].name[23] = 'x';
+    EXPECT(bulhyemik_judge(&group, &place) == BULHYEMIK_BAD_NUMBER && place == 1);
+    group = dock();
+    group.grid[63].start = 1;
+    EXPECT(bulhyemik_judge(&group, &place) == BULHYEMIK_BAD_NUMBER && place == 1);
+    group = dock();
+    group.quantum = -1;
+    EXPECT(bulhyemik_judge(&group, &place) == BULHYEMIK_BAD_NUMBER && place == 1);
+    group = dock();
+    group.unit = 2;
+    EXPECT(bulhyemik_judge(&group, &place) == BULHYEMIK_BAD_NUMBER && place == 1);
+    group = dock();
+    group.ramp[0].a = 201;
+    EXPECT(bulhyemik_judge(&group, &place) == BULHYEMIK_BAD_NUMBER && place == 2);
+    group = three_grids();
+    memcpy(group.grid[2].name, "G1", 2);
+    EXPECT(bulhyemik_judge(&group, &place) == BULHYEMIK_SAME_NAME && place == 3);
+    group = three_grids();
+    group.grid[1].start = 16777213;
+    EXPECT(bulhyemik_judge(&group, &place) == BULHYEMIK_BAD_EXTENT && place == 2);
+    group = three_grids();
+    group.grid[2].rank = 1;
+    EXPECT(bulhyemik_judge(&group, &place) == BULHYEMIK_SAME_RANK && place == 3);
 }
 
 static void write_header(void) {
-    uint8_t out[BULHYEMIK_HEADER_BYTES];
-    int64_t answer[BULHYEMIK_WRITE_NUMBERS];
-    uint64_t number = bulhyemik_write_header(group, BULHYEMIK_GROUP_NUMBERS, names, BULHYEMIK_GROUP_NAMES, out,
-                                             sizeof out, answer, BULHYEMIK_WRITE_NUMBERS);
-    expect("write_header", (int64_t)number, 0);
-    expect("count of bytes", answer[BULHYEMIK_WRITE_COUNT], HEADER_LENGTH);
-    expect("same bytes", memcmp(out, HEADER, HEADER_LENGTH), 0);
+    static uint8_t out[BULHYEMIK_HEADER_BYTES];
+    bulhyemik_group group = dock();
+    uint64_t count = 77, place = 77;
+    const size_t length = strlen(HEADER);
+    memset(out, 0xa5, sizeof out);
+    EXPECT(bulhyemik_write_header(&group, out, length - 1, &count, &place) == BULHYEMIK_BAD_LENGTH);
+    EXPECT(count == 0 && place == 0 && all(out, sizeof out, 0xa5));
+    EXPECT(bulhyemik_write_header(&group, NULL, 0, &count, &place) == BULHYEMIK_BAD_LENGTH && count == 0);
+    group.grids = 0;
+    count = place = 77;
+    EXPECT(bulhyemik_write_header(&group, out, sizeof out, &count, &place) == BULHYEMIK_BAD_NUMBER);
+    EXPECT(count == 0 && place == 1 && all(out, sizeof out, 0xa5));
+    group.grids = 1;
+    EXPECT(bulhyemik_write_header(&group, out, sizeof out, &count, &place) == BULHYEMIK_ACCEPTED);
+    EXPECT(count == length && place == 0 && memcmp(out, HEADER, length) == 0);
+    EXPECT(all(out + length, sizeof out - length, 0xa5));
 }
 
 static void field(void) {
-    int64_t answer[BULHYEMIK_FIELD_NUMBERS];
-    uint64_t number = bulhyemik_field((const uint8_t *)"ramp\t100\t0", 10, 1, answer, BULHYEMIK_FIELD_NUMBERS);
-    expect("field", (int64_t)number, 0);
-    expect("first byte of the field", answer[BULHYEMIK_FIELD_FROM], 5);
-    expect("byte behind the field", answer[BULHYEMIK_FIELD_TO], 8);
+    bulhyemik_part part;
+    bulhyemik_field(bytes("ramp\t100\t0"), 10, 1, &part);
+    EXPECT(part.from == 5 && part.to == 8);
+    bulhyemik_field(bytes("ramp\t100\t0"), 10, 2, &part);
+    EXPECT(part.from == 9 && part.to == 10);
+    bulhyemik_field(bytes("ramp\t100\t0"), 10, 3, &part);
+    EXPECT(part.from == 10 && part.to == 10);
+    bulhyemik_field(bytes("ramp\t100\t0"), 10, UINT64_MAX, &part);
+    EXPECT(part.from == 10 && part.to == 10);
+    bulhyemik_field(NULL, 0, 0, &part);
+    EXPECT(part.from == 0 && part.to == 0);
 }
 
-static void lookup_and_screen(void) {
-    int64_t found[BULHYEMIK_LOOKUP_NUMBERS];
-    int64_t answer[BULHYEMIK_PLACE_NUMBERS];
-    double shifts[BULHYEMIK_SHIFTS];
-    double screen[BULHYEMIK_SCREEN_FLOATS];
-    uint64_t quantum = (uint64_t)group[BULHYEMIK_QUANTUM];
-    uint64_t parameters = (uint64_t)group[BULHYEMIK_PARAMETERS];
-    uint64_t number = bulhyemik_lookup(group, BULHYEMIK_GROUP_NUMBERS, names, BULHYEMIK_GROUP_NAMES, NODES, 6, 5, 5,
-                                       200, found, BULHYEMIK_LOOKUP_NUMBERS);
-    expect("lookup", (int64_t)number, 0);
-    expect("chosen grid", found[BULHYEMIK_LOOKUP_GRID], 1);
-    expect("result", found[BULHYEMIK_LOOKUP_RESULT], 55);
-    expect("screen_answer", (int64_t)bulhyemik_screen_answer(quantum, parameters, number, found,
-                                                             BULHYEMIK_LOOKUP_NUMBERS, shifts, BULHYEMIK_SHIFTS, answer,
-                                                             BULHYEMIK_PLACE_NUMBERS), 0);
-    expect_float("first shift", shifts[0], 55.0 / 8192.0);
-    expect_float("missing shift", shifts[1], 0.0);
-    expect("screen_record", (int64_t)bulhyemik_screen_record(3600000, -1800000, quantum, parameters, number, found,
-                                                             BULHYEMIK_LOOKUP_NUMBERS, screen, BULHYEMIK_SCREEN_FLOATS,
-                                                             answer, BULHYEMIK_PLACE_NUMBERS), 0);
-    expect_float("degrees of longitude", screen[0], 1.0);
-    expect_float("degrees of latitude", screen[1], -0.5);
-    expect_float("shift of the record", screen[2], 55.0 / 8192.0);
+/* A lookup that is refused: the fix is all zeros. */
+static void lookup_refused(const bulhyemik_group *group, const int32_t *nodes, size_t length, const int64_t at[3],
+                           uint64_t number, uint64_t where) {
+    bulhyemik_fix fix;
+    uint64_t place = 77;
+    memset(&fix, 0xa5, sizeof fix);
+    EXPECT(bulhyemik_lookup(group, nodes, length, at[0], at[1], at[2], &fix, &place) == number);
+    EXPECT(place == where && all(&fix, sizeof fix, 0));
+}
+
+static void lookup(void) {
+    static const int64_t inside[3] = {1, 5, 200}, beside[3] = {21, 10, 200}, north[3] = {0, 324000001, 0}, late[3] = {0, 0, 1000001};
+    bulhyemik_group group = dock();
+    int32_t nodes[6];
+    bulhyemik_fix fix;
+    uint64_t place = 77;
+    memset(&fix, 0xa5, sizeof fix);
+    EXPECT(bulhyemik_lookup(&group, NODES, 6, 5, 5, 200, &fix, &place) == BULHYEMIK_ACCEPTED && place == 0);
+    EXPECT(fix.grid == 1 && fix.result[0] == 55 && fix.result[1] == 0 && fix.result[2] == 0);
+    EXPECT(bulhyemik_lookup(&group, NODES, 6, 20, 10, 200, &fix, &place) == BULHYEMIK_ACCEPTED && fix.result[0] == 120);
+    EXPECT(bulhyemik_lookup(&group, NODES, 6, 0, 10, 133, &fix, &place) == BULHYEMIK_ACCEPTED && fix.result[0] == 33);
+    lookup_refused(&group, NODES, 6, beside, BULHYEMIK_NO_GRID, 0);
+    lookup_refused(&group, NODES, 6, north, BULHYEMIK_BAD_POINT, 0);
+    lookup_refused(&group, NODES, 6, late, BULHYEMIK_BAD_DAY, 0);
+    lookup_refused(&group, NODES, 5, inside, BULHYEMIK_FEW_NODES, 1);
+    lookup_refused(&group, NULL, 0, inside, BULHYEMIK_FEW_NODES, 1);
+    memcpy(nodes, NODES, sizeof nodes);
+    nodes[1] = BULHYEMIK_MARK;
+    lookup_refused(&group, nodes, 6, inside, BULHYEMIK_NO_DATA, 0);
+    EXPECT(bulhyemik_lookup(&group, nodes, 6, 0, 5, 200, &fix, &place) == BULHYEMIK_ACCEPTED && fix.result[0] == 50);
+    nodes[1] = 4000001;
+    lookup_refused(&group, nodes, 6, inside, BULHYEMIK_BAD_NODE, 0);
+    group.grid[0].rank = 0;
+    lookup_refused(&group, NODES, 6, inside, BULHYEMIK_BAD_NUMBER, 3);
 }
 
 static void grids_in_force(void) {
-    int64_t answer[BULHYEMIK_IN_FORCE_NUMBERS];
-    uint64_t number = bulhyemik_grids_in_force(group, BULHYEMIK_GROUP_NUMBERS, names, BULHYEMIK_GROUP_NAMES, -648000000,
-                                               648000000, 3, 324000000, answer, BULHYEMIK_IN_FORCE_NUMBERS);
-    expect("grids_in_force", (int64_t)number, 0);
-    expect("count of grids in force", answer[BULHYEMIK_IN_FORCE_COUNT], 1);
-    expect("grid in force", answer[BULHYEMIK_IN_FORCE_ENTRY + BULHYEMIK_ENTRY_GRID], 1);
-    expect("its longitude", answer[BULHYEMIK_IN_FORCE_ENTRY + BULHYEMIK_ENTRY_LON], 0);
-    expect("its latitude", answer[BULHYEMIK_IN_FORCE_ENTRY + BULHYEMIK_ENTRY_LAT], 3);
+    bulhyemik_group group = three_grids();
+    bulhyemik_in_force list;
+    uint64_t place = 77;
+    memset(&list, 0xa5, sizeof list);
+    EXPECT(bulhyemik_grids_in_force(&group, 0, 20, 0, 10, &list, &place) == BULHYEMIK_ACCEPTED);
+    EXPECT(place == 0 && list.count == 2);
+    EXPECT(list.entry[0].grid == 2 && list.entry[0].lon == 0 && list.entry[0].lat == 0);
+    EXPECT(list.entry[1].grid == 3 && list.entry[1].lon == 11 && list.entry[1].lat == 0);
+    EXPECT(all(&list.entry[2], sizeof list.entry - 2 * sizeof list.entry[0], 0));
+    group.grid[2].lon = 12;
+    EXPECT(bulhyemik_grids_in_force(&group, -648000000, 648000000, -324000000, 324000000, &list, &place) == 0);
+    EXPECT(list.count == 3 && list.entry[2].grid == 1 && list.entry[2].lon == 11 && list.entry[2].lat == 0);
+    EXPECT(bulhyemik_grids_in_force(&group, 30, 40, 0, 10, &list, &place) == 0 && all(&list, sizeof list, 0));
+    memset(&list, 0xa5, sizeof list);
+    EXPECT(bulhyemik_grids_in_force(&group, 1, 0, 0, 10, &list, &place) == BULHYEMIK_BAD_AREA);
+    EXPECT(place == 0 && all(&list, sizeof list, 0));
 }
 
 static void load_nodes(void) {
-    const float floats[3] = {0.5f, 1.5f, -9999.0f};
+    static const float floats[3] = {0.5f, 1.5f, -9999.0f};
     int32_t nodes[3];
-    int64_t answer[BULHYEMIK_PLACE_NUMBERS];
-    expect("load_nodes", (int64_t)bulhyemik_load_nodes(floats, 3, -9999.0f, 0, nodes, 3, answer,
-                                                       BULHYEMIK_PLACE_NUMBERS), 0);
-    expect("first node", nodes[0], 0);
-    expect("second node", nodes[1], 2);
-    expect("third node", nodes[2], BULHYEMIK_MARK);
+    uint64_t place = 77;
+    memset(nodes, 0xa5, sizeof nodes);
+    EXPECT(bulhyemik_load_nodes(floats, 3, -9999.0f, -1, nodes, 2, &place) == BULHYEMIK_BAD_NUMBER && place == 0);
+    EXPECT(bulhyemik_load_nodes(floats, 3, -9999.0f, 21, nodes, 3, &place) == BULHYEMIK_BAD_NUMBER && place == 0);
+    EXPECT(bulhyemik_load_nodes(floats, 3, -9999.0f, 0, nodes, 2, &place) == BULHYEMIK_BAD_LENGTH && place == 0);
+    EXPECT(bulhyemik_load_nodes(floats, 3, 0.0f, 20, nodes, 3, &place) == BULHYEMIK_BAD_NODE && place == 3);
+    EXPECT(all(nodes, sizeof nodes, 0xa5));
+    EXPECT(bulhyemik_load_nodes(floats, 3, -9999.0f, 0, nodes, 3, &place) == BULHYEMIK_ACCEPTED && place == 0);
+    EXPECT(nodes[0] == 0 && nodes[1] == 2 && nodes[2] == BULHYEMIK_MARK);
+    place = 77;
+    EXPECT(bulhyemik_load_nodes(NULL, 0, 0.0f, 0, NULL, 0, &place) == BULHYEMIK_ACCEPTED && place == 0);
+}
+
+/* What both screen calls answer to a refusal, and that their floats are +0. */
+static void screen_refused(int64_t quantum, int64_t parameters, uint64_t number, uint64_t at, uint64_t told, uint64_t where) {
+    bulhyemik_fix fix = {1, {55, 56, 57}};
+    bulhyemik_screen screen;
+    double shifts[3];
+    uint64_t place = 77;
+    memset(&screen, 0xa5, sizeof screen);
+    memset(shifts, 0xa5, sizeof shifts);
+    EXPECT(bulhyemik_screen_answer(quantum, parameters, number, at, &fix, shifts, &place) == told);
+    EXPECT(place == where && all(shifts, sizeof shifts, 0));
+    place = 77;
+    EXPECT(bulhyemik_screen_record(5, 5, quantum, parameters, number, at, &fix, &screen, &place) == told);
+    EXPECT(place == where && all(&screen, sizeof screen, 0));
+}
+
+static void screens(void) {
+    bulhyemik_fix fix = {1, {55, 56, 57}};
+    bulhyemik_screen screen;
+    double shifts[3];
+    uint64_t place = 77, number;
+    EXPECT(bulhyemik_screen_answer(13, 2, 0, 77, &fix, shifts, &place) == BULHYEMIK_ACCEPTED && place == 0);
+    EXPECT(same(shifts[0], 55.0 / 8192.0) && same(shifts[1], 56.0 / 8192.0) && same(shifts[2], 0.0));
+    place = 77;
+    EXPECT(bulhyemik_screen_record(3600000, -1800000, 0, 3, 0, 0, &fix, &screen, &place) == BULHYEMIK_ACCEPTED);
+    EXPECT(place == 0 && same(screen.longitude, 1.0) && same(screen.latitude, -0.5));
+    EXPECT(same(screen.shift[0], 55.0) && same(screen.shift[1], 56.0) && same(screen.shift[2], 57.0));
+    for (number = 1; number <= 13; number++)
+        screen_refused(13, 1, number, 7, number, 7);
+    screen_refused(13, 1, 14, 7, BULHYEMIK_BAD_NUMBER, 0);
+    screen_refused(13, 1, UINT64_MAX, 7, BULHYEMIK_BAD_NUMBER, 0);
+    screen_refused(-1, 1, BULHYEMIK_NO_GRID, 7, BULHYEMIK_BAD_NUMBER, 0);
+    screen_refused(21, 1, BULHYEMIK_ACCEPTED, 7, BULHYEMIK_BAD_NUMBER, 0);
+    screen_refused(13, -1, BULHYEMIK_ACCEPTED, 7, BULHYEMIK_BAD_NUMBER, 0);
+    screen_refused(13, 0, BULHYEMIK_ACCEPTED, 7, BULHYEMIK_BAD_NUMBER, 0);
+    screen_refused(13, 4, BULHYEMIK_ACCEPTED, 7, BULHYEMIK_BAD_NUMBER, 0);
 }
 
 int main(void) {
+    version();
     read_header();
+    read_refused_headers();
     judge();
     write_header();
     field();
-    lookup_and_screen();
+    lookup();
     grids_in_force();
     load_nodes();
+    screens();
     printf("%d checks, %d failed\n", checks, failures);
     return failures == 0 ? 0 : 1;
 }

@@ -1,18 +1,41 @@
--- A lent list that is too short, or long enough; a lookup's answer of its numbers.
-use Prim.Native.Nat.{ℕ, _≤_, _<_}
-use mathlib.Core.Path.{_≡_, sym, ap, _∙_}
-use mathlib.Core.Bool.{Bool, true, false, not, cond, _&&_}
-use mathlib.Core.List.{List}
-use borrow.Author.Tests.{lt-ltb, le-ltb, eq-eqb, ne-eqb}
-use lib.Dec.{ltb, eqb}
+-- What each call leaves, of what its callees told: laws over plain values, handed the facts.
+use Prim.Native.Nat.{ℕ}
+use mathlib.Core.Path.{_≡_, refl, sym, ap, _∙_}
+use mathlib.Core.Bool.{Bool, true, false, cond}
+use mathlib.Core.List.{List, [], _∷_, _++_}
+use borrow.Author.Tests.{eq-eqb, ne-eqb}
+use lib.Dec.{eqb}
 use lib.Ieee.{Float}
 use lib.IntN.{ℤ, pos}
-use lib.ListN.{length}
+use native.Mathlib.Omega.{arith}
+use lib.ListN.{length, getD, length-append}
+use lib.Seq.{sets}
+use Rattle.group.specs.declared.Group.{Group}
+use Rattle.group.specs.declared.Refusal.{Refusal}
+use Rattle.group.specs.declared.Verdict.{Verdict}
+use Rattle.group.specs.declared.Verdict.the-variants as verdict
+use Rattle.header.specs.declared.Reading.{Reading}
+use Rattle.header.specs.declared.Written.{Written}
+use Rattle.header.specs.Header.{readHeader, written, writtenRefusal, writtenCount, bytesAfter}
+use Rattle.nodes.specs.declared.Loaded.{Loaded}
+use Rattle.nodes.specs.Load.{loaded, loadedRefusal, nodesAfter}
+use Rattle.fix.specs.declared.Lookup.{Lookup}
 use Rattle.fix.specs.declared.Lookup.the-variants.{Fix, Refused}
-use Rattle.screen.specs.Screen.{admitted}
-use Rattle.layout.specs.Layout.{numberAt, countAt}
-use Rattle.capi.specs.Answers.{unlessShort, unlessAny}
-use Rattle.capi.specs.Screen.{lookupOf, shownPlace, unlessEither}
+use Rattle.inforce.specs.declared.InForce.{InForce}
+use Rattle.inforce.specs.InForce.{noGrid, inForceOf}
+use Rattle.group.specs.Refusals.{refusal, verdictRefusal}
+use Rattle.fix.specs.Answers.{lookupRefusal}
+use Rattle.judge.specs.Judge.{judged}
+use Rattle.lookup.specs.Lookup.{looked}
+use Rattle.screen.specs.declared.ScreenAnswer.{ScreenAnswer}
+use Rattle.screen.specs.declared.ScreenRecord.{ScreenRecord}
+use Rattle.screen.specs.Screen.{screenRefusal, shiftsOf, answerOf, recordOf}
+use Rattle.layout.specs.Layout.{groupOf, numbersOf, countOf, countAt, numberAt, stored, joined}
+use Rattle.layout.proofs.ListLaws.{sets-append, sets-whole, length-joined}
+use Rattle.capi.specs.Answers.{Answer, left, judgeAnswer, readBy, readOf, readAnswer, storedFound, foundAnswer, pointOf, lookupAnswer, Text, lentText, writtenAnswer, writeAnswer, loadedBy, loadAnswer}
+use Rattle.capi.specs.InForce.{areaOf, storedEntry, storedList, listAnswer, inForceAnswer}
+use Rattle.capi.proofs.SmallLaws.{found-stored, in-force-stored}
+use Rattle.capi.specs.Screen.{lookupOf, shownOf, shiftsAnswer, recordFloats, recordAnswer}
 
 -- a choice whose test is known
 module _ {A : Type 0} where
@@ -22,55 +45,86 @@ module _ {A : Type 0} where
   pub passed-over : (t : Bool) (x y : A) → t ≡ false → cond t x y ≡ y
   passed-over t x y e = ap (λ (b : Bool). cond b x y) e
 
-module _ {A B : Type 0} where
-  pub short : (l : List A) (n : ℕ) (x y : B) → length l < n → unlessShort l n x y ≡ x
-  short l n x y h = chosen (ltb (length l) n) x y (lt-ltb (length l) n h)
+module _ (l : List ℤ) (g : Group) (group : g ≡ groupOf l) where
+  pub judge-told : (v : Verdict) (r : Refusal) → v ≡ judged g → r ≡ verdictRefusal v → r ≡ judgeAnswer l
+  unfolding judgeAnswer
+  judge-told v r a b = b ∙ ap verdictRefusal (a ∙ ap judged group)
 
-  pub long : (l : List A) (n : ℕ) (x y : B) → n ≤ length l → unlessShort l n x y ≡ y
-  long l n x y h = passed-over (ltb (length l) n) x y (le-ltb (length l) n h)
+  pub lookup-told : (nodes : List ℤ) (lon lat day x y d : ℤ) (f : Lookup) (r : Refusal) (ns : List ℤ)
+      → x ≡ lon → y ≡ lat → d ≡ day → f ≡ looked g nodes (pointOf x y) d → r ≡ lookupRefusal f → ns ≡ storedFound f
+      → left (r .number) (r .place) ns ≡ lookupAnswer l nodes lon lat day
+  unfolding lookupAnswer
+  lookup-told nodes lon lat day x y d f r ns ex ey ed a b c =
+      (λ i. record { refusal = b i; lent = (c ∙ found-stored g nodes (pointOf x y) d f a) i }) ∙ ap foundAnswer (a ∙ (λ i. looked (group i) nodes (pointOf (ex i) (ey i)) (ed i)))
 
-module _ (number : ℕ) (found : List ℤ) where
-  pub lookup-fix : (g : ℕ) (a b c : ℤ) → number ≡ 0 → g ≡ countAt found 1 → a ≡ numberAt found 2 → b ≡ numberAt found 3 → c ≡ numberAt found 4
-      → Fix (record { grid = g; first = a; second = b; third = c }) ≡ lookupOf number found
+  pub in-force-told : (west east south north w e s n : ℤ) (f : InForce) (r : Refusal) (ns : List ℤ)
+      → w ≡ west → e ≡ east → s ≡ south → n ≡ north → f ≡ inForceOf g (areaOf w e s n) → r ≡ verdictRefusal (f .verdict) → ns ≡ storedList f
+      → left (r .number) (r .place) ns ≡ inForceAnswer l (areaOf west east south north)
+  unfolding inForceAnswer
+  in-force-told west east south north w e s n f r ns ew ee es en a b c =
+      (λ i. record { refusal = b i; lent = (c ∙ in-force-stored g (areaOf w e s n) f a) i }) ∙ ap listAnswer (a ∙ (λ i. inForceOf (group i) (areaOf (ew i) (ee i) (es i) (en i))))
+
+  pub write-told : (out after : List ℕ) (w : Written) (r : Refusal) (n : ℕ)
+      → w ≡ written g (length out) → after ≡ bytesAfter g out → r ≡ writtenRefusal w → n ≡ writtenCount w
+      → left (r .number) (r .place) (lentText n after) ≡ writeAnswer l out
+  unfolding writeAnswer
+  write-told out after w r n a b c d =
+      (λ i. record { refusal = c i; lent = lentText (d i) (b i) })
+      ∙ (λ i. writtenAnswer (a i) (bytesAfter g out))
+      ∙ (λ i. writtenAnswer (written (group i) (length out)) (bytesAfter (group i) out))
+
+module _ (text : List ℕ) (lent : List ℤ) (r : Reading) (e : r ≡ readHeader text) where
+  pub read-accepted : (ns : List ℤ) → r .verdict ≡ verdict.Accepted → ns ≡ numbersOf (r .group) → left 0 0 ns ≡ readAnswer text lent
+  unfolding readAnswer
+  read-accepted ns v n =
+      (λ i. left 0 0 (n i)) ∙ sym (ap (λ (x : Verdict). readBy x (numbersOf (r .group)) lent) v) ∙ ap (λ (x : Reading). readOf x lent) e
+
+  pub read-refused : (f : Refusal) → r .verdict ≡ verdict.Refused f → left (f .number) (f .place) lent ≡ readAnswer text lent
+  unfolding readAnswer
+  read-refused f v = sym (ap (λ (x : Verdict). readBy x (numbersOf (r .group)) lent) v) ∙ ap (λ (x : Reading). readOf x lent) e
+
+pub load-told : (quantum : ℤ) (flag : Float) (floats : List Float) (nodes after : List ℤ) (q : ℕ) (l : Loaded) (r : Refusal)
+    → q ≡ countOf quantum → l ≡ loaded q flag floats (length nodes) → after ≡ nodesAfter q flag floats nodes → r ≡ loadedRefusal l
+    → left (r .number) (r .place) after ≡ loadAnswer quantum flag floats nodes
+unfolding loadAnswer
+load-told quantum flag floats nodes after q l r a b c d =
+    (λ i. record { refusal = (d ∙ ap loadedRefusal b) i; lent = c i }) ∙ ap (λ (n : ℕ). loadedBy n flag floats nodes) a
+
+module _ (number place : ℕ) (fix : List ℤ) where
+  pub lookup-fix : (g : ℕ) (a b c : ℤ) → number ≡ 0 → g ≡ countAt fix 0 → a ≡ numberAt fix 1 → b ≡ numberAt fix 2 → c ≡ numberAt fix 3
+      → Fix (record { grid = g; first = a; second = b; third = c }) ≡ lookupOf number place fix
   unfolding lookupOf
   lookup-fix g a b c e p q r s =
       (λ i. Fix (record { grid = p i; first = q i; second = r i; third = s i })) ∙ sym (chosen (eqb number 0) _ _ (eq-eqb number 0 e))
 
-  pub lookup-refused : (p : ℕ) → (number ≡ 0 → ⊥) → p ≡ countAt found 0 → Refused (record { number = number; place = p }) ≡ lookupOf number found
+  pub lookup-refused : (number ≡ 0 → ⊥) → Refused (refusal number place) ≡ lookupOf number place fix
   unfolding lookupOf
-  lookup-refused p e q = (λ i. Refused (record { number = number; place = q i })) ∙ sym (passed-over (eqb number 0) _ _ (ne-eqb number 0 e))
+  lookup-refused e = sym (passed-over (eqb number 0) _ _ (ne-eqb number 0 e))
 
-  -- the place that the screen hands on
-  module _ (q np : ℕ) where
-    pub place-of-lookup : (z : ℤ) → (admitted q np && not (eqb number 0)) ≡ true → z ≡ numberAt found 0 → z ≡ shownPlace q np number found
-    unfolding shownPlace
-    place-of-lookup z t e = e ∙ sym (chosen (admitted q np && not (eqb number 0)) _ _ t)
+module _ (quantum parameters : ℤ) (number place : ℕ) (fix : List ℤ) (q np : ℕ) (f : Lookup) (eq : q ≡ countOf quantum) (en : np ≡ countOf parameters)
+    (ef : f ≡ lookupOf number place fix) where
+  pub shown-told : (s : ScreenAnswer) → s ≡ answerOf f q np → s ≡ shownOf quantum parameters number place fix
+  unfolding shownOf
+  shown-told s e = e ∙ (λ i. answerOf (ef i) (eq i) (en i))
 
-    pub no-place : (admitted q np && not (eqb number 0)) ≡ false → pos 0 ≡ shownPlace q np number found
-    unfolding shownPlace
-    no-place t = sym (passed-over (admitted q np && not (eqb number 0)) _ _ t)
+  pub shifts-told : (s : ScreenAnswer) (r : Refusal) (fs : List Float) → s ≡ answerOf f q np → r ≡ screenRefusal s → fs ≡ shiftsOf s
+      → left (r .number) (r .place) fs ≡ shiftsAnswer (shownOf quantum parameters number place fix)
+  shifts-told s r fs e a b = (λ i. record { refusal = a i; lent = b i }) ∙ ap shiftsAnswer (shown-told s e)
 
--- two lent lists
-module _ {B : Type 0} (answer : List ℤ) (floats : List Float) (n : ℕ) (x y : B) where
-  pub first-short : length answer < 1 → unlessEither answer floats n x y ≡ x
-  first-short h = short answer 1 x _ h
+  pub record-told : (lon lat x y : ℤ) (s : ScreenAnswer) (r : Refusal) (d : ScreenRecord) → x ≡ lon → y ≡ lat → s ≡ answerOf f q np
+      → r ≡ screenRefusal s → d ≡ recordOf (pointOf x y) (answerOf f q np)
+      → left (r .number) (r .place) (recordFloats d) ≡ recordAnswer lon lat (shownOf quantum parameters number place fix)
+  record-told lon lat x y s r d ex ey e a b =
+      (λ i. record { refusal = a i; lent = recordFloats ((b ∙ (λ j. recordOf (pointOf (ex j) (ey j)) (sym e j))) i) })
+      ∙ ap (recordAnswer lon lat) (shown-told s e)
 
-  pub second-short : 1 ≤ length answer → length floats < n → unlessEither answer floats n x y ≡ x
-  second-short a h = long answer 1 x _ a ∙ short floats n x y h
-
-  pub both-long : 1 ≤ length answer → n ≤ length floats → unlessEither answer floats n x y ≡ y
-  both-long a h = long answer 1 x _ a ∙ long floats n x y h
-
--- three lent lists
-module _ {B : Type 0} (answer numbers : List ℤ) (names : List ℕ) (x y : B) where
-  pub answer-short : length answer < 1 → unlessAny answer numbers names x y ≡ x
-  answer-short h = short answer 1 x _ h
-
-  pub numbers-short : 1 ≤ length answer → length numbers < 614 → unlessAny answer numbers names x y ≡ x
-  numbers-short a h = long answer 1 x _ a ∙ short numbers 614 x _ h
-
-  pub names-short : 1 ≤ length answer → 614 ≤ length numbers → length names < 1560 → unlessAny answer numbers names x y ≡ x
-  names-short a b h = long answer 1 x _ a ∙ long numbers 614 x _ b ∙ short names 1560 x y h
-
-  pub all-long : 1 ≤ length answer → 614 ≤ length numbers → 1560 ≤ length names → unlessAny answer numbers names x y ≡ y
-  all-long a b h = long answer 1 x _ a ∙ long numbers 614 x _ b ∙ long names 1560 x y h
+-- the list of grids in force, stored part by part
+pub list-stored : (r : InForce) (l o p cs : List ℤ) → length l ≡ 193 → cs ≡ stored (r .count) ∷ [] → o ≡ sets l 0 cs
+    → p ≡ sets o 1 (joined (λ k. storedEntry (getD (r .entries) k noGrid)) 64) → p ≡ storedList r
+unfolding storedList
+list-stored r l o p cs n a b c =
+    let es = joined (λ k. storedEntry (getD (r .entries) k noGrid)) 64 in
+    let head = stored (r .count) ∷ [] in
+    let m : length es ≡ 192 = length-joined (λ k. storedEntry (getD (r .entries) k noGrid)) 3 64 (λ k d. refl) in
+    c ∙ ap (λ (x : List ℤ). sets x 1 es) (b ∙ ap (sets l 0) a) ∙ sets-append l 0 head es
+    ∙ sets-whole l (head ++ es) (omega (arith, length-append head es))

@@ -1,2 +1,6 @@
 -- The laws of the C interface.
+pub mod SmallLaws
 pub mod AnswerLaws
+pub mod ShownLaws
+pub mod Demand1
+pub mod Demand2

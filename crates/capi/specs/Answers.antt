@@ -1,70 +1,102 @@
--- What the C interface hands back: the refusal's number, 0 where the call is accepted, and numbers in a lent list.
+-- What each call of the C interface leaves: the refusal's number and place, 0 and 0 where it is accepted, and the lent memory.
 use Prim.Native.Nat.{ℕ}
-use mathlib.Core.Bool.{cond}
 use mathlib.Core.List.{List, [], _∷_}
-use lib.Dec.{ltb}
 use lib.IntN.{ℤ, pos}
+use lib.Ieee.{Float}
 use lib.ListN.{length}
-use lib.Seq.{sets}
+use Rattle.group.specs.declared.Point.{Point}
+use Rattle.group.specs.declared.Refusal.{Refusal}
 use Rattle.group.specs.declared.Verdict.{Verdict}
-use Rattle.group.specs.Refusals.{placeOf}
+use Rattle.group.specs.declared.Verdict.the-variants as verdict
+use Rattle.group.specs.Refusals.{refusal, noRefusal, verdictRefusal}
 use Rattle.text.specs.Parts.{startOf, endOf}
+use Rattle.header.specs.declared.Reading.{Reading}
 use Rattle.header.specs.declared.Written.{Written}
-use Rattle.header.specs.declared.Written.the-variants as W
-use Rattle.nodes.specs.declared.Loaded.{Loaded}
-use Rattle.nodes.specs.Load as load
+use Rattle.header.specs.Header.{readHeader, written, writtenRefusal, writtenCount, bytesAfter}
+use Rattle.nodes.specs.Load.{loaded, loadedRefusal, nodesAfter}
+use Rattle.fix.specs.declared.Fix.{Fix}
 use Rattle.fix.specs.declared.Lookup.{Lookup}
 use Rattle.fix.specs.declared.Lookup.the-variants as L
-use Rattle.layout.specs.Layout.{stored}
+use Rattle.fix.specs.Answers.{lookupRefusal}
+use Rattle.judge.specs.Judge.{judged}
+use Rattle.lookup.specs.Lookup.{looked}
+use Rattle.layout.specs.Layout.{countOf, groupOf, numbersOf, stored}
 
--- a lent list shorter than n is refused by 12, before all other refusals, and nothing at all is written
-abbrev pub unlessShort : {A B : Type 0} → List A → ℕ → B → B → B
-unlessShort lent n refused next = cond (ltb (length lent) n) refused next
+-- the refusal and what stands in lent memory afterwards
+pub record Answer (A : Type 0) : Type 0 where
+  pub refusal : Refusal
+  pub lent : A
 
--- the number that a call returns which hands n numbers back
-abbrev pub returned : List ℤ → ℕ → ℕ → ℕ
-returned lent n number = unlessShort lent n 12 number
+abbrev pub left : {A : Type 0} → ℕ → ℕ → A → Answer A
+left number place lent = record { refusal = refusal number place; lent = lent }
 
--- the lent list afterwards: the numbers from its first on, what stands behind them as it was
-abbrev pub handed : List ℤ → ℕ → List ℤ → List ℤ
-handed lent n numbers = unlessShort lent n lent (sets lent 0 numbers)
+-- ---- judging
 
--- judging: the place
-abbrev pub verdictNumbers : Verdict → List ℤ
-verdictNumbers v = stored (placeOf v) ∷ []
+unfoldable pub judgeAnswer : List ℤ → Refusal
+judgeAnswer group = verdictRefusal (judged (groupOf group))
 
--- reading: an answer of one number, 614 numbers and 1560 bytes are lent
-abbrev pub unlessAny : {B : Type 0} → List ℤ → List ℤ → List ℕ → B → B → B
-unlessAny answer numbers names refused next = unlessShort answer 1 refused (unlessShort numbers 614 refused (unlessShort names 1560 refused next))
+-- ---- reading: the group's numbers, which stay as they were after a refusal
 
--- writing: the place and the count of bytes
-abbrev pub writtenNumber : Written → ℕ
-writtenNumber (W.Count n) = 0
-writtenNumber (W.Refused r) = r .number
+abbrev pub readBy : Verdict → List ℤ → List ℤ → Answer (List ℤ)
+readBy verdict.Accepted read lent = record { refusal = noRefusal; lent = read }
+readBy (verdict.Refused r) read lent = record { refusal = r; lent = lent }
 
-abbrev pub writtenNumbers : Written → List ℤ
-writtenNumbers (W.Count n) = pos 0 ∷ stored n ∷ []
-writtenNumbers (W.Refused r) = stored (r .place) ∷ pos 0 ∷ []
+abbrev pub readOf : Reading → List ℤ → Answer (List ℤ)
+readOf r lent = readBy (r .verdict) (numbersOf (r .group)) lent
 
--- a field: no place, its first byte, and the byte behind its last
-abbrev pub fieldNumbers : List ℕ → ℕ → List ℤ
-fieldNumbers line k = pos 0 ∷ stored (startOf 9 line k) ∷ stored (endOf 9 line k) ∷ []
+unfoldable pub readAnswer : List ℕ → List ℤ → Answer (List ℤ)
+readAnswer text lent = readOf (readHeader text) lent
 
-abbrev pub loadNumber : Loaded → ℕ
-loadNumber = load.numberOf
+-- ---- lookup: the chosen grid's number and three results
 
-abbrev pub loadPlace : Loaded → ℕ
-loadPlace = load.placeOf
+abbrev pub fixNumbers : Fix → List ℤ
+fixNumbers f = pos (f .grid) ∷ f .first ∷ f .second ∷ f .third ∷ []
 
--- loading: the place
-abbrev pub loadNumbers : Loaded → List ℤ
-loadNumbers l = stored (loadPlace l) ∷ []
-
--- lookup: the place, the chosen grid's number, and three results
-abbrev pub foundNumber : Lookup → ℕ
-foundNumber (L.Fix f) = 0
-foundNumber (L.Refused r) = r .number
+abbrev pub noNumbers : List ℤ
+noNumbers = pos 0 ∷ pos 0 ∷ pos 0 ∷ pos 0 ∷ []
 
 abbrev pub foundNumbers : Lookup → List ℤ
-foundNumbers (L.Fix f) = pos 0 ∷ stored (f .grid) ∷ f .first ∷ f .second ∷ f .third ∷ []
-foundNumbers (L.Refused r) = stored (r .place) ∷ pos 0 ∷ pos 0 ∷ pos 0 ∷ pos 0 ∷ []
+foundNumbers (L.Fix f) = fixNumbers f
+foundNumbers (L.Refused r) = noNumbers
+
+-- the same as the code stores them
+abbrev pub storedFound : Lookup → List ℤ
+storedFound (L.Fix f) = stored (f .grid) ∷ f .first ∷ f .second ∷ f .third ∷ []
+storedFound (L.Refused r) = noNumbers
+
+abbrev pub foundAnswer : Lookup → Answer (List ℤ)
+foundAnswer found = record { refusal = lookupRefusal found; lent = foundNumbers found }
+
+abbrev pub pointOf : ℤ → ℤ → Point
+pointOf lon lat = record { lon = record { 0 = lon }; lat = record { 0 = lat } }
+
+unfoldable pub lookupAnswer : List ℤ → List ℤ → ℤ → ℤ → ℤ → Answer (List ℤ)
+lookupAnswer group nodes lon lat day = foundAnswer (looked (groupOf group) nodes (pointOf lon lat) day)
+
+-- ---- writing: the count of bytes, and the lent bytes
+
+pub record Text : Type 0 where
+  pub count : ℕ
+  pub bytes : List ℕ
+
+abbrev pub lentText : ℕ → List ℕ → Text
+lentText count bytes = record { count = count; bytes = bytes }
+
+abbrev pub writtenAnswer : Written → List ℕ → Answer Text
+writtenAnswer w bytes = record { refusal = writtenRefusal w; lent = lentText (writtenCount w) bytes }
+
+unfoldable pub writeAnswer : List ℤ → List ℕ → Answer Text
+writeAnswer group out = writtenAnswer (written (groupOf group) (length out)) (bytesAfter (groupOf group) out)
+
+-- ---- a field: its first byte, and the byte behind its last
+
+unfoldable pub fieldPart : List ℕ → ℕ → List ℕ
+fieldPart line k = startOf 9 line k ∷ endOf 9 line k ∷ []
+
+-- ---- loading: Q below zero is outside its limit
+
+abbrev pub loadedBy : ℕ → Float → List Float → List ℤ → Answer (List ℤ)
+loadedBy q flag floats nodes = record { refusal = loadedRefusal (loaded q flag floats (length nodes)); lent = nodesAfter q flag floats nodes }
+
+unfoldable pub loadAnswer : ℤ → Float → List Float → List ℤ → Answer (List ℤ)
+loadAnswer quantum flag floats nodes = loadedBy (countOf quantum) flag floats nodes

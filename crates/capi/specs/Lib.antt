@@ -1,4 +1,7 @@
--- The definitions of the C interface.
+-- The definitions of the C interface, and what it promises.
 pub mod Answers
-pub mod Screen
 pub mod InForce
+pub mod Screen
+pub mod Shown
+pub mod Demand1
+pub mod Demand2

@@ -1,43 +1,27 @@
 -- The value of a cell: at most half a step from the exact fraction, within the range of the used corners, blind to the others.
-use Prim.Native.Nat.{ℕ, _+_, _-_, _*_, _%_, _≤_}
+use Prim.Native.Nat.{ℕ, _+_, _-_, _*_, _%_, _≤_, _<_}
 use mathlib.Core.Path.{_≡_, refl, sym, ap, _∙_, subst}
 use mathlib.Core.Bool.{Bool, true, false, _&&_, _||_}
-use mathlib.Core.Logic.{_⊎_, inl, inr, ⊎-elim}
+use mathlib.Core.Logic.{_⊎_, inl, inr, ⊎-elim, _↔_}
 use native.Mathlib.Nat.{mul-le-mul-left, mul-comm, mul-add, add-mul, mul-zero, zero-mul}
 use native.Mathlib.Omega.{arith}
-use borrow.Author.Tests.{ltb-false, not-false}
-use lib.Dec.{ltb}
+use borrow.Author.Tests.{ltb-true, ltb-false, lt-ltb, leb-false, lt-leb, not-true, not-false}
+use lib.Dec.{T, ltb}
 use lib.IntN.{ℤ, pos, negℤ, _+ℤ_, _-ℤ_, _*ℤ_, natAbs, zero-*ℤ}
-use lib.Signed.{_≤ℤ_, ≤ℤ-refl}
+use lib.Signed.{leZ, _≤ℤ_, ≤ℤ-refl}
 use Rattle.numbers.specs.Round.{roundZ}
 use Rattle.numbers.specs.Order.{within}
+use Rattle.numbers.proofs.Bools.{and-left, and-right, both, or-cases, or-left, or-right}
 use Rattle.numbers.proofs.Nearest.{nearest-le}
 use Rattle.numbers.proofs.Diff.{up, dn, Diff, diff-self, diff-pos, diff-+, diff--, diff-scale, diff-as, diff-of, diff-one, diff-≡, diff-≤, ≤-diff, natAbs-diff, up-or-dn, up-neg, dn-neg, up-pos, dn-pos}
 use Rattle.numbers.proofs.RoundZ.{round-biased, round-≥, round-≤, round-half-step}
-use Rattle.numbers.proofs.OrderLaws.{within-size}
+use Rattle.numbers.proofs.OrderLaws.{within-size, within-test, leZ-refl}
 use Rattle.cell.specs.declared.Weights.{Weights}
 use Rattle.cell.specs.declared.Corners.{Corners}
-use Rattle.cell.specs.Cell.{used, usedSome, isBeyond, weightedSum, valueOf, weightsOf, Distances, Weighed}
+use Rattle.cell.specs.Cell.{used, usedSome, mark, isMark, isBeyond, weightedSum, valueOf, weightsOf, Distances, Weighed}
+use Rattle.cell.specs.Used.{Unless, EachUsed, SomeUsed, SameUsed}
 use Rattle.cell.specs.Unsigned.{blended, Shifted}
 use Rattle.cell.proofs.WeightLaws.{weighed}
-
--- of a corner of weight 0 nothing is asked
-abbrev pub Unless : ℕ → Type 0 → Type 0
-Unless w P = (w ≡ 0) ⊎ P
-
--- each used corner has a property
-pub record EachUsed (P : ℤ → Type 0) (w : Weights) (v : Corners) : Type 0 where
-  pub at00 : Unless (w .w00) (P (v .v00))
-  pub at10 : Unless (w .w10) (P (v .v10))
-  pub at01 : Unless (w .w01) (P (v .v01))
-  pub at11 : Unless (w .w11) (P (v .v11))
-
--- two cells hold the same in each used corner
-pub record SameUsed (w : Weights) (u v : Corners) : Type 0 where
-  pub at00 : Unless (w .w00) (u .v00 ≡ v .v00)
-  pub at10 : Unless (w .w10) (u .v10 ≡ v .v10)
-  pub at01 : Unless (w .w01) (u .v01 ≡ v .v01)
-  pub at11 : Unless (w .w11) (u .v11 ≡ v .v11)
 
 unless-map : {w : ℕ} {P Q : Type 0} → (P → Q) → Unless w P → Unless w Q
 unless-map f (inl e) = inl e
@@ -88,6 +72,61 @@ none-used test w v e =
 -- used corners that are not beyond the limits
 pub none-beyond : (w : Weights) (v : Corners) → usedSome isBeyond w v ≡ false → EachUsed (λ z. natAbs z ≤ 4000000) w v
 none-beyond w v e = each-map (λ z h. within-size 4000000 z (not-false (within 4000000 z) h)) (none-used isBeyond w v e)
+
+-- ---- a test that some used corner passes
+
+-- it is passed exactly where some used corner has the property that it tests
+module _ (test : ℤ → Bool) (P : ℤ → Type 0) (tests : (z : ℤ) → (test z ≡ true) ↔ P z) (w : Weights) (v : Corners) where
+  abbrev passes : ℕ → ℤ → Bool
+  passes n z = used n && test z
+
+  has : (n : ℕ) (z : ℤ) → passes n z ≡ true → (0 < n) × P z
+  has n z e = (ltb-true 0 n (and-left (used n) (test z) e), tests z .0 (and-right (used n) (test z) e))
+
+  passed : (n : ℕ) (z : ℤ) → (0 < n) × P z → passes n z ≡ true
+  passed n z h = both (lt-ltb 0 n (h .0)) (tests z .1 (h .1))
+
+  pub used-some : usedSome test w v ≡ true → SomeUsed P w v
+  unfolding usedSome
+  used-some e =
+      let a = passes (w .w00) (v .v00) in let b = passes (w .w10) (v .v10) in let c = passes (w .w01) (v .v01) in let d = passes (w .w11) (v .v11) in
+      ⊎-elim
+      (λ h.
+      ⊎-elim
+      (λ k. ⊎-elim (λ m. inl (has (w .w00) (v .v00) m)) (λ m. inr (inl (has (w .w10) (v .v10) m))) (or-cases a b k))
+      (λ k. inr (inr (inl (has (w .w01) (v .v01) k))))
+      (or-cases (a || b) c h))
+      (λ h. inr (inr (inr (has (w .w11) (v .v11) h))))
+      (or-cases (a || b || c) d e)
+
+  pub some-used : SomeUsed P w v → usedSome test w v ≡ true
+  unfolding usedSome
+  some-used u =
+      let a = passes (w .w00) (v .v00) in let b = passes (w .w10) (v .v10) in let c = passes (w .w01) (v .v01) in let d = passes (w .w11) (v .v11) in
+      ⊎-elim
+      (λ h. or-left d (or-left c (or-left b (passed (w .w00) (v .v00) h))))
+      (⊎-elim
+      (λ h. or-left d (or-left c (or-right a (passed (w .w10) (v .v10) h))))
+      (⊎-elim
+      (λ h. or-left d (or-right (a || b) (passed (w .w01) (v .v01) h)))
+      (λ h. or-right (a || b || c) (passed (w .w11) (v .v11) h))))
+      u
+
+-- what the two tests of a corner say
+pub is-mark : (z : ℤ) → (isMark z ≡ true) ↔ (z ≡ mark)
+is-mark z = (one, λ e. subst (λ (y : ℤ). isMark y ≡ true) (sym e) (both (leZ-refl mark) (leZ-refl mark)))
+  where
+    one : isMark z ≡ true → z ≡ mark
+    one e =
+        let x = ≤-diff {x = mark} {y = z} (record { le = subst T (sym (and-left (leZ mark z) (leZ z mark) e)) tt }) in
+        let y = ≤-diff {x = z} {y = mark} (record { le = subst T (sym (and-right (leZ mark z) (leZ z mark) e)) tt }) in
+        diff-≡ (omega arith)
+
+pub is-beyond : (z : ℤ) → (isBeyond z ≡ true) ↔ (4000000 < natAbs z)
+is-beyond z = (
+  λ e. leb-false (natAbs z) 4000000 (sym (within-test 4000000 z) ∙ not-true (within 4000000 z) e),
+  λ h. rw (within-test 4000000 z ∙ lt-leb (natAbs z) 4000000 h) refl,
+)
 
 -- ---- a corner of weight 0 changes nothing
 

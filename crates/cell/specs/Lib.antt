@@ -1,3 +1,4 @@
 -- What the contracts of `cell` cite.
 pub mod Cell
+pub mod Used
 pub mod Unsigned

@@ -88,11 +88,11 @@ pub fn used_beyond(w: Weights, v: Corners) -> bool
 fn shifted(v: i32) -> u64
     ensures { λ r. ⌜ Shifted v r ⌝ }
 {
-    let r = numbers::raised(4000000, v as i64);
-    if 8000000 < r {
+    let r = numbers::lifted(v as i64, 2147483648);
+    if (r < 2143483648) | (2151483648 < r) {
         return 4000000;
     }
-    r
+    r - 2143483648
 }
 
 // The weighted sum of four numbers up to 8,000,000 over the area, rounded.

@@ -3,3 +3,4 @@ pub mod ChoiceLaws
 pub mod Turn
 pub mod PartLaws
 pub mod InGroupLaws
+pub mod HolderLaws

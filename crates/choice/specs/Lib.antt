@@ -1,3 +1,4 @@
 pub mod Rect
 pub mod Choice
 pub mod InGroup
+pub mod Holder

@@ -4,6 +4,7 @@ ghost use Prim.Native.Nat.{_+_, _*_, _<_, _≤_};
 ghost use lib.ListN.{length};
 ghost use Rattle.choice.specs.Rect.{at, holds, size};
 ghost use Rattle.choice.specs.Choice.{betterOf, blocks, chosen};
+ghost use Rattle.choice.specs.Holder.{holder};
 
 // How many rectangles have all four sides, and a number in a second list.
 pub fn size_of(sides: &[u64], numbers: &[u64]) -> usize
@@ -60,4 +61,20 @@ pub fn chosen_at(sides: &[u64], ranks: &[u64], x: u64, y: u64) -> u64
         i += 1;
     }
     c
+}
+
+// The owner of the first of so many rectangles that holds the point, 0 if none does. Where the rectangles stand in the order of their
+// owners' ranks, best first, it is the number of the grid chosen at the point (HolderLaws); a grid may own several.
+pub fn first_holder(sides: &[u64], owners: &[u64], rows: usize, x: u64, y: u64) -> u64
+    requires { ⌜ (rows * 4 ≤ length (now sides)) × (rows ≤ length (now owners)) ⌝ }
+    ensures { λ r. ⌜ r ≡ holder (λ i. holds (now (sides .entry)) i x y) (at (now (owners .entry))) rows ⌝ }
+{
+    let mut i = 0;
+    while i < rows {
+        if holds(sides, i, x, y) {
+            return owners[i];
+        }
+        i += 1;
+    }
+    0
 }

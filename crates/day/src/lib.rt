@@ -2,11 +2,10 @@
 use group::Ramp;
 ghost use mathlib.Core.Path.{_≡_};
 ghost use mathlib.Core.Bool.{true};
-ghost use Prim.Native.Nat.{ℕ, _*_, _≤_, _<_, _^_};
+ghost use Prim.Native.Nat.{ℕ, _≤_, _<_};
 ghost use lib.ListN.{getD};
-ghost use lib.IntN.{pos, _+ℤ_, _*ℤ_, natAbs};
+ghost use lib.IntN.{pos, _+ℤ_, natAbs};
 ghost use Rattle.numbers.specs.Order.{within};
-ghost use Rattle.numbers.specs.Round.{roundZ};
 ghost use Rattle.group.specs.Limits.{rampFits};
 ghost use Rattle.group.specs.Record.{noRamp};
 ghost use Rattle.day.specs.Day.{rampFactor, factorOf, resultOf};
@@ -31,11 +30,11 @@ fn ramp_factor(p: Ramp, day: i64) -> u64
     requires { ⌜ (rampFits p ≡ true) × (within 1000000 day ≡ true) ⌝ }
     ensures { λ r. ⌜ (rampFactor p day +ℤ pos 10000000 ≡ pos r) × (r ≤ 20000000) ⌝ }
 {
-    let a = numbers::raised(1000000, p.a);
-    let b = numbers::raised(1000000, p.b);
-    let s0 = numbers::raised(10000000, p.s0);
-    let s1 = numbers::raised(10000000, p.s1);
-    ramp_step(a, s0, b, s1, numbers::raised(1000000, day))
+    let a = numbers::lifted(p.a, 1000000);
+    let b = numbers::lifted(p.b, 1000000);
+    let s0 = numbers::lifted(p.s0, 10000000);
+    let s1 = numbers::lifted(p.s1, 10000000);
+    ramp_step(a, s0, b, s1, numbers::lifted(day, 1000000))
 }
 
 // The sum of the factors of the first n ramps on a day, in millionths; 1,000,000 if there are none.
@@ -58,22 +57,13 @@ pub fn day_factor(ramps: [Ramp; 8], n: usize, day: i64) -> i64
     numbers::lowered(sum, shift)
 }
 
-// v times f over d, rounded.
-fn scaled(v: i64, f: i64, d: u64) -> i64
-    requires { ⌜ natAbs v * natAbs f < 2 ^ 62 ⌝ }
-    ensures { λ r. ⌜ r ≡ roundZ (v *ℤ f) d ⌝ }
+// A value in steps times a day factor in millionths, in steps: 320,000,000 steps are added before the rounding and taken off behind it.
+fn scaled(v: i64, f: i64) -> i64
+    requires { ⌜ (natAbs v ≤ 4000000) × (natAbs f ≤ 80000000) ⌝ }
+    ensures { λ r. ⌜ r ≡ resultOf v f ⌝ }
 {
-    let m = numbers::nearest_even(numbers::magnitude(v) * numbers::magnitude(f), d);
-    if v < 0 {
-        if f < 0 {
-            return numbers::lowered(m, 0);
-        }
-        return numbers::lowered(0, m);
-    }
-    if f < 0 {
-        return numbers::lowered(0, m);
-    }
-    numbers::lowered(m, 0)
+    let n = numbers::lifted(v * f, 320000000000000);
+    numbers::lowered(numbers::nearest_even(n, 1000000), 320000000)
 }
 
 // A value in steps times a day factor in millionths, in steps.
@@ -81,5 +71,8 @@ pub fn result_of(value: i64, factor: i64) -> i64
     requires { ⌜ (natAbs value ≤ 4000000) × (natAbs factor ≤ 80000000) ⌝ }
     ensures { λ r. ⌜ r ≡ resultOf value factor ⌝ }
 {
-    scaled(value, factor, 1000000)
+    if factor == 1000000 {
+        return value;
+    }
+    scaled(value, factor)
 }

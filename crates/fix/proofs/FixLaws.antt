@@ -1,18 +1,20 @@
--- The three ways of a fix, and that it depends on nothing but what the used corners hold.
+-- The three ways of a fix, what its two tests say of the used corners, and that it depends on nothing but what those hold.
 use Prim.Native.Nat.{ℕ, _<_}
 use mathlib.Core.Path.{_≡_, refl, ap}
 use mathlib.Core.Bool.{Bool, true, false, cond}
 use mathlib.Core.List.{List}
+use mathlib.Core.Logic.{_↔_}
 use borrow.Author.Tests.{ltb-true}
 use lib.Dec.{ltb}
 use lib.IntN.{ℤ, pos}
-use Rattle.numbers.proofs.FirstLaws.{first-same}
+use Rattle.numbers.proofs.FirstLaws.{first-same, some-by, by-some}
 use Rattle.cell.specs.Cell.{isMark, isBeyond, usedSome, valueOf}
-use Rattle.cell.proofs.ValueLaws.{SameUsed, some-same, value-same}
+use Rattle.cell.specs.Used.{SomeUsed}
+use Rattle.cell.proofs.ValueLaws.{used-some, some-used, some-same, value-same}
 use Rattle.day.specs.Day.{resultOf}
 use Rattle.fix.specs.declared.Place.{Place}
 use Rattle.fix.specs.declared.Lookup.the-variants as L
-use Rattle.fix.specs.Fix.{spotOf, cornersOf, cornerSome, valueIn, resultAt, refuseIf, fixIn}
+use Rattle.fix.specs.Fix.{spotOf, cornersOf, cornerSome, valueIn, resultAt, refuseIf, fixIn, SameNodes}
 
 module _ (l : Place) (nodes : List ℤ) (factor : ℤ) (grid : ℕ) where
   pub fix-marked : cornerSome isMark l nodes ≡ true → fixIn l nodes factor grid ≡ L.Refused (record { number = 8; place = 0 })
@@ -36,11 +38,22 @@ module _ (l : Place) (nodes : List ℤ) (factor : ℤ) (grid : ℕ) where
   unfolding fixIn refuseIf
   fix-found e f = rw (e, f) refl
 
--- ---- what the used corners don't hold changes nothing
+-- ---- a test of the corners is passed exactly where a used corner of some parameter has the property that it tests
 
--- two node lists hold the same in each used corner of the point's cell
-abbrev pub SameNodes : Place → (nodes others : List ℤ) → Type 0
-SameNodes l nodes others = (q : ℕ) → q < l .np → SameUsed (spotOf l .weights) (cornersOf l nodes q) (cornersOf l others q)
+module _ (test : ℤ → Bool) (P : ℤ → Type 0) (tests : (z : ℤ) → (test z ≡ true) ↔ P z) (l : Place) (nodes : List ℤ) where
+  pub corner-some : cornerSome test l nodes ≡ true → (q : ℕ) × (q < l .np) × SomeUsed P (spotOf l .weights) (cornersOf l nodes q)
+  unfolding cornerSome
+  corner-some e =
+      let s = by-some (λ q. usedSome test (spotOf l .weights) (cornersOf l nodes q)) (l .np) e in
+      (s .0, s .1, used-some test P tests (spotOf l .weights) (cornersOf l nodes (s .0)) (s .2))
+
+  pub some-corner : (q : ℕ) → q < l .np → SomeUsed P (spotOf l .weights) (cornersOf l nodes q) → cornerSome test l nodes ≡ true
+  unfolding cornerSome
+  some-corner q h u =
+      some-by (λ q. usedSome test (spotOf l .weights) (cornersOf l nodes q)) (l .np) q h
+      (some-used test P tests (spotOf l .weights) (cornersOf l nodes q) u)
+
+-- ---- what the used corners don't hold changes nothing
 
 module _ (l : Place) (nodes others : List ℤ) (same : SameNodes l nodes others) where
   corner-same : (test : ℤ → Bool) → cornerSome test l nodes ≡ cornerSome test l others

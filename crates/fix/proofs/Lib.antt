@@ -2,3 +2,4 @@
 pub mod PlaceLaws
 pub mod FixLaws
 pub mod NodeLaws
+pub mod PartLaws

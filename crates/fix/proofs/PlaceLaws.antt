@@ -1,7 +1,7 @@
 -- A point's cell lies in its grid, and its corners in the node list.
 use Prim.Native.Nat.{ℕ, suc, _+_, _*_, _≤_, _<_}
 use mathlib.Core.Path.{_≡_, ap, _∙_}
-use native.Mathlib.Nat.{mul-le-mul-right, mul-comm, suc-mul, le-mul-of-pos-right}
+use native.Mathlib.Nat.{add-mul, mul-le-mul-right, mul-comm, suc-mul, le-mul-of-pos-right}
 use native.Mathlib.Omega.{arith}
 use mathlib.Core.Bool.{false}
 use mathlib.Core.List.{List}
@@ -13,9 +13,7 @@ use Rattle.cell.proofs.AlongLaws.{InCell, along-within}
 use Rattle.cell.proofs.WeightLaws.{weighed}
 use Rattle.cell.proofs.ValueLaws.{none-beyond, value-bound}
 use Rattle.fix.specs.declared.Place.{Place}
-use Rattle.fix.specs.declared.Spot.{Spot}
-use Rattle.cell.specs.declared.Corners.{Corners}
-use Rattle.fix.specs.Fix.{Placed, spotOf, cornersAt, cornersOf, cornerSome, valueIn}
+use Rattle.fix.specs.Fix.{Placed, spotOf, cornersOf, cornerSome, valueIn}
 
 module _ {l : Place} (h : Placed l) where
   abbrev lonCell : InCell (l .dx) (l .sx) (l .ni) (cellAlong (l .dx) (l .sx) (l .ni) .index) (cellAlong (l .dx) (l .sx) (l .ni) .rest)
@@ -69,19 +67,36 @@ module _ {l : Place} (h : Placed l) where
         range = h .range-most;
       }
 
--- the corners as code reads them
-pub corners-read : (l : Place) (nodes : List ℤ) (p : ℕ) {s : Spot} {v : Corners} → s ≡ spotOf l → v ≡ cornersAt l nodes (s .i) (s .j) p → v ≡ cornersOf l nodes p
-unfolding cornersOf
-corners-read l nodes p e f = f ∙ ap (λ (r : Spot). cornersAt l nodes (r .i) (r .j) p) e
+  -- the corners stand one node, one row, and both behind the cell's node of lower indices
+  pub record Around (i j p : ℕ) : Type 0 where
+    pub east : (j * l .ni + (i + 1)) * l .np ≡ (j * l .ni + i) * l .np + l .np
+    pub north : ((j + 1) * l .ni + i) * l .np ≡ (j * l .ni + i) * l .np + l .ni * l .np
+    pub both : ((j + 1) * l .ni + (i + 1)) * l .np ≡ (j * l .ni + i) * l .np + l .ni * l .np + l .np
+    pub inner : (j * l .ni + i) * l .np + l .ni * l .np + l .np + p < l .ni * l .nj * l .np
+    pub range : l .start + l .ni * l .nj * l .np ≤ 16777216
+
+  pub around : (i j p : ℕ) → i + 1 < l .ni → j + 1 < l .nj → p < l .np → Around i j p
+  around i j p hi hj hp =
+      let a = add-mul (j * l .ni + i) 1 (l .np) in
+      let b = add-mul j 1 (l .ni) in
+      let e : (j * l .ni + (i + 1)) * l .np ≡ (j * l .ni + i) * l .np + l .np = ap (λ (n : ℕ). n * l .np) (omega arith) ∙ a ∙ omega arith in
+      let n : ((j + 1) * l .ni + i) * l .np ≡ (j * l .ni + i) * l .np + l .ni * l .np =
+      ap (λ (n : ℕ). n * l .np) (omega arith) ∙ add-mul (j * l .ni + i) (l .ni) (l .np) in
+      let d = add-mul (j * l .ni + i + l .ni) 1 (l .np) in
+      let f = add-mul (j * l .ni + i) (l .ni) (l .np) in
+      let m : ((j + 1) * l .ni + (i + 1)) * l .np ≡ (j * l .ni + i) * l .np + l .ni * l .np + l .np =
+      ap (λ (n : ℕ). n * l .np) (omega arith) ∙ d ∙ omega arith in
+      let s = stands (i + 1) (j + 1) p hi hj hp in
+      record { east = e; north = n; both = m; inner = omega arith; range = h .range-most }
 
 -- ---- the value in a cell whose used corners hold node values
-module _ {l : Place} (h : Placed l) (nodes : List ℤ) (e : cornerSome isBeyond l nodes ≡ false) where
-  pub not-beyond : (p : ℕ) → p < l .np → usedSome isBeyond (spotOf l .weights) (cornersOf l nodes p) ≡ false
-  unfolding cornerSome
-  not-beyond p k = none-at (λ p. usedSome isBeyond (spotOf l .weights) (cornersOf l nodes p)) (l .np) p (ltb-false _ _ e) k
-
-  pub value-most : (p : ℕ) → p < l .np → natAbs (valueIn l nodes p) ≤ 4000000
+module _ {l : Place} (h : Placed l) (nodes : List ℤ) where
+  pub part-most : (p : ℕ) → usedSome isBeyond (spotOf l .weights) (cornersOf l nodes p) ≡ false → natAbs (valueIn l nodes p) ≤ 4000000
   unfolding valueIn
-  value-most p k =
-      value-bound (spot-weighed h) (cornersOf l nodes p) 4000000
-      (none-beyond (spotOf l .weights) (cornersOf l nodes p) (not-beyond p k))
+  part-most p e =
+      value-bound (spot-weighed h) (cornersOf l nodes p) 4000000 (none-beyond (spotOf l .weights) (cornersOf l nodes p) e)
+
+  pub value-most : cornerSome isBeyond l nodes ≡ false → (p : ℕ) → p < l .np → natAbs (valueIn l nodes p) ≤ 4000000
+  unfolding cornerSome
+  value-most e p k =
+      part-most p (none-at (λ p. usedSome isBeyond (spotOf l .weights) (cornersOf l nodes p)) (l .np) p (ltb-false _ _ e) k)

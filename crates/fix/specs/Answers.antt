@@ -1,18 +1,15 @@
--- Document 01's numbers of a lookup's answer: the refusal's number and place, 0 where nothing is refused; the grid's number and the
--- results, which are 0 beside a refusal.
+-- Document 01's numbers of a lookup's answer: its refusal, the grid's number and the results, which are 0 beside a refusal.
 use Prim.Native.Nat.{ℕ, zero, suc}
 use lib.IntN.{ℤ, pos}
+use Rattle.group.specs.declared.Refusal.{Refusal}
+use Rattle.group.specs.Refusals.{noRefusal}
 use Rattle.fix.specs.declared.Fix.{Fix}
 use Rattle.fix.specs.declared.Lookup.{Lookup}
 use Rattle.fix.specs.declared.Lookup.the-variants as L
 
-abbrev pub numberOf : Lookup → ℕ
-numberOf (L.Fix f) = 0
-numberOf (L.Refused r) = r .number
-
-abbrev pub placeOf : Lookup → ℕ
-placeOf (L.Fix f) = 0
-placeOf (L.Refused r) = r .place
+abbrev pub lookupRefusal : Lookup → Refusal
+lookupRefusal (L.Fix f) = noRefusal
+lookupRefusal (L.Refused r) = r
 
 abbrev pub gridOf : Lookup → ℕ
 gridOf (L.Fix f) = f .grid

@@ -8,12 +8,11 @@ use lib.ListN.{getD}
 use Rattle.numbers.specs.First.{some}
 use Rattle.cell.specs.declared.Corners.{Corners}
 use Rattle.cell.specs.Cell.{cellAlong, weightsOf, isMark, isBeyond, usedSome, valueOf}
+use Rattle.cell.specs.Used.{SameUsed}
 use Rattle.day.specs.Day.{resultOf}
 use Rattle.fix.specs.declared.Place.{Place}
 use Rattle.fix.specs.declared.Spot.{Spot}
 use Rattle.fix.specs.declared.Fix.{Fix}
-use Rattle.fix.specs.declared.Fault.{Fault}
-use Rattle.fix.specs.declared.Fault.the-variants.{Mark, Beyond}
 use Rattle.fix.specs.declared.Lookup.{Lookup}
 use Rattle.fix.specs.declared.Lookup.the-variants as L
 
@@ -46,11 +45,6 @@ cornersOf l nodes p = cornersAt l nodes (spotOf l .i) (spotOf l .j) p
 -- a used corner passes a test, any parameter
 unfoldable pub cornerSome : (ℤ → Bool) → Place → List ℤ → Bool
 cornerSome test l nodes = some (λ p. usedSome test (spotOf l .weights) (cornersOf l nodes p)) (l .np)
-
--- what code tests for
-abbrev pub faultTest : Fault → ℤ → Bool
-faultTest Mark = isMark
-faultTest Beyond = isBeyond
 
 -- the value of parameter p, before the day factor
 unfoldable pub valueIn : Place → List ℤ → ℕ → ℤ
@@ -93,3 +87,7 @@ pub record Placed (l : Place) : Type 0 where
 -- the grid's node range ends within a list of so many nodes
 abbrev pub Listed : Place → ℕ → Type 0
 Listed l count = l .start + l .ni * l .nj * l .np ≤ count
+
+-- two node lists hold the same in each used corner of the point's cell
+abbrev pub SameNodes : Place → (nodes others : List ℤ) → Type 0
+SameNodes l nodes others = (q : ℕ) → q < l .np → SameUsed (spotOf l .weights) (cornersOf l nodes q) (cornersOf l others q)

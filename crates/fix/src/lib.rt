@@ -3,13 +3,12 @@ use cell::Corners;
 use cell::Weights;
 use group::Refusal;
 ghost use mathlib.Core.Path.{_≡_};
-ghost use mathlib.Core.Bool.{false};
-ghost use Prim.Native.Nat.{_+_, _≤_, _<_};
+ghost use Prim.Native.Nat.{_≤_, _<_};
 ghost use lib.IntN.{natAbs};
 ghost use lib.ListN.{length};
-ghost use Rattle.cell.specs.Cell.{usedSome, isBeyond};
-ghost use Rattle.day.specs.Day.{resultOf};
-ghost use Rattle.fix.specs.Fix.{Placed, Listed, position, spotOf, cornersAt, faultTest, cornerSome, resultAt, fixIn};
+ghost use Rattle.cell.specs.Cell.{isMark};
+ghost use Rattle.fix.specs.Fix.{Placed, Listed, position, spotOf, cornersOf, cornerSome, fixIn};
+ghost use Rattle.fix.specs.Parts.{Begun, refusedIn};
 
 // A point in a grid: its distances in mas from node 0 and the spacing sizes, along parallel and meridian; the counts of nodes,
 // START and the count of parameters.
@@ -45,12 +44,6 @@ pub enum Lookup {
     Refused(Refusal),
 }
 
-// What a used corner can hold that is no node value.
-enum Fault {
-    Mark,
-    Beyond,
-}
-
 // The cell of a point in a grid.
 fn spot_of(l: Place) -> Spot
     requires { ⌜ Placed l ⌝ }
@@ -66,51 +59,44 @@ fn spot_of(l: Place) -> Spot
     }
 }
 
-// The position of parameter p of node (i, j) in the node list.
-fn position(l: Place, i: u64, j: u64, p: u64) -> usize
-    requires { ⌜ Placed l × (i < l .ni) × (j < l .nj) × (p < l .np) ⌝ }
-    ensures { λ r. ⌜ r ≡ position l i j p ⌝ }
+// The position of the first parameter of node (i, j) in the node list.
+fn position(l: Place, i: u64, j: u64) -> u64
+    requires { ⌜ Placed l × (i < l .ni) × (j < l .nj) × (0 < l .np) ⌝ }
+    ensures { λ r. ⌜ r ≡ position l i j 0 ⌝ }
 {
-    (l.start + (j * l.ni + i) * l.np + p) as usize
+    l.start + (j * l.ni + i) * l.np
 }
 
-// What the corners of the cell with the node (i, j) of lower indices hold of parameter p.
-fn corners_at(l: Place, nodes: &[i32], i: u64, j: u64, p: u64) -> Corners
-    requires { ⌜ Placed l × Listed l (length (now nodes)) × (i + 1 < l .ni) × (j + 1 < l .nj) × (p < l .np) ⌝ }
-    ensures { λ r. ⌜ r ≡ cornersAt l (now (nodes .entry)) i j p ⌝ }
+// What the corners of the point's cell hold of parameter p; a is the position of the cell's node of lower indices.
+fn corners_at(l: Place, nodes: &[i32], a: u64, p: u64) -> Corners
+    requires { ⌜ Placed l × Listed l (length (now nodes)) × (a ≡ position l (spotOf l .i) (spotOf l .j) 0) × (p < l .np) ⌝ }
+    ensures { λ r. ⌜ r ≡ cornersOf l (now (nodes .entry)) p ⌝ }
 {
-    let a = position(l, i, j, p);
-    let b = position(l, i + 1, j, p);
-    let c = position(l, i, j + 1, p);
-    let d = position(l, i + 1, j + 1, p);
+    let np = l.np;
+    let low = a + p;
+    let high = low + l.ni * np;
+    let i = low as usize;
+    let j = (low + np) as usize;
+    let k = high as usize;
+    let m = (high + np) as usize;
     Corners {
-        v00: nodes[a],
-        v10: nodes[b],
-        v01: nodes[c],
-        v11: nodes[d],
+        v00: nodes[i],
+        v10: nodes[j],
+        v01: nodes[k],
+        v11: nodes[m],
     }
 }
 
-// Whether a used corner has the fault.
-fn used_fault(fault: Fault, w: Weights, v: Corners) -> bool
-    ensures { λ r. ⌜ r ≡ usedSome (faultTest fault) w v ⌝ }
-{
-    match fault {
-        Fault::Mark => cell::used_marked(w, v),
-        Fault::Beyond => cell::used_beyond(w, v),
-    }
-}
-
-// Whether a used corner of the point's cell has the fault, any parameter.
-fn some_fault(fault: Fault, l: Place, s: Spot, nodes: &[i32]) -> bool
-    requires { ⌜ Placed l × Listed l (length (now nodes)) × (s ≡ spotOf l) ⌝ }
-    ensures { λ r. ⌜ r ≡ cornerSome (faultTest fault) l (now (nodes .entry)) ⌝ }
+// Whether a used corner of the point's cell holds the mark, any parameter.
+fn some_mark(l: Place, w: Weights, a: u64, nodes: &[i32]) -> bool
+    requires { ⌜ Begun l (length (now nodes)) w a ⌝ }
+    ensures { λ r. ⌜ r ≡ cornerSome isMark l (now (nodes .entry)) ⌝ }
 {
     let np = l.np;
     let mut p: u64 = 0;
     while p < np {
-        let v = corners_at(l, nodes, s.i, s.j, p);
-        if used_fault(fault, s.weights, v) {
+        let v = corners_at(l, nodes, a, p);
+        if cell::used_marked(w, v) {
             return true;
         }
         p += 1;
@@ -118,42 +104,83 @@ fn some_fault(fault: Fault, l: Place, s: Spot, nodes: &[i32]) -> bool
     false
 }
 
-// The result of parameter p in steps, 0 if it is missing; the used corners hold node values.
-fn result_at(l: Place, s: Spot, nodes: &[i32], factor: i64, p: u64) -> i64
-    requires { ⌜ Placed l × Listed l (length (now nodes)) × (s ≡ spotOf l) ⌝ }
-    requires { ⌜ (cornerSome isBeyond l (now nodes) ≡ false) × (natAbs factor ≤ 80000000) ⌝ }
-    ensures { λ r. ⌜ r ≡ resultAt l (now (nodes .entry)) factor p ⌝ }
+// Which refusal a used corner that holds no node value has: 8 where one is the mark, else 11.
+fn refused(l: Place, w: Weights, a: u64, nodes: &[i32]) -> Lookup
+    requires { ⌜ Begun l (length (now nodes)) w a ⌝ }
+    ensures { λ r. ⌜ r ≡ refusedIn l (now (nodes .entry)) ⌝ }
 {
-    if l.np <= p {
-        return 0;
-    }
-    let v = corners_at(l, nodes, s.i, s.j, p);
-    day::result_of(cell::value_at(s.weights, v), factor)
-}
-
-// The fix of a point in the grid of a number, from 1, with the day factor in millionths: refusal 8 where a used corner is the
-// mark, else 11 where one is beyond ±4,000,000, else the results.
-pub fn fix_in(l: Place, nodes: &[i32], factor: i64, grid: u64) -> Lookup
-    requires { ⌜ Placed l × Listed l (length (now nodes)) × (natAbs factor ≤ 80000000) ⌝ }
-    ensures { λ r. ⌜ r ≡ fixIn l (now (nodes .entry)) factor grid ⌝ }
-{
-    let s = spot_of(l);
-    if some_fault(Fault::Mark, l, s, nodes) {
+    if some_mark(l, w, a, nodes) {
         return Lookup::Refused(Refusal {
             number: 8,
             place: 0,
         });
     }
-    if some_fault(Fault::Beyond, l, s, nodes) {
-        return Lookup::Refused(Refusal {
-            number: 11,
-            place: 0,
+    Lookup::Refused(Refusal {
+        number: 11,
+        place: 0,
+    })
+}
+
+// The fix of a point with the weights w of its cell's corners, whose node of lower indices stands at a. One parameter at a time, with
+// no loop and no call that is shared, so that each is compiled in its place.
+fn fix_from(l: Place, w: Weights, a: u64, nodes: &[i32], factor: i64, grid: u64) -> Lookup
+    requires { ⌜ Begun l (length (now nodes)) w a × (0 < l .np) × (natAbs factor ≤ 80000000) ⌝ }
+    ensures { λ r. ⌜ r ≡ fixIn l (now (nodes .entry)) factor grid ⌝ }
+{
+    let u = corners_at(l, nodes, a, 0);
+    if cell::used_beyond(w, u) {
+        return refused(l, w, a, nodes);
+    }
+    let first = day::result_of(cell::value_at(w, u), factor);
+    if l.np <= 1 {
+        return Lookup::Fix(Fix {
+            grid: grid,
+            first: first,
+            second: 0,
+            third: 0,
         });
     }
+    let v = corners_at(l, nodes, a, 1);
+    if cell::used_beyond(w, v) {
+        return refused(l, w, a, nodes);
+    }
+    let second = day::result_of(cell::value_at(w, v), factor);
+    if l.np <= 2 {
+        return Lookup::Fix(Fix {
+            grid: grid,
+            first: first,
+            second: second,
+            third: 0,
+        });
+    }
+    let t = corners_at(l, nodes, a, 2);
+    if cell::used_beyond(w, t) {
+        return refused(l, w, a, nodes);
+    }
+    let third = day::result_of(cell::value_at(w, t), factor);
     Lookup::Fix(Fix {
         grid: grid,
-        first: result_at(l, s, nodes, factor, 0),
-        second: result_at(l, s, nodes, factor, 1),
-        third: result_at(l, s, nodes, factor, 2),
+        first: first,
+        second: second,
+        third: third,
     })
+}
+
+// The fix of a point in the grid of a number, from 1, with the day factor in millionths: refusal 8 where a used corner is the
+// mark, else 11 where one is beyond ±4,000,000, else the results. Each corner is read once; the mark is beyond ±4,000,000 too.
+pub fn fix_in(l: Place, nodes: &[i32], factor: i64, grid: u64) -> Lookup
+    requires { ⌜ Placed l × Listed l (length (now nodes)) × (natAbs factor ≤ 80000000) ⌝ }
+    ensures { λ r. ⌜ r ≡ fixIn l (now (nodes .entry)) factor grid ⌝ }
+{
+    if l.np == 0 {
+        return Lookup::Fix(Fix {
+            grid: grid,
+            first: 0,
+            second: 0,
+            third: 0,
+        });
+    }
+    let s = spot_of(l);
+    let a = position(l, s.i, s.j);
+    fix_from(l, s.weights, a, nodes, factor, grid)
 }

@@ -1,13 +1,13 @@
 // The group record of document 01 and the limits of its lines, refusal 2.
 ghost use mathlib.Core.Path.{_≡_};
-ghost use mathlib.Core.Bool.{not, _&&_};
-ghost use Prim.Native.Nat.{_<_};
-ghost use lib.Dec.{eqb};
+ghost use mathlib.Core.Bool.{not, _&&_, _||_};
+ghost use lib.Dec.{leb, ltb, eqb};
 ghost use lib.IntN.{pos};
 ghost use Rattle.numbers.specs.First.{every};
 ghost use Rattle.numbers.specs.Order.{within};
 ghost use Rattle.group.specs.Blank.{blankName, blankRamp, blankGrid, blankGroup};
 ghost use Rattle.group.specs.Limits.{nameByte, byteFits, nameFits, nameBlank, rampFits, rampBlank, originFits, countsFit, headNumbersFit, gridFits, gridBlank};
+ghost use Rattle.group.specs.Refusals.{inTable};
 
 // A longitude in milliarcseconds (mas), admitted from -1,296,000,000 to 1,296,000,000.
 pub struct Longitude(pub i64);
@@ -78,6 +78,13 @@ pub enum Verdict {
     Refused(Refusal),
 }
 
+// Whether a number stands in the table of refusals.
+pub fn in_table(number: u64) -> bool
+    ensures { λ r. ⌜ r ≡ inTable number ⌝ }
+{
+    (1 <= number) & (number <= 13)
+}
+
 // Whether a byte may stand in a name.
 pub fn name_byte(b: u8) -> bool
     ensures { λ r. ⌜ r ≡ nameByte b ⌝ }
@@ -89,13 +96,10 @@ pub fn name_byte(b: u8) -> bool
         | (b == 45)
 }
 
-// Whether byte i of a name is wrong: outside the alphabet within its length, or not 0 behind it.
-fn byte_bad(name: Name, i: usize) -> bool
-    requires { ⌜ i < 24 ⌝ }
-    ensures { λ r. ⌜ r ≡ not (byteFits name i) ⌝ }
+// Whether byte i of a name of this length is wrong: outside the alphabet within its length, or not 0 behind it.
+fn byte_bad(b: u8, len: usize, i: usize) -> bool
+    ensures { λ r. ⌜ r ≡ not ((ltb i len && nameByte b) || (leb len i && eqb b 0)) ⌝ }
 {
-    let len = name.len as usize;
-    let b = name.bytes[i];
     let used = name_byte(b);
     !(((i < len) & used) | ((len <= i) & (b == 0)))
 }
@@ -104,14 +108,15 @@ fn byte_bad(name: Name, i: usize) -> bool
 fn bytes_fit(name: Name) -> bool
     ensures { λ r. ⌜ r ≡ every (byteFits name) 24 ⌝ }
 {
+    let len = name.len as usize;
+    let mut fit = true;
     let mut i: usize = 0;
     while i < 24 {
-        if byte_bad(name, i) {
-            return false;
-        }
+        let b = name.bytes[i];
+        fit = fit & !byte_bad(b, len, i);
         i += 1;
     }
-    true
+    fit
 }
 
 // Whether a name is well formed.
@@ -126,8 +131,14 @@ pub fn name_fits(name: Name) -> bool
 fn name_blank(name: Name) -> bool
     ensures { λ r. ⌜ r ≡ nameBlank name ⌝ }
 {
-    let bytes = bytes_fit(name);
-    (name.len == 0) & bytes
+    let mut clear = true;
+    let mut i: usize = 0;
+    while i < 24 {
+        let b = name.bytes[i];
+        clear = clear & (b == 0);
+        i += 1;
+    }
+    (name.len == 0) & clear
 }
 
 // Whether the numbers of a group line are within their limits.

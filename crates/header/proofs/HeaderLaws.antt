@@ -8,10 +8,13 @@ use lib.ListN.{length, take, drop, length-take}
 use lib.Seq.{take-append-seam}
 use borrow.Author.Tests.{le-leb, lt-leb}
 use Rattle.text.specs.Put.{put, Wrote}
+use Rattle.group.specs.declared.Ramp.{Ramp}
+use Rattle.group.specs.declared.Grid.{Grid}
 use Rattle.group.specs.declared.Group.{Group}
 use Rattle.header.specs.declared.Written.the-variants as W
-use Rattle.header.specs.Items.{refusal, closed}
-use Rattle.header.specs.Lines.{headText, rampText, gridText}
+use Rattle.group.specs.Refusals.{refusal}
+use Rattle.header.specs.Items.{closed}
+use Rattle.line.specs.Lines.{headText, rampText, gridText}
 use Rattle.group.specs.declared.Refusal.{Refusal}
 use Rattle.group.specs.declared.Verdict.{Verdict}
 use Rattle.group.specs.declared.Verdict.the-variants.{Accepted, Refused}
@@ -25,7 +28,7 @@ module _ (t : List ℕ) (q : Reading) (e : q ≡ linesReading (readLines t)) whe
   unfolding readHeader
   lines-refused r v = go (readLines t) e
     where
-      go : (x : Header) → q ≡ linesReading x → q ≡ judgedReading x
+      go : (x : Header Ramp Grid) → q ≡ linesReading x → q ≡ judgedReading x
       go (stopped s) f = f
       go (header h rs ds) f = let y : Accepted ≡ Refused r = sym (ap (λ (a : Reading). a .verdict) f) ∙ v in absurd (let z : _≡_ {A = ℕ} 0 1 = cc in omega arith)
 
@@ -34,7 +37,7 @@ module _ (t : List ℕ) (q : Reading) (e : q ≡ linesReading (readLines t)) whe
     unfolding readHeader
     judged-as = go (readLines t) e
       where
-        go : (x : Header) → q ≡ linesReading x → judgedReading x ≡ verdictReading (q .group) v
+        go : (x : Header Ramp Grid) → q ≡ linesReading x → judgedReading x ≡ verdictReading (q .group) v
         go (stopped s) f = let y : Refused s ≡ Accepted = sym (ap (λ (a : Reading). a .verdict) f) ∙ w in absurd (let z : _≡_ {A = ℕ} 0 1 = cc in omega arith)
         go (header h rs ds) f =
             let g : q .group ≡ groupOf h rs ds = ap (λ (a : Reading). a .group) f in

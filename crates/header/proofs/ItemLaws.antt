@@ -1,39 +1,75 @@
 -- Records that are written and read again, lines that are read and written again, and a loop over lines.
 use Prim.Native.Nat.{ℕ, zero, suc, _+_, _-_, _<_, _≤_}
 use mathlib.Core.Path.{_≡_, refl, sym, ap, subst, _∙_}
+use mathlib.Core.Bool.{Bool, true, false, cond, not}
 use mathlib.Core.List.{List, [], _∷_, _++_, append-assoc, append-nil}
 use native.Mathlib.Decide.{decLt}
 use native.Mathlib.Omega.{arith}
 use native.Mathlib.Numerals.{add-one}
-use lib.ListN.{length, length-replicate, take, drop, set, replicate, length-drop, length-set, take-append-drop}
+use lib.Dec.{ltb}
+use lib.ListN.{length, length-replicate, getD, take, drop, set, replicate, length-drop, length-set, take-append-drop}
 use lib.Seq.{drop-drop, drop-set-lt, take-suc-set, length-take-le}
+use borrow.Author.Tests.{lt-ltb, le-ltb}
+use Rattle.numbers.specs.First.{first, some}
+use Rattle.numbers.proofs.FirstLaws.{first-le}
 use Rattle.text.specs.Parts.{split, join, upTo}
 use Rattle.text.proofs.PartLaws.{Free, split-lead, split-cut, split-last, first-part, upTo-le}
 use Rattle.group.specs.declared.Refusal.{Refusal}
 use Rattle.group.specs.declared.Verdict.{Verdict}
 use Rattle.group.specs.declared.Verdict.the-variants.{Accepted, Refused}
-use Rattle.header.specs.Items.{refusal, Line, bad, good, Items, refused, items, onLine, readItems, closed, entries, verdictOf, foundOf, behindOf, Are}
+use Rattle.group.specs.Refusals.{refusal}
+use Rattle.line.specs.Line.{Line, bad, good}
+use Rattle.line.proofs.LineLaws.{limited}
+use Rattle.header.specs.Items.{Items, refused, items, onLine, readItems, closed, entries, verdictOf, foundOf, behindOf, Are}
 
-module _ {A : Type 0} (read : ℕ → List ℕ → Line A) (text : A → List ℕ) where
-  -- all records are within their limits
-  abbrev pub All : (A → Type 0) → List A → Type 0
-  All P [] = Unit {0}
-  All P (a ∷ xs) = P a × All P xs
+-- the records may be the lines from n on
+abbrev pub All : {A : Type 0} → (ℕ → A → Type 0) → ℕ → List A → Type 0
+All P n [] = Unit {0}
+All P n (a ∷ xs) = P n a × All P (suc n) xs
 
-  closed-line : (k n : ℕ) (l t : List ℕ) → Free 10 l → readItems read (suc k) n (split 10 (l ++ 10 ∷ t)) ≡ onLine (read n l) (readItems read k (suc n) (split 10 t))
+-- entry k of an array is beyond its limits
+abbrev pub beyond : {A : Type 0} → (A → Bool) → A → List A → ℕ → Bool
+beyond fits d xs k = not (fits (getD xs k d))
+
+-- the first entries of an array as lines from n on: the first that is beyond its limits is refused, or all are read
+abbrev pub limitedItems : {A : Type 0} → (A → Bool) → A → List A → ℕ → ℕ → List (List ℕ) → Items A
+limitedItems fits d xs count n ls = cond (some (beyond fits d xs) count) (refused (refusal 2 (first (beyond fits d xs) count + n))) (items (take count xs) ls)
+
+module _ {A : Type 0} (fits : A → Bool) (d : A) where
+  pub limited-none : (xs : List A) (n : ℕ) (ls : List (List ℕ)) → items [] ls ≡ limitedItems fits d xs 0 n ls
+  limited-none xs n ls = let z = first-le (beyond fits d xs) 0 in rw (le-ltb (first (beyond fits d xs) 0) 0 (omega arith))
+
+  limited-more : (x : A) (xs : List A) (count n : ℕ) (ls : List (List ℕ)) → onLine (limited fits (refusal 2) n x) (limitedItems fits d xs count (suc n) ls) ≡ limitedItems fits d (x ∷ xs) (suc count) n ls
+  unfolding first
+  limited-more x xs count n ls = go (fits x) (first (beyond fits d xs) count)
+    where
+      go : (b : Bool) (f : ℕ) → onLine (cond b (good x) (bad (refusal 2 n))) (cond (ltb f count) (refused (refusal 2 (f + suc n))) (items (take count xs) ls))
+          ≡ cond (ltb (cond (not b) 0 (suc f)) (suc count)) (refused (refusal 2 (cond (not b) 0 (suc f) + n))) (items (x ∷ take count xs) ls)
+      go false f = let e : n ≡ 0 + n = omega arith in rw (lt-ltb 0 (suc count) (omega arith)) (ap (λ (m : ℕ). refused (refusal 2 m)) e)
+      go true f =
+          let e : f + suc n ≡ suc f + n = omega arith in
+          elim (decLt f count) [
+            | yes l ↦ rw (lt-ltb f count l, lt-ltb (suc f) (suc count) (omega arith)) (ap (λ (m : ℕ). refused (refusal 2 m)) e)
+            | no l ↦ rw (le-ltb f count (omega arith), le-ltb (suc f) (suc count) (omega arith))
+          ]
+
+module _ {A : Type 0} (read : ℕ → List ℕ → Line Refusal A) (text : A → List ℕ) where
+  pub closed-line : (k n : ℕ) (l t : List ℕ) → Free 10 l → readItems read (suc k) n (split 10 (l ++ 10 ∷ t)) ≡ onLine (read n l) (readItems read k (suc n) (split 10 t))
   closed-line k n l t f = let p = first-part 10 t in rw (split-lead 10 l t f, p .1 .1)
 
   -- written, and read again
-  pub read-closed : (P : A → Type 0) → ((a : A) → P a → Free 10 (text a)) → ((n : ℕ) (a : A) → P a → read n (text a) ≡ good a)
-      → (xs : List A) (n : ℕ) (t : List ℕ) → All P xs → readItems read (length xs) n (split 10 (closed text xs ++ t)) ≡ items xs (split 10 t)
-  read-closed P free back [] n t h = refl
-  read-closed P free back (a ∷ xs) n t h =
-      ap (λ (s : List ℕ). readItems read (suc (length xs)) n (split 10 s)) (append-assoc (text a) (10 ∷ closed text xs) t)
-      ∙ closed-line (length xs) n (text a) (closed text xs ++ t) (free a (h .0))
-      ∙ ap (λ (x : Line A). onLine x (readItems read (length xs) (suc n) (split 10 (closed text xs ++ t)))) (back n a (h .0))
-      ∙ ap (onLine (good a)) (read-closed P free back xs (suc n) t (h .1))
+  pub read-closed : (P : ℕ → A → Type 0) (fits : A → Bool) → ((n : ℕ) (a : A) → P n a → Free 10 (text a)) → ((n : ℕ) (a : A) → P n a → read n (text a) ≡ limited fits (refusal 2) n a)
+      → (d : A) (xs : List A) (count n : ℕ) (t : List ℕ) → count ≤ length xs → All P n (take count xs)
+      → readItems read count n (split 10 (closed text (take count xs) ++ t)) ≡ limitedItems fits d xs count n (split 10 t)
+  read-closed P fits free back d xs zero n t l h = limited-none fits d xs n (split 10 t)
+  read-closed P fits free back d [] (suc count) n t l h = absurd (omega arith)
+  read-closed P fits free back d (a ∷ xs) (suc count) n t l h =
+      ap (λ (s : List ℕ). readItems read (suc count) n (split 10 s)) (append-assoc (text a) (10 ∷ closed text (take count xs)) t)
+      ∙ closed-line count n (text a) (closed text (take count xs) ++ t) (free n a (h .0))
+      ∙ (λ i. onLine (back n a (h .0) i) (read-closed P fits free back d xs count (suc n) t (omega arith) (h .1) i))
+      ∙ limited-more fits d a xs count n (split 10 t)
 
-  on-items : (x : Line A) (is : Items A) (xs : List A) (rest : List (List ℕ)) → onLine x is ≡ items xs rest
+  on-items : (x : Line Refusal A) (is : Items A) (xs : List A) (rest : List (List ℕ)) → onLine x is ≡ items xs rest
       → (a : A) × (bs : List A) × (x ≡ good a) × (is ≡ items bs rest) × (xs ≡ a ∷ bs)
   on-items (bad r) is xs rest e = let q : _≡_ {A = ℕ} 0 1 = cc in absurd (omega arith)
   on-items (good a) (refused r) xs rest e = let q : _≡_ {A = ℕ} 0 1 = cc in absurd (omega arith)
@@ -87,7 +123,7 @@ module _ {A : Type 0} where
 
 -- ---- a loop that reads count records from line n on: xs are the first k of them, and ls the parts behind them
 
-module _ {A : Type 0} (read : ℕ → List ℕ → Line A) (count n : ℕ) (ls₀ : List (List ℕ)) where
+module _ {A : Type 0} (read : ℕ → List ℕ → Line Refusal A) (count n : ℕ) (ls₀ : List (List ℕ)) where
   abbrev pub whole : Items A
   whole = readItems read count n ls₀
 
@@ -115,12 +151,12 @@ module _ {A : Type 0} (read : ℕ → List ℕ → Line A) (count n : ℕ) (ls�
         ∙ ap (λ (j : ℕ). onLine (read (n + k) l) (readItems read (count - (k + 1)) j (split 10 t))) m
 
     pub loop-bad : (l t : List ℕ) (ls : List (List ℕ)) (r : Refusal) → ls ≡ l ∷ split 10 t → read (n + k) l ≡ bad r → State k xs ls → whole ≡ refused r
-    loop-bad l t ls r e b s = sym s ∙ ap (after xs) (step l t ls e ∙ ap (λ (x : Line A). onLine x (readItems read (count - (k + 1)) (n + (k + 1)) (split 10 t))) b) ∙ after-refused xs r
+    loop-bad l t ls r e b s = sym s ∙ ap (after xs) (step l t ls e ∙ ap (λ (x : Line Refusal A). onLine x (readItems read (count - (k + 1)) (n + (k + 1)) (split 10 t))) b) ∙ after-refused xs r
 
     pub loop-good : (l t : List ℕ) (ls : List (List ℕ)) (x : A) → ls ≡ l ∷ split 10 t → read (n + k) l ≡ good x → State k xs ls → State (k + 1) (xs ++ (x ∷ [])) (split 10 t)
     loop-good l t ls x e b s =
         sym (after-one xs x (readItems read (count - (k + 1)) (n + (k + 1)) (split 10 t)))
-        ∙ ap (after xs) (sym (step l t ls e ∙ ap (λ (y : Line A). onLine y (readItems read (count - (k + 1)) (n + (k + 1)) (split 10 t))) b)) ∙ s
+        ∙ ap (after xs) (sym (step l t ls e ∙ ap (λ (y : Line Refusal A). onLine y (readItems read (count - (k + 1)) (n + (k + 1)) (split 10 t))) b)) ∙ s
 
   pub loop-end : (k : ℕ) (xs : List A) (ls : List (List ℕ)) → count ≤ k → State k xs ls → whole ≡ items xs ls
   loop-end k xs ls h s =
@@ -187,13 +223,13 @@ module _ {A : Type 0} (size : ℕ) (z : A) where
 
 -- ---- the loop itself, over the text, the array, the place of the next line and the count of lines read
 
-pub record Loop {A : Type 0} (read : ℕ → List ℕ → Line A) (size : ℕ) (z : A) (count n : ℕ) (text : List ℕ) (at : ℕ) (array : List A) (next k : ℕ) : Type 0 where
+pub record Loop {A : Type 0} (read : ℕ → List ℕ → Line Refusal A) (size : ℕ) (z : A) (count n : ℕ) (text : List ℕ) (at : ℕ) (array : List A) (next k : ℕ) : Type 0 where
   pub bound : k ≤ count
   pub room : next ≤ length text
   pub fill : Filled size z k array
   pub state : State read count n (split 10 (drop at text)) k (take k array) (split 10 (drop next text))
 
-module _ {A : Type 0} (read : ℕ → List ℕ → Line A) (size : ℕ) (z : A) (count n : ℕ) (text : List ℕ) (at : ℕ) where
+module _ {A : Type 0} (read : ℕ → List ℕ → Line Refusal A) (size : ℕ) (z : A) (count n : ℕ) (text : List ℕ) (at : ℕ) where
   abbrev is : Items A
   is = readItems read count n (split 10 (drop at text))
 

@@ -1,22 +1,18 @@
 -- How long the text of an accepted group can be: at most 6604 bytes.
 use Prim.Native.Nat.{ℕ, suc, _+_, _*_, _<_, _≤_}
-use mathlib.Core.Path.{_≡_, sym, ap, subst}
-use mathlib.Core.Bool.{true, _&&_}
-use mathlib.Core.List.{List, [], _∷_, _++_}
+use mathlib.Core.Path.{_≡_, sym, subst}
+use mathlib.Core.Bool.{true}
+use mathlib.Core.List.{List, [], _∷_, _++_, map}
 use native.Mathlib.Nat.{suc-mul}
 use native.Mathlib.Omega.{arith}
-use lib.Dec.{leb}
 use lib.ListN.{length, take, getD, length-append, length-take}
 use lib.Seq.{getD-take}
-use lib.IntN.{ℤ, pos}
-use borrow.Author.Tests.{leb-true}
-use Rattle.numbers.specs.First.{every}
-use Rattle.numbers.proofs.Bools.{and-left, and-right}
+use lib.IntN.{pos}
 use Rattle.text.specs.Decimal.{intText}
-use Rattle.text.specs.Fields.{ledInts}
+use Rattle.text.proofs.PutLaws.{line-length}
 use Rattle.text.proofs.DecimalLaws.{intText-length, posText-length}
 use Rattle.text.proofs.FieldLaws.{and-parts}
-use Rattle.group.specs.Limits.{byteFits, nameFits, headNumbersFit, headFits, rampFits, gridFits}
+use Rattle.group.specs.Limits.{nameFits, headNumbersFit, headFits, rampFits, gridFits}
 use Rattle.group.specs.Record.{noRamp, noGrid, rampAt, gridAt}
 use Rattle.group.specs.declared.Name.{Name}
 use Rattle.group.specs.declared.Unit as U
@@ -26,34 +22,21 @@ use Rattle.group.specs.declared.Grid.{Grid}
 use Rattle.group.specs.declared.Group.{Group}
 use Rattle.group.specs.declared.Verdict.the-variants.{Accepted}
 use Rattle.judge.specs.Judge.{judged}
-use Rattle.judge.proofs.Accepted.{accepted}
-use Rattle.header.specs.declared.Head.{Head}
-use Rattle.header.specs.Names.{nameText, unitText}
+use Rattle.judge.proofs.Accepted.{accepted, accepted-head}
+use Rattle.line.specs.declared.Head.{Head}
+use Rattle.line.specs.Names.{nameText, unitText}
 use Rattle.header.specs.Items.{closed}
-use Rattle.header.specs.Lines.{groupWord, headInts, headText, rampWord, rampInts, rampText, gridWord, gridText}
+use Rattle.line.specs.Lines.{groupWord, headInts, headText, rampWord, rampInts, rampText, gridWord, gridInts, gridText}
 use Rattle.header.specs.Whole.{headOfGroup, headerText}
 use Rattle.header.specs.Writing.{Wide}
-use Rattle.header.proofs.LimitLaws.{head-sizes, ramp-sizes, origin-sizes, counts-sizes}
-use Rattle.header.proofs.KindLaws.{grid-name, grid-numbers}
-use Rattle.header.proofs.WriteLaws.{originInts, countInts, grid-pieces, head-pieces}
+use Rattle.line.proofs.LimitLaws.{head-sizes, ramp-sizes, origin-sizes, counts-sizes}
+use Rattle.line.proofs.NameLaws.{name-len}
+use Rattle.line.proofs.KindLaws.{grid-name, grid-numbers}
 
 -- ---- the parts of a line
 
-four-length : (a b c d : ℤ) → length (ledInts (a ∷ b ∷ c ∷ d ∷ [])) ≡ length (intText a) + length (intText b) + length (intText c) + length (intText d) + 4
-four-length a b c d =
-    let n : List ℕ = [] in
-    let s = length-append (intText d) n in
-    let r = length-append (intText c) (ledInts (d ∷ [])) in
-    let q = length-append (intText b) (ledInts (c ∷ d ∷ [])) in
-    let p = length-append (intText a) (ledInts (b ∷ c ∷ d ∷ [])) in
-    omega arith
-
-pub name-len : (n : Name) → nameFits n ≡ true → n .len ≤ 24
-unfolding nameFits
-name-len n e = leb-true (n .len) 24 (and-right (leb 1 (n .len)) (leb (n .len) 24) (and-left (leb 1 (n .len) && leb (n .len) 24) (every (byteFits n) 24) e))
-
 name-length : (n : Name) → nameFits n ≡ true → length (nameText n) ≤ 24
-name-length n e = let l = name-len n e in let k = length-take (n .len) (n .bytes) in omega arith
+name-length n e = let l = name-len n e .1 in let k = length-take (n .len) (n .bytes) in omega arith
 
 unit-length : (u : U.Unit) → length (unitText u) ≤ 10
 unit-length ArcSecond = omega arith
@@ -72,13 +55,8 @@ head-length h m e =
     let d = posText-length 1 (h .grids) (omega arith) in
     let n = name-length (h .name) m in
     let u = unit-length (h .unit) in
-    let t = ledInts (headInts h) in
-    let f = four-length (pos (h .quantum)) (pos (h .parameters)) (pos (h .ramps)) (pos (h .grids)) in
-    let p = ap length (head-pieces h) in
-    let q = length-append groupWord ((9 ∷ nameText (h .name)) ++ ((9 ∷ unitText (h .unit)) ++ (t ++ (10 ∷ [])))) in
-    let r = length-append (9 ∷ nameText (h .name)) ((9 ∷ unitText (h .unit)) ++ (t ++ (10 ∷ []))) in
-    let v = length-append (9 ∷ unitText (h .unit)) (t ++ (10 ∷ [])) in
-    let w = length-append t (10 ∷ []) in
+    let p = length-append (headText h) (10 ∷ []) in
+    let q = line-length groupWord (nameText (h .name) ∷ unitText (h .unit) ∷ map intText (headInts h)) in
     omega arith
 
 ramp-length : (r : Ramp) → rampFits r ≡ true → length (rampText r) < 43
@@ -89,8 +67,7 @@ ramp-length r e =
     let b = intText-length 7 (r .s0) (omega arith) in
     let c = intText-length 6 (r .b) (omega arith) in
     let d = intText-length 7 (r .s1) (omega arith) in
-    let f = four-length (r .a) (r .s0) (r .b) (r .s1) in
-    let q = length-append rampWord (ledInts (rampInts r)) in
+    let q = line-length rampWord (map intText (rampInts r)) in
     omega arith
 
 grid-length : (g : Grid) → gridFits g ≡ true → length (gridText g) < 97
@@ -109,16 +86,7 @@ grid-length g e =
     let c′ = posText-length 3 (g .rank) (omega arith) in
     let d′ = posText-length 7 (g .start) (omega arith) in
     let n = name-length (g .name) (grid-name g e) in
-    let o = ledInts (originInts g) in
-    let t = ledInts (countInts g) in
-    let f = four-length (g .lon .0) (g .lat .0) (g .dlon) (g .dlat) in
-    let f′ = four-length (pos (g .ni)) (pos (g .nj)) (pos (g .rank)) (pos (g .start)) in
-    let p = ap length (grid-pieces g) in
-    let p′ = length-append (gridText g) (10 ∷ []) in
-    let q = length-append gridWord ((9 ∷ nameText (g .name)) ++ (o ++ (t ++ (10 ∷ [])))) in
-    let r = length-append (9 ∷ nameText (g .name)) (o ++ (t ++ (10 ∷ []))) in
-    let v = length-append o (t ++ (10 ∷ [])) in
-    let w = length-append t (10 ∷ []) in
+    let q = line-length gridWord (nameText (g .name) ∷ map intText (gridInts g)) in
     omega arith
 
 -- ---- lines that follow each other
@@ -144,14 +112,8 @@ module _ (g : Group) (e : judged g ≡ Accepted) where
   unfolding headFits
   head-parts = and-parts (nameFits (g .name)) (headNumbersFit (pos (g .quantum)) (pos (g .parameters)) (pos (g .ramps)) (pos (g .grids))) (accepted g e .head)
 
-  pub ramps-most : g .ramps ≤ 8
-  ramps-most = head-sizes (pos (g .quantum)) (pos (g .parameters)) (pos (g .ramps)) (pos (g .grids)) (head-parts .1) .2 .0
-
-  pub grids-most : g .grids ≤ 64
-  grids-most = head-sizes (pos (g .quantum)) (pos (g .parameters)) (pos (g .ramps)) (pos (g .grids)) (head-parts .1) .3 .0
-
   pub grids-wide : Wide (g .grid) (g .grids)
-  grids-wide = record { most = grids-most; names = λ k l. name-len (gridAt g k .name) (grid-name (gridAt g k) (accepted g e .grid k l)) }
+  grids-wide = record { most = accepted-head g e .grids; names = λ k l. name-len (gridAt g k .name) (grid-name (gridAt g k) (accepted g e .grid k l)) .1 }
 
   pub length-most : length (headerText g) ≤ 6604
   unfolding headerText
@@ -159,7 +121,7 @@ module _ (g : Group) (e : judged g ≡ Accepted) where
       let h = head-length (headOfGroup g) (head-parts .0) (head-parts .1) in
       let r = taken-length rampText noRamp 43 (g .ramps) (g .ramp) (λ k l. ramp-length (rampAt g k) (accepted g e .ramp k l)) in
       let d = taken-length gridText noGrid 97 (g .grids) (g .grid) (λ k l. grid-length (gridAt g k) (accepted g e .grid k l)) in
-      let m = ramps-most in let n = grids-most in
+      let m = accepted-head g e .ramps in let n = accepted-head g e .grids in
       let x = length-take (g .ramps) (g .ramp) in
       let y = length-take (g .grids) (g .grid) in
       let p = length-append (headText (headOfGroup g) ++ (10 ∷ [])) (closed rampText (take (g .ramps) (g .ramp)) ++ closed gridText (take (g .grids) (g .grid))) in

@@ -1,6 +1,7 @@
 -- What the code meets on a whole text, in terms of what its callees answer.
 use Prim.Native.Nat.{ℕ, _+_, _-_, _<_, _≤_}
 use mathlib.Core.Path.{_≡_, refl, sym, ap, subst, _∙_}
+use mathlib.Core.Logic.{⊎-elim}
 use mathlib.Core.Bool.{Bool, true, false, cond}
 use mathlib.Core.List.{List, [], _∷_}
 use native.Mathlib.Decide.{decLt}
@@ -13,15 +14,14 @@ use Rattle.text.proofs.FieldLaws.{length-ints}
 use Rattle.group.specs.declared.Refusal.{Refusal}
 use Rattle.group.specs.declared.Verdict.{Verdict}
 use Rattle.group.specs.declared.Verdict.the-variants.{Accepted, Refused}
-use Rattle.group.specs.declared.Ramp.{Ramp}
-use Rattle.group.specs.declared.Grid.{Grid}
-use Rattle.header.specs.declared.Head.{Head}
-use Rattle.group.specs.Blank.{blankRamp, blankGrid}
-use Rattle.header.specs.Items.{refusal, Line, bad, good, Items, refused, items, onLine, readItems, verdictOf, foundOf, behindOf, Are}
-use Rattle.header.specs.Lines.{groupWord, headTexts, headFit, headOf, headLine, rampLine, gridLine}
-use Rattle.header.specs.Whole.{Header, stopped, header, ending, afterGrids, afterRamps, afterHead, readLines}
-use Rattle.header.proofs.LineLaws.{line-good, four-of}
-use Rattle.header.proofs.LimitLaws.{head-sizes}
+use Rattle.line.specs.declared.Head.{Head}
+use Rattle.group.specs.Refusals.{refusal}
+use Rattle.line.specs.Line.{Line, bad, good}
+use Rattle.header.specs.Items.{Items, refused, items, onLine, readItems, verdictOf, foundOf, behindOf, Are}
+use Rattle.line.specs.Lines.{fields, groupWord, headTexts, headFit, headOf, headLine}
+use Rattle.header.specs.Whole.{Header, stopped, header, ending, afterGrids, afterRampsOf, afterHeadOf, readLinesOf}
+use Rattle.line.proofs.LineLaws.{keyed-good, fields-good, four-of}
+use Rattle.line.proofs.LimitLaws.{head-sizes}
 use Rattle.header.proofs.ItemLaws.{none-closed, one-closed}
 
 -- ---- an answer about several lines, by its verdict
@@ -43,7 +43,7 @@ module _ {A : Type 0} (size : ℕ) (z : A) (text : List ℕ) (is : Items A) (v :
 
 -- ---- the end of a text
 
-ending-more : (n : ℕ) (s : List ℕ) (h : Header) → 0 < length s → ending n (split 10 s) h ≡ stopped (refusal 1 n)
+ending-more : {R D : Type 0} (n : ℕ) (s : List ℕ) (h : Header R D) → 0 < length s → ending n (split 10 s) h ≡ stopped (refusal 1 n)
 ending-more n [] h l = absurd (omega arith)
 ending-more n (x ∷ xs) h l = let p = first-part 10 xs in rw (p .1 .1) (go (eqb x 10) (p .0) (p .1 .0))
   where
@@ -53,62 +53,71 @@ ending-more n (x ∷ xs) h l = let p = first-part 10 xs in rw (p .1 .1) (go (eqb
 
 -- ---- the lines behind the group line
 
-module _ (text : List ℕ) (at : ℕ) (h : Head) where
-  abbrev pub rampItems : Items Ramp
-  rampItems = readItems rampLine (h .ramps) 2 (split 10 (drop at text))
+-- over any two kinds of line
+module _ {R D : Type 0} (ramp : ℕ → List ℕ → Line Refusal R) (grid : Head → List (List ℕ) → ℕ → List ℕ → Line Refusal D) where
+  module _ (rampSize gridSize : ℕ) (rampBlank : R) (gridBlank : D) where
+    module _ (text : List ℕ) (at : ℕ) (h : Head) where
+      abbrev pub rampItems : Items R
+      rampItems = readItems ramp (h .ramps) 2 (split 10 (drop at text))
 
-  abbrev pub gridItems : ℕ → Items Grid
-  gridItems next = readItems gridLine (h .grids) (2 + h .ramps) (split 10 (drop next text))
+      abbrev pub gridItems : ℕ → Items D
+      gridItems next = readItems (grid h (split 10 (drop next text))) (h .grids) (2 + h .ramps) (split 10 (drop next text))
 
-  module _ (v : Verdict) (rs : List Ramp) (next : ℕ) (a : Are 8 blankRamp text rampItems v rs next) where
-    pub ramps-stop : (r : Refusal) → v ≡ Refused r → afterRamps h rampItems ≡ stopped r
-    ramps-stop r e = ap (afterRamps h) (are-refused 8 blankRamp text rampItems v rs next a r e)
+      module _ (v : Verdict) (rs : List R) (next : ℕ) (a : Are rampSize rampBlank text rampItems v rs next) where
+        pub ramps-stop : (r : Refusal) → v ≡ Refused r → afterRampsOf ramp grid h rampItems ≡ stopped r
+        ramps-stop r e = ap (afterRampsOf ramp grid h) (are-refused rampSize rampBlank text rampItems v rs next a r e)
 
-    module _ (e : v ≡ Accepted) (w : Verdict) (ds : List Grid) (end : ℕ) (b : Are 64 blankGrid text (gridItems next) w ds end) where
-      ramped : afterRamps h rampItems ≡ afterGrids (2 + h .ramps + h .grids) h (foundOf rampItems) (gridItems next)
-      ramped = ap (afterRamps h) (are-accepted 8 blankRamp text rampItems v rs next a e)
+        module _ (e : v ≡ Accepted) (w : Verdict) (ds : List D) (end : ℕ) (b : Are gridSize gridBlank text (gridItems next) w ds end) where
+          ramped : afterRampsOf ramp grid h rampItems ≡ afterGrids (2 + h .ramps + h .grids) h (foundOf rampItems) (gridItems next)
+          ramped = ap (afterRampsOf ramp grid h) (are-accepted rampSize rampBlank text rampItems v rs next a e)
 
-      pub grids-stop : (r : Refusal) → w ≡ Refused r → afterRamps h rampItems ≡ stopped r
-      grids-stop r f = ramped ∙ ap (afterGrids (2 + h .ramps + h .grids) h (foundOf rampItems)) (are-refused 64 blankGrid text (gridItems next) w ds end b r f)
+          pub grids-stop : (r : Refusal) → w ≡ Refused r → afterRampsOf ramp grid h rampItems ≡ stopped r
+          grids-stop r f = ramped ∙ ap (afterGrids (2 + h .ramps + h .grids) h (foundOf rampItems)) (are-refused gridSize gridBlank text (gridItems next) w ds end b r f)
 
-      gridded : w ≡ Accepted → afterRamps h rampItems ≡ ending (2 + h .ramps + h .grids) (split 10 (drop end text)) (header h (foundOf rampItems) (foundOf (gridItems next)))
-      gridded f = ramped ∙ ap (afterGrids (2 + h .ramps + h .grids) h (foundOf rampItems)) (are-accepted 64 blankGrid text (gridItems next) w ds end b f)
+          gridded : w ≡ Accepted → afterRampsOf ramp grid h rampItems ≡ ending (2 + h .ramps + h .grids) (split 10 (drop end text)) (header h (foundOf rampItems) (foundOf (gridItems next)))
+          gridded f = ramped ∙ ap (afterGrids (2 + h .ramps + h .grids) h (foundOf rampItems)) (are-accepted gridSize gridBlank text (gridItems next) w ds end b f)
 
-      pub more-stops : w ≡ Accepted → (end ≡ length text → ⊥) → afterRamps h rampItems ≡ stopped (refusal 1 (2 + h .ramps + h .grids))
-      more-stops f q = gridded f ∙ ending-more _ (drop end text) _ left
-        where
-          left : 0 < length (drop end text)
-          left = let r = b .room in let d = length-drop end text in elim (decLt end (length text)) [ yes l ↦ omega arith | no l ↦ absurd (q (omega arith)) ]
+          pub more-stops : w ≡ Accepted → (end ≡ length text → ⊥) → afterRampsOf ramp grid h rampItems ≡ stopped (refusal 1 (2 + h .ramps + h .grids))
+          more-stops f q = gridded f ∙ ending-more _ (drop end text) _ left
+            where
+              left : 0 < length (drop end text)
+              left = let r = b .room in let d = length-drop end text in elim (decLt end (length text)) [ yes l ↦ omega arith | no l ↦ absurd (q (omega arith)) ]
 
-      pub entries-done : w ≡ Accepted → end ≡ length text → afterRamps h rampItems ≡ header h (foundOf rampItems) (foundOf (gridItems next))
-      entries-done f q =
-          let l : length text ≤ end = omega arith in
-          let d : drop end text ≡ [] = drop-of-length-le text l in
-          gridded f ∙ ap (λ (s : List ℕ). ending (2 + h .ramps + h .grids) (split 10 s) (header h (foundOf rampItems) (foundOf (gridItems next)))) d
+          pub entries-done : w ≡ Accepted → end ≡ length text → afterRampsOf ramp grid h rampItems ≡ header h (foundOf rampItems) (foundOf (gridItems next))
+          entries-done f q =
+              let l : length text ≤ end = omega arith in
+              let d : drop end text ≡ [] = drop-of-length-le text l in
+              gridded f ∙ ap (λ (s : List ℕ). ending (2 + h .ramps + h .grids) (split 10 s) (header h (foundOf rampItems) (foundOf (gridItems next)))) d
 
--- ---- the group line
+  -- ---- the group line
 
-module _ (text : List ℕ) (e : ℕ) (found : e ≡ 0 + upTo 10 (drop 0 text)) where
-  pub head-unclosed : e ≡ length text → readLines text ≡ stopped (refusal 1 1)
-  head-unclosed q = ap (λ (ls : List (List ℕ)). afterHead (readItems headLine 1 1 ls)) (none-closed text 0 e found (omega arith) q)
+  module _ (text : List ℕ) (e : ℕ) (found : e ≡ 0 + upTo 10 (drop 0 text)) where
+    pub head-unclosed : e ≡ length text → readLinesOf ramp grid text ≡ stopped (refusal 1 1)
+    head-unclosed q = ap (λ (ls : List (List ℕ)). afterHeadOf ramp grid (readItems headLine 1 1 ls)) (none-closed text 0 e found (omega arith) q)
 
-  module _ (q : e ≡ length text → ⊥) where
-    head-line : readLines text ≡ afterHead (onLine (headLine 1 (take (e - 0) (drop 0 text))) (items [] (split 10 (drop (e + 1) text))))
-    head-line =
-        let p = first-part 10 (drop (e + 1) text) in
-        ap (λ (ls : List (List ℕ)). afterHead (readItems headLine 1 1 ls)) (one-closed text 0 e found (omega arith) q ∙ ap (λ (ls : List (List ℕ)). take (e - 0) (drop 0 text) ∷ ls) (p .1 .1))
-        ∙ ap (λ (ls : List (List ℕ)). afterHead (onLine (headLine 1 (take (e - 0) (drop 0 text))) (items [] ls))) (sym (p .1 .1))
+    module _ (q : e ≡ length text → ⊥) where
+      head-line : readLinesOf ramp grid text ≡ afterHeadOf ramp grid (onLine (headLine 1 (take (e - 0) (drop 0 text))) (items [] (split 10 (drop (e + 1) text))))
+      head-line =
+          let p = first-part 10 (drop (e + 1) text) in
+          ap (λ (ls : List (List ℕ)). afterHeadOf ramp grid (readItems headLine 1 1 ls)) (one-closed text 0 e found (omega arith) q ∙ ap (λ (ls : List (List ℕ)). take (e - 0) (drop 0 text) ∷ ls) (p .1 .1))
+          ∙ ap (λ (ls : List (List ℕ)). afterHeadOf ramp grid (onLine (headLine 1 (take (e - 0) (drop 0 text))) (items [] ls))) (sym (p .1 .1))
 
-    pub head-stops : (r : Refusal) → headLine 1 (take (e - 0) (drop 0 text)) ≡ bad r → readLines text ≡ stopped r
-    head-stops r b = head-line ∙ ap (λ (l : Line Head). afterHead (onLine l (items [] (split 10 (drop (e + 1) text))))) b
+      pub head-stops : (r : Refusal) → headLine 1 (take (e - 0) (drop 0 text)) ≡ bad r → readLinesOf ramp grid text ≡ stopped r
+      head-stops r b = head-line ∙ ap (λ (l : Line Refusal Head). afterHeadOf ramp grid (onLine l (items [] (split 10 (drop (e + 1) text))))) b
 
-    pub head-goes : (h : Head) → headLine 1 (take (e - 0) (drop 0 text)) ≡ good h → readLines text ≡ afterRamps h (rampItems text (e + 1) h)
-    head-goes h g = head-line ∙ ap (λ (l : Line Head). afterHead (onLine l (items [] (split 10 (drop (e + 1) text))))) g
+      pub head-goes : (h : Head) → headLine 1 (take (e - 0) (drop 0 text)) ≡ good h → readLinesOf ramp grid text ≡ afterRampsOf ramp grid h (readItems ramp (h .ramps) 2 (split 10 (drop (e + 1) text)))
+      head-goes h g = head-line ∙ ap (λ (l : Line Refusal Head). afterHeadOf ramp grid (onLine l (items [] (split 10 (drop (e + 1) text))))) g
 
 -- the counts of a group line that is read
 pub head-counts : (n : ℕ) (line : List ℕ) (h : Head) → headLine n line ≡ good h → (h .ramps ≤ 8) × (h .grids ≤ 64)
-head-counts n line h e =
-    let g = line-good groupWord 2 4 headTexts headFit headOf n line h e in
-    let k : length (g .zs) ≡ 4 = length-ints (drop 2 (g .fs)) (g .zs) (g .numbered) ∙ length-drop 2 (g .fs) ∙ (let c = g .count in omega arith) in
-    subst (λ (x : Head). (x .ramps ≤ 8) × (x .grids ≤ 64)) (g .whole)
-    (four-of (λ zs. headFit zs ≡ true → (headOf (g .b) zs .ramps ≤ 8) × (headOf (g .b) zs .grids ≤ 64)) (λ a b c d f. let s = head-sizes a b c d f in (s .2 .0, s .3 .0)) (g .zs) k (g .fit))
+head-counts n line h e = ⊎-elim (λ w. go (w .0) (w .2)) (λ w. let z : _≡_ {A = ℕ} 0 1 = cc in absurd (omega arith)) (keyed-good groupWord of (λ fs. bad (refusal 1 n)) (split 9 line) h e)
+  where
+    of : List (List ℕ) → Line Refusal Head
+    of = fields 2 4 headTexts headFit headOf (refusal 1 n) (refusal 2 n)
+
+    go : (fs : List (List ℕ)) → of fs ≡ good h → (h .ramps ≤ 8) × (h .grids ≤ 64)
+    go fs f =
+        let g = fields-good 2 4 headTexts headFit headOf (refusal 1 n) (refusal 2 n) fs h f in
+        let k : length (g .zs) ≡ 4 = length-ints (drop 2 fs) (g .zs) (g .numbered) ∙ length-drop 2 fs ∙ (let c = g .count in omega arith) in
+        subst (λ (x : Head). (x .ramps ≤ 8) × (x .grids ≤ 64)) (g .whole)
+        (four-of (λ zs. headFit zs ≡ true → (headOf (g .b) zs .ramps ≤ 8) × (headOf (g .b) zs .grids ≤ 64)) (λ a b c d f. let s = head-sizes a b c d f in (s .2 .0, s .3 .0)) (g .zs) k (g .fit))

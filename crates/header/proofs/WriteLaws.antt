@@ -1,38 +1,14 @@
--- The lines in the order in which they are written, and a loop that writes them.
+-- A loop that writes lines.
 use Prim.Native.Nat.{ℕ, suc, _+_, _-_, _<_, _≤_}
 use mathlib.Core.Path.{_≡_, refl, sym, ap, subst, _∙_}
-use mathlib.Core.List.{List, [], _∷_, _++_, append-assoc, append-nil}
+use mathlib.Core.List.{List, [], _∷_, _++_, append-assoc}
 use native.Mathlib.Numerals.{add-one}
 use native.Mathlib.Omega.{arith}
 use lib.ListN.{length, take, drop, getD}
 use lib.Seq.{drop-cons, take-suc, take-add}
-use lib.IntN.{ℤ, pos}
 use Rattle.text.specs.Put.{Wrote}
 use Rattle.text.proofs.PutLaws.{put-nil, room-first, room-next, wrote-both}
-use Rattle.text.specs.Fields.{ledInts}
-use Rattle.group.specs.declared.Ramp.{Ramp}
-use Rattle.group.specs.declared.Grid.{Grid}
-use Rattle.header.specs.declared.Head.{Head}
 use Rattle.header.specs.Items.{closed}
-use Rattle.header.specs.Names.{nameText, unitText}
-use Rattle.header.specs.Lines.{groupWord, headInts, headText, rampWord, rampInts, rampText, gridWord, gridText}
-
-abbrev pub originInts : Grid → List ℤ
-originInts g = g .lon .0 ∷ g .lat .0 ∷ g .dlon ∷ g .dlat ∷ []
-
-abbrev pub countInts : Grid → List ℤ
-countInts g = pos (g .ni) ∷ pos (g .nj) ∷ pos (g .rank) ∷ pos (g .start) ∷ []
-
-pub ramp-pieces : (r : Ramp) → rampText r ++ (10 ∷ []) ≡ rampWord ++ (ledInts (rampInts r) ++ (10 ∷ []))
-ramp-pieces r = append-assoc rampWord (ledInts (rampInts r)) (10 ∷ [])
-
-pub grid-pieces : (g : Grid) → gridText g ++ (10 ∷ []) ≡ gridWord ++ ((9 ∷ nameText (g .name)) ++ (ledInts (originInts g) ++ (ledInts (countInts g) ++ (10 ∷ []))))
-grid-pieces g = simp (append-assoc, append-nil)
-
-pub head-pieces : (h : Head) → headText h ++ (10 ∷ []) ≡ groupWord ++ ((9 ∷ nameText (h .name)) ++ ((9 ∷ unitText (h .unit)) ++ (ledInts (headInts h) ++ (10 ∷ []))))
-head-pieces h = simp (append-assoc, append-nil)
-
--- ---- lines that follow each other
 
 module _ {A : Type 0} (text : A → List ℕ) where
   closed-append : (xs ys : List A) → closed text (xs ++ ys) ≡ closed text xs ++ closed text ys

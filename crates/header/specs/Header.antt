@@ -7,19 +7,22 @@ use lib.ListN.{length}
 use Rattle.text.specs.Put.{put}
 use Rattle.group.specs.declared.Verdict.{Verdict}
 use Rattle.group.specs.declared.Verdict.the-variants.{Accepted, Refused}
+use Rattle.group.specs.declared.Ramp.{Ramp}
+use Rattle.group.specs.declared.Grid.{Grid}
 use Rattle.group.specs.declared.Group.{Group}
 use Rattle.judge.specs.Judge.{judged}
 use Rattle.header.specs.declared.Reading.{Reading}
 use Rattle.header.specs.declared.Written.{Written}
 use Rattle.header.specs.declared.Written.the-variants as W
-use Rattle.header.specs.Items.{refusal}
+use Rattle.group.specs.declared.Refusal.{Refusal}
+use Rattle.group.specs.Refusals.{refusal, noRefusal}
 use Rattle.header.specs.Whole.{Header, stopped, header, readLines, groupOf, refusedReading, acceptedReading, headerText}
 
 abbrev pub verdictReading : Group → Verdict → Reading
 verdictReading g Accepted = acceptedReading g
 verdictReading g (Refused r) = refusedReading r
 
-abbrev pub judgedReading : Header → Reading
+abbrev pub judgedReading : Header Ramp Grid → Reading
 judgedReading (stopped r) = refusedReading r
 judgedReading (header h rs ds) = verdictReading (groupOf h rs ds) (judged (groupOf h rs ds))
 
@@ -34,6 +37,15 @@ writtenIf Accepted count room = cond (leb count room) (W.Count count) (W.Refused
 
 unfoldable pub written : Group → ℕ → Written
 written g room = writtenIf (judged g) (length (headerText g)) room
+
+-- what writing refuses, and the count that it hands back, 0 beside a refusal
+abbrev pub writtenRefusal : Written → Refusal
+writtenRefusal (W.Count n) = noRefusal
+writtenRefusal (W.Refused r) = r
+
+abbrev pub writtenCount : Written → ℕ
+writtenCount (W.Count n) = n
+writtenCount (W.Refused r) = 0
 
 -- what the lent bytes are then: the text from the first on, and all behind it as it was; after a refusal all is as it was
 abbrev pub bytesIf : Verdict → List ℕ → List ℕ → List ℕ

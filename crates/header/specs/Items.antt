@@ -5,16 +5,10 @@ use lib.ListN.{length, drop, replicate}
 use mathlib.Core.List.{List, [], _∷_, _++_}
 use Rattle.text.specs.Parts.{split}
 use Rattle.group.specs.declared.Refusal.{Refusal}
+use Rattle.group.specs.Refusals.{refusal}
+use Rattle.line.specs.Line.{Line, bad, good}
 use Rattle.group.specs.declared.Verdict.{Verdict}
 use Rattle.group.specs.declared.Verdict.the-variants.{Accepted, Refused}
-
-abbrev pub refusal : ℕ → ℕ → Refusal
-refusal r p = record { number = r; place = p }
-
--- a line read as one record: the refusal, or the record
-pub data Line (A : Type 0) : Type 0 where
-  bad : Refusal → Line A
-  good : A → Line A
 
 -- some lines read as records: the first refusal, or the records and the parts behind them
 pub data Items (A : Type 0) : Type 0 where
@@ -22,14 +16,14 @@ pub data Items (A : Type 0) : Type 0 where
   items : List A → List (List ℕ) → Items A
 
 module _ {A : Type 0} where
-  abbrev pub onLine : Line A → Items A → Items A
+  abbrev pub onLine : Line Refusal A → Items A → Items A
   onLine (bad r) is = refused r
   onLine (good a) (refused r) = refused r
   onLine (good a) (items xs ls) = items (a ∷ xs) ls
 
   -- k records from line n on. The parts of a text at its line feeds are its closed lines and what stands behind the last line
   -- feed, which is no line
-  abbrev pub readItems : (ℕ → List ℕ → Line A) → ℕ → ℕ → List (List ℕ) → Items A
+  abbrev pub readItems : (ℕ → List ℕ → Line Refusal A) → ℕ → ℕ → List (List ℕ) → Items A
   readItems read zero n ls = items [] ls
   readItems read (suc k) n [] = refused (refusal 1 n)
   readItems read (suc k) n (l ∷ []) = refused (refusal 1 n)

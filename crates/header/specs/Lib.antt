@@ -1,9 +1,7 @@
 -- The definitions of the header text.
-pub mod Names
 pub mod Items
-pub mod Lines
-pub mod Blank
 pub mod Answers
 pub mod Whole
 pub mod Header
 pub mod Writing
+pub mod Demand2

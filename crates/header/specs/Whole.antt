@@ -8,40 +8,53 @@ use Rattle.group.specs.declared.Verdict.the-variants.{Accepted, Refused}
 use Rattle.group.specs.declared.Ramp.{Ramp}
 use Rattle.group.specs.declared.Grid.{Grid}
 use Rattle.group.specs.declared.Group.{Group}
-use Rattle.header.specs.declared.Head.{Head}
+use Rattle.line.specs.declared.Head.{Head}
 use Rattle.header.specs.declared.Reading.{Reading}
 use Rattle.group.specs.Blank.{blankRamp, blankGrid, blankGroup}
-use Rattle.header.specs.Items.{refusal, Items, refused, items, readItems, closed, entries}
-use Rattle.header.specs.Lines.{headLine, headText, rampLine, rampText, gridLine, gridText}
+use Rattle.group.specs.Refusals.{refusal}
+use Rattle.line.specs.Line.{Line}
+use Rattle.header.specs.Items.{Items, refused, items, readItems, closed, entries}
+use Rattle.line.specs.Lines.{headLine, headText, rampLine, rampText, gridLine, gridText}
 
 -- the lines of a header: the first refusal, or the group line, the ramps and the grids
-pub data Header : Type 0 where
-  stopped : Refusal → Header
-  header : Head → List Ramp → List Grid → Header
+pub data Header (R D : Type 0) : Type 0 where
+  stopped : Refusal → Header R D
+  header : Head → List R → List D → Header R D
 
--- nothing stands behind the last line feed, else line n is bad
-abbrev pub ending : ℕ → List (List ℕ) → Header → Header
-ending n [] h = stopped (refusal 1 n)
-ending n ([] ∷ []) h = h
-ending n ([] ∷ q ∷ ps) h = stopped (refusal 1 n)
-ending n ((x ∷ xs) ∷ ps) h = stopped (refusal 1 n)
+module _ {R D : Type 0} where
+  -- nothing stands behind the last line feed, else line n is bad
+  abbrev pub ending : ℕ → List (List ℕ) → Header R D → Header R D
+  ending n [] h = stopped (refusal 1 n)
+  ending n ([] ∷ []) h = h
+  ending n ([] ∷ q ∷ ps) h = stopped (refusal 1 n)
+  ending n ((x ∷ xs) ∷ ps) h = stopped (refusal 1 n)
 
-abbrev pub afterGrids : ℕ → Head → List Ramp → Items Grid → Header
-afterGrids n h rs (refused r) = stopped r
-afterGrids n h rs (items ds ls) = ending n ls (header h rs ds)
+  abbrev pub afterGrids : ℕ → Head → List R → Items D → Header R D
+  afterGrids n h rs (refused r) = stopped r
+  afterGrids n h rs (items ds ls) = ending n ls (header h rs ds)
 
-abbrev pub afterRamps : Head → Items Ramp → Header
-afterRamps h (refused r) = stopped r
-afterRamps h (items rs ls) = afterGrids (2 + h .ramps + h .grids) h rs (readItems gridLine (h .grids) (2 + h .ramps) ls)
+-- over any two kinds of line: that of the ramps, and that of the grids, which may go by the group line and by the parts of the text
+-- from the first grid line on
+module _ {R D : Type 0} (ramp : ℕ → List ℕ → Line Refusal R) (grid : Head → List (List ℕ) → ℕ → List ℕ → Line Refusal D) where
+  abbrev pub afterRampsOf : Head → Items R → Header R D
+  afterRampsOf h (refused r) = stopped r
+  afterRampsOf h (items rs ls) = afterGrids (2 + h .ramps + h .grids) h rs (readItems (grid h ls) (h .grids) (2 + h .ramps) ls)
 
-abbrev pub afterHead : Items Head → Header
-afterHead (refused r) = stopped r
-afterHead (items [] ls) = stopped (refusal 1 1)
-afterHead (items (h ∷ hs) ls) = afterRamps h (readItems rampLine (h .ramps) 2 ls)
+  abbrev pub afterHeadOf : Items Head → Header R D
+  afterHeadOf (refused r) = stopped r
+  afterHeadOf (items [] ls) = stopped (refusal 1 1)
+  afterHeadOf (items (h ∷ hs) ls) = afterRampsOf h (readItems ramp (h .ramps) 2 ls)
 
--- line by line; on one line 1 before 2
-abbrev pub readLines : List ℕ → Header
-readLines text = afterHead (readItems headLine 1 1 (split 10 text))
+  -- line by line; on one line 1 before 2
+  abbrev pub readLinesOf : List ℕ → Header R D
+  readLinesOf text = afterHeadOf (readItems headLine 1 1 (split 10 text))
+
+-- all grid lines are of one kind
+abbrev pub gridLines : Head → List (List ℕ) → ℕ → List ℕ → Line Refusal Grid
+gridLines h ls = gridLine
+
+abbrev pub readLines : List ℕ → Header Ramp Grid
+readLines = readLinesOf rampLine gridLines
 
 -- the record of a header's lines
 abbrev pub groupOf : Head → List Ramp → List Grid → Group
@@ -63,7 +76,7 @@ refusedReading r = record { verdict = Refused r; group = blankGroup }
 abbrev pub acceptedReading : Group → Reading
 acceptedReading g = record { verdict = Accepted; group = g }
 
-abbrev pub linesReading : Header → Reading
+abbrev pub linesReading : Header Ramp Grid → Reading
 linesReading (stopped r) = refusedReading r
 linesReading (header h rs ds) = acceptedReading (groupOf h rs ds)
 
@@ -71,9 +84,9 @@ linesReading (header h rs ds) = acceptedReading (groupOf h rs ds)
 abbrev pub headOfGroup : Group → Head
 headOfGroup g = record { name = g .name; unit = g .unit; quantum = g .quantum; parameters = g .parameters; ramps = g .ramps; grids = g .grids }
 
-abbrev pub linesText : Head → List Ramp → List Grid → List ℕ
-linesText h rs ds = closed headText (h ∷ []) ++ (closed rampText rs ++ closed gridText ds)
+abbrev pub linesText : {R D : Type 0} → (R → List ℕ) → (D → List ℕ) → Head → List R → List D → List ℕ
+linesText ramp grid h rs ds = closed headText (h ∷ []) ++ (closed ramp rs ++ closed grid ds)
 
 -- a group as text
 unfoldable pub headerText : Group → List ℕ
-headerText g = linesText (headOfGroup g) (take (g .ramps) (g .ramp)) (take (g .grids) (g .grid))
+headerText g = linesText rampText gridText (headOfGroup g) (take (g .ramps) (g .ramp)) (take (g .grids) (g .grid))

@@ -109,6 +109,7 @@ module _ (g : Group) (e : judged g ≡ Accepted) (a : Area) (f : areaFits a ≡ 
   of-list : GridsInForce g a (listed es)
   of-list =
       record {
+        accepted = refl;
         named = λ x y k i c.
             let n = placed-in g e a f .named (lonFromLeast x) (latFromLeast y) k (area-inside a f x y i) (back x y i ∙ c) in
             (n .0, n .1, ap (λ (t : GridInForce). t .grid) (used es (n .0) (n .1)) ∙ n .2);

@@ -3,3 +3,4 @@ pub mod ShownLaws
 pub mod AreaLaws
 pub mod GroupLaws
 pub mod Demand3
+pub mod TableLaws

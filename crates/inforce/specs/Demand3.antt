@@ -7,6 +7,7 @@ use lib.IntN.{ℤ}
 use lib.ListN.{length, getD}
 use lib.Signed.{_≤ℤ_, _<ℤ_}
 use Rattle.group.specs.declared.Group.{Group}
+use Rattle.group.specs.declared.Verdict.the-variants.{Accepted}
 use Rattle.group.specs.Record.{gridAt}
 use Rattle.extent.specs.Extent.{holds}
 use Rattle.choice.specs.InGroup.{chosenIn}
@@ -32,6 +33,8 @@ pub record Placed (g : Group) (a : Area) (e : GridInForce) : Type 0 where
   pub first : (x y : ℤ) → InArea a x y → chosenIn g x y ≡ e .grid → (e .lat .0 <ℤ y) ⊎ ((e .lat .0 ≡ y) × (e .lon .0 ≤ℤ x))
 
 pub record GridsInForce (g : Group) (a : Area) (r : InForce) : Type 0 where
+  -- the list is no refusal, also where it is empty
+  pub accepted : r .verdict ≡ Accepted
   -- a grid chosen at one or more coordinates of the area is named
   pub named : (x y : ℤ) (k : ℕ) → InArea a x y → chosenIn g x y ≡ suc k → (i : ℕ) × (i < r .count) × (entryAt r i .grid ≡ suc k)
   -- and no other: a grid named is chosen at the coordinate beside it, which is the southmost, then westmost such

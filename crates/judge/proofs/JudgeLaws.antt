@@ -4,7 +4,7 @@ use mathlib.Core.Path.{_≡_, sym, _∙_, ap, subst}
 use mathlib.Core.Bool.{Bool, true, false, not}
 use mathlib.Core.List.{List}
 use native.Mathlib.Omega.{arith}
-use borrow.Author.Tests.{lt-ltb, le-ltb, not-false}
+use borrow.Author.Tests.{lt-ltb, le-ltb, lt-leb, not-false}
 use lib.Dec.{ltb}
 use Rattle.numbers.specs.First.{first, some}
 use Rattle.numbers.proofs.FirstLaws.{none-at, first-same}
@@ -15,13 +15,21 @@ use Rattle.group.specs.Record.{gridAt}
 use Rattle.group.specs.Limits.{gridFits, headFits}
 use Rattle.extent.specs.Extent.{inside}
 use Rattle.judge.specs.Judge.{sameName, sameRank, refuseIf, refuseFirst}
-use Rattle.judge.specs.Rules.{gridBreaks, Grids}
+use Rattle.judge.specs.Rules.{rampBreaks, gridBreaks, Grids}
 use Rattle.judge.specs.Marks.{marksOf, Listed, clash, sharesEarlier, Comparable}
+use Rattle.judge.specs.declared.RampRule.the-variants as R
 use Rattle.judge.specs.declared.GridRule.the-variants as G
 use Rattle.judge.specs.declared.Shared.{Shared}
 use Rattle.judge.specs.declared.Shared.the-variants as S
 use Rattle.judge.proofs.LimitLaws.{name-good, name-bytes, grid-edges}
 use Rattle.judge.proofs.MarkLaws.{clash-name, clash-rank}
+
+-- an entry before the count is no unused one
+pub ramp-kept : (g : Group) (k : ℕ) → k < g .ramps → rampBreaks R.Unused g k ≡ false
+ramp-kept g k l = rw (lt-leb (g .ramps) k l)
+
+pub grid-kept : (g : Group) (k : ℕ) → k < g .grids → gridBreaks G.Unused g k ≡ false
+grid-kept g k l = rw (lt-leb (g .grids) k l)
 
 -- a stage by the answer of its loop
 module _ (test : ℕ → Bool) (n number base : ℕ) (next : Verdict) (i : ℕ) (e : i ≡ first test n) where

@@ -2,3 +2,4 @@ pub mod LimitLaws
 pub mod MarkLaws
 pub mod JudgeLaws
 pub mod Accepted
+pub mod TableLaws

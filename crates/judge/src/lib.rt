@@ -1,12 +1,15 @@
 // The judge of a group handed over as a record: refusals 2 to 5.
 ghost use mathlib.Core.Path.{_≡_};
+ghost use mathlib.Core.Bool.{false, _&&_};
 ghost use Prim.Native.Nat.{ℕ, _+_, _*_, _<_, _≤_};
-ghost use lib.ListN.{length, set};
+ghost use lib.Dec.{leb};
+ghost use lib.IntN.{pos};
+ghost use lib.ListN.{length, set, getD};
 ghost use Rattle.numbers.specs.First.{first, some};
-ghost use Rattle.group.specs.Record.{gridAt};
-ghost use Rattle.group.specs.Limits.{headFits};
+ghost use Rattle.group.specs.Record.{noRamp, gridAt};
+ghost use Rattle.group.specs.Limits.{nameFits, headNumbersFit};
 ghost use Rattle.judge.specs.Judge.{judgedGrids, judgedLines, judged};
-ghost use Rattle.judge.specs.Rules.{rampTest, rampBreaks, gridTest, gridBreaks, Ready, Head, Grids};
+ghost use Rattle.judge.specs.Rules.{rampTest, gridTest, gridBreaks, Ready, Head, Grids};
 ghost use Rattle.judge.specs.Flat.{Sided, Ended};
 ghost use Rattle.judge.specs.Marks.{wordAt, marksOf, Marked, putFour, Listed, agree, clash, sharesEarlier, Comparable};
 use group::Grid;
@@ -63,16 +66,15 @@ fn ramp_breaks(rule: RampRule, r: Ramp, behind: bool) -> bool
     }
 }
 
-// The first of n ramp entries that breaks a rule, n if none does.
-fn first_ramp(rule: RampRule, group: Group, n: u64) -> u64
-    requires { ⌜ n ≤ 8 ⌝ }
-    ensures { λ r. ⌜ r ≡ first (rampBreaks rule group) n ⌝ }
+// The first of n ramp entries that breaks a rule, n if none does; those before one are known to keep it.
+fn first_ramp(rule: RampRule, ramps: [Ramp; 8], used: u64, from: u64, n: u64) -> u64
+    requires { ⌜ (from ≤ n) × (n ≤ 8) × ((k : ℕ) → k < from → rampTest rule (leb used k) (getD ramps k noRamp) ≡ false) ⌝ }
+    ensures { λ r. ⌜ r ≡ first (λ k. rampTest rule (leb used k) (getD ramps k noRamp)) n ⌝ }
 {
-    let used = group.ramps;
-    let mut i: u64 = 0;
+    let mut i: u64 = from;
     while i < n {
         let at = i as usize;
-        let r = group.ramp[at];
+        let r = ramps[at];
         if ramp_breaks(rule, r, used <= i) {
             return i;
         }
@@ -96,14 +98,14 @@ fn grid_breaks(rule: GridRule, g: Grid, behind: bool, np: u64) -> bool
     }
 }
 
-// The first of n grid entries that breaks a rule, n if none does.
-fn first_grid(rule: GridRule, group: Group, n: u64) -> u64
-    requires { ⌜ (n ≤ 64) × ((k : ℕ) → k < n → Ready rule (group .parameters) (gridAt group k)) ⌝ }
+// The first of n grid entries that breaks a rule, n if none does; those before one are known to keep it.
+fn first_grid(rule: GridRule, group: Group, from: u64, n: u64) -> u64
+    requires { ⌜ (from ≤ n) × (n ≤ 64) × ((k : ℕ) → k < from → gridBreaks rule group k ≡ false) × ((k : ℕ) → k < n → Ready rule (group .parameters) (gridAt group k)) ⌝ }
     ensures { λ r. ⌜ r ≡ first (gridBreaks rule group) n ⌝ }
 {
     let used = group.grids;
     let np = group.parameters;
-    let mut i: u64 = 0;
+    let mut i: u64 = from;
     while i < n {
         let at = i as usize;
         let g = group.grid[at];
@@ -282,7 +284,7 @@ fn judge_grids(group: Group) -> Verdict
             place: name + 1,
         });
     }
-    let edge = first_grid(GridRule::FarEdge, group, n);
+    let edge = first_grid(GridRule::FarEdge, group, 0, n);
     if edge < n {
         return Verdict::Refused(Refusal {
             number: 4,
@@ -305,7 +307,8 @@ fn judge_lines(group: Group) -> Verdict
     ensures { λ r. ⌜ r ≡ judgedLines group ⌝ }
 {
     let m = group.ramps;
-    let ramp = first_ramp(RampRule::Limits, group, m);
+    let ramps = group.ramp;
+    let ramp = first_ramp(RampRule::Limits, ramps, m, 0, m);
     if ramp < m {
         return Verdict::Refused(Refusal {
             number: 2,
@@ -313,7 +316,7 @@ fn judge_lines(group: Group) -> Verdict
         });
     }
     let n = group.grids;
-    let grid = first_grid(GridRule::Limits, group, n);
+    let grid = first_grid(GridRule::Limits, group, 0, n);
     if grid < n {
         return Verdict::Refused(Refusal {
             number: 2,
@@ -324,30 +327,37 @@ fn judge_lines(group: Group) -> Verdict
 }
 
 // Whether a group's name is well formed and the numbers of its line are within their limits.
-fn head_fits(group: Group) -> bool
-    ensures { λ r. ⌜ r ≡ headFits group ⌝ }
+fn head_fits(name: Name, quantum: u64, parameters: u64, ramps: u64, grids: u64) -> bool
+    ensures { λ r. ⌜ r ≡ (nameFits name && headNumbersFit (pos quantum) (pos parameters) (pos ramps) (pos grids)) ⌝ }
 {
-    name_fits(group.name)
-        & head_numbers_fit(group.quantum, group.parameters, group.ramps, group.grids)
+    name_fits(name) & head_numbers_fit(quantum, parameters, ramps, grids)
 }
 
 // What a group handed over as a record is judged: accepted, or the refusal of the lowest number from 2 to 5 with its place.
 pub fn judge(group: Group) -> Verdict
     ensures { λ r. ⌜ r ≡ judged group ⌝ }
 {
-    if !head_fits(group) {
+    if !head_fits(
+        group.name,
+        group.quantum,
+        group.parameters,
+        group.ramps,
+        group.grids,
+    ) {
         return Verdict::Refused(Refusal {
             number: 2,
             place: 1,
         });
     }
-    if first_ramp(RampRule::Unused, group, 8) < 8 {
+    let m = group.ramps;
+    let ramps = group.ramp;
+    if first_ramp(RampRule::Unused, ramps, m, m, 8) < 8 {
         return Verdict::Refused(Refusal {
             number: 2,
             place: 1,
         });
     }
-    if first_grid(GridRule::Unused, group, 64) < 64 {
+    if first_grid(GridRule::Unused, group, group.grids, 64) < 64 {
         return Verdict::Refused(Refusal {
             number: 2,
             place: 1,

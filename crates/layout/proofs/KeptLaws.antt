@@ -1,34 +1,64 @@
--- An accepted group of 8 ramps, 64 grids and names of 24 bytes is read back as it was stored, and the place of a verdict is small.
+-- An accepted group of 8 ramps, 64 grids and names of 24 bytes is read back as it was stored.
 use Prim.Native.Nat.{ℕ, _+_, _≤_, _<_}
 use mathlib.Core.Path.{_≡_, refl, sym, ap, _∙_}
-use mathlib.Core.Bool.{Bool, true, false, not, _&&_}
-use native.Mathlib.Nat.{min-eq-left}
+use mathlib.Core.Bool.{Bool, true, false, not, _&&_, _||_}
+use mathlib.Core.Logic.{⊎-elim}
 use native.Mathlib.Omega.{arith}
 use borrow.Author.Tests.{leb-true, leb-false, eqb-true, not-false}
-use lib.Dec.{leb, eqb}
-use lib.IntN.{pos}
-use lib.ListN.{length}
-use Rattle.numbers.specs.First.{first, some, every}
+use lib.Dec.{leb, ltb, eqb}
+use lib.ListN.{length, getD}
+use Rattle.numbers.specs.First.{every}
 use Rattle.numbers.specs.Order.{within}
-use Rattle.numbers.proofs.Bools.{and-left, and-right}
-use Rattle.numbers.proofs.FirstLaws.{first-le}
+use Rattle.numbers.proofs.Bools.{and-left, and-right, or-cases}
+use Rattle.numbers.proofs.FirstLaws.{every-at}
 use Rattle.group.specs.declared.Name.{Name}
 use Rattle.group.specs.declared.Grid.{Grid}
 use Rattle.group.specs.declared.Group.{Group}
-use Rattle.group.specs.declared.Verdict.{Verdict}
 use Rattle.group.specs.declared.Verdict.the-variants.{Accepted}
-use Rattle.group.specs.Limits.{byteFits, nameFits, nameBlank, gridFits, gridBlank, headFits}
+use Rattle.group.specs.Limits.{nameByte, byteFits, nameFits, nameBlank, gridFits, gridBlank, headFits}
 use Rattle.group.specs.Record.{gridAt}
-use Rattle.group.specs.Refusals.{placeOf}
-use Rattle.judge.specs.Judge.{unusedRamp, unusedGrid, badRamp, badGrid, namedEarlier, outside, rankedEarlier, refuseIf, refuseFirst, judgedGrids, judgedLines, judged}
+use Rattle.judge.specs.Judge.{judged}
 use Rattle.judge.proofs.Accepted.{accepted}
 use Rattle.judge.proofs.LimitLaws.{name-good, ni-between, nj-between, rank-between, start-most, quantum-most, parameters-between, ramps-most, grids-between}
-use Rattle.layout.specs.Layout.{stored, KeptGrid, Kept}
+use Rattle.layout.specs.Layout.{KeptName, KeptGrid, Kept}
 
-name-len : (n : Name) → nameFits n ≡ true → n .len ≤ 24
+letter : (b : ℕ) → nameByte b ≡ true → b < 128
+letter b e =
+    let u = leb 65 b && leb b 90 in
+    let l = leb 97 b && leb b 122 in
+    let d = leb 48 b && leb b 57 in
+    let upTo : (lo hi : ℕ) → hi < 128 → (leb lo b && leb b hi) ≡ true → b < 128 = λ lo hi h p. (let q = leb-true b hi (and-right (leb lo b) (leb b hi) p) in omega arith) in
+    ⊎-elim
+    (λ p.
+    ⊎-elim
+    (λ q.
+    ⊎-elim (λ r. ⊎-elim (upTo 65 90 (omega arith)) (upTo 97 122 (omega arith)) (or-cases u l r)) (upTo 48 57 (omega arith)) (or-cases (u || l) d q))
+    (λ q. let z = eqb-true b 95 q in omega arith)
+    (or-cases (u || l || d) (eqb b 95) p))
+    (λ p. let z = eqb-true b 45 p in omega arith)
+    (or-cases (u || l || d || eqb b 95) (eqb b 45) e)
+
+plain-byte : (n : Name) (k : ℕ) → byteFits n k ≡ true → getD (n .bytes) k 0 < 128
+unfolding byteFits
+plain-byte n k e =
+    let b = getD (n .bytes) k 0 in
+    ⊎-elim (λ p. letter b (and-right (ltb k (n .len)) (nameByte b) p))
+    (λ p. let z = eqb-true b 0 (and-right (leb (n .len) k) (eqb b 0) p) in omega arith)
+    (or-cases (ltb k (n .len) && nameByte b) (leb (n .len) k && eqb b 0) e)
+
+fitting-name : (n : Name) → length (n .bytes) ≡ 24 → nameFits n ≡ true → KeptName n
 unfolding nameFits
-name-len n e =
-    leb-true (n .len) 24 (and-right (leb 1 (n .len)) (leb (n .len) 24) (and-left (leb 1 (n .len) && leb (n .len) 24) (every (byteFits n) 24) e))
+fitting-name n b e =
+    let l = leb-true (n .len) 24 (and-right (leb 1 (n .len)) (leb (n .len) 24) (and-left (leb 1 (n .len) && leb (n .len) 24) (every (byteFits n) 24) e)) in
+    let h = and-right (leb 1 (n .len) && leb (n .len) 24) (every (byteFits n) 24) e in
+    record { bytes = b; plain = λ j m. plain-byte n j (every-at (byteFits n) 24 j h m); len = omega arith }
+
+blank-name : (n : Name) → length (n .bytes) ≡ 24 → nameBlank n ≡ true → KeptName n
+unfolding nameBlank
+blank-name n b e =
+    let l = eqb-true (n .len) 0 (and-left (eqb (n .len) 0) (every (byteFits n) 24) e) in
+    let h = and-right (eqb (n .len) 0) (every (byteFits n) 24) e in
+    record { bytes = b; plain = λ j m. plain-byte n j (every-at (byteFits n) 24 j h m); len = omega arith }
 
 head-name : (g : Group) → headFits g ≡ true → nameFits (g .name) ≡ true
 unfolding headFits
@@ -37,8 +67,7 @@ head-name g e = and-left (nameFits (g .name)) _ e
 fitting-kept : (d : Grid) → length (d .name .bytes) ≡ 24 → gridFits d ≡ true → KeptGrid d
 fitting-kept d b e =
     record {
-      bytes = b;
-      len = omega (arith, name-len (d .name) (name-good d e));
+      name = fitting-name (d .name) b (name-good d e);
       ni = omega (arith, ni-between d e);
       nj = omega (arith, nj-between d e);
       rank = omega (arith, rank-between d e);
@@ -46,7 +75,7 @@ fitting-kept d b e =
     }
 
 blank-kept : (d : Grid) → length (d .name .bytes) ≡ 24 → gridBlank d ≡ true → KeptGrid d
-unfolding gridBlank nameBlank
+unfolding gridBlank
 blank-kept d b e =
     let i = eqb (d .ni) 0 in
     let j = eqb (d .nj) 0 in
@@ -57,8 +86,7 @@ blank-kept d b e =
     let counts = and-right (nameBlank (d .name) && o) (i && j && r && s) e in
     let name = and-left (nameBlank (d .name)) o head in
     record {
-      bytes = b;
-      len = omega (arith, eqb-true (d .name .len) 0 (and-left (eqb (d .name .len) 0) (every (byteFits (d .name)) 24) name));
+      name = blank-name (d .name) b name;
       ni = omega (arith, eqb-true (d .ni) 0 (and-left i j (and-left (i && j) r (and-left (i && j && r) s counts))));
       nj = omega (arith, eqb-true (d .nj) 0 (and-right i j (and-left (i && j) r (and-left (i && j && r) s counts))));
       rank = omega (arith, eqb-true (d .rank) 0 (and-right (i && j) r (and-left (i && j && r) s counts)));
@@ -81,45 +109,12 @@ module _ (g : Group) (e : judged g ≡ Accepted) where
   accepted-kept b r d n =
       let h = accepted g e .head in
       record {
-        bytes = b;
+        name = fitting-name (g .name) b (head-name g h);
         ramp = r;
         grid = d;
-        len = omega (arith, name-len (g .name) (head-name g h));
         quantum = omega (arith, quantum-most g h);
         parameters = omega (arith, parameters-between g h);
         ramps = omega (arith, ramps-most g h);
         grids = omega (arith, grids-between g h);
         kept = λ k l. grid-kept k l (n k l);
       }
-
--- ---- the place of a verdict
-
-place-if : (t : Bool) (n p m : ℕ) (o : Verdict) → p ≤ m → (t ≡ false → placeOf o ≤ m) → placeOf (refuseIf t n p o) ≤ m
-unfolding refuseIf
-place-if true n p m o h f = h
-place-if false n p m o h f = f refl
-
-place-first : (test : ℕ → Bool) (n number base m : ℕ) (o : Verdict) → n + base ≤ m → placeOf o ≤ m → placeOf (refuseFirst test n number base o) ≤ m
-unfolding refuseFirst
-place-first test n number base m o h f =
-    place-if (some test n) number (first test n + base) m o (omega (arith, first-le test n)) (λ q. f)
-
-pub place-most : (g : Group) → placeOf (judged g) ≤ 74
-unfolding judged judgedLines judgedGrids
-place-most g =
-    place-if (not (headFits g)) 2 1 74 _ (omega arith)
-    (λ q.
-    let h = not-false (headFits g) q in
-    place-if (some (unusedRamp g) 8) 2 1 74 _ (omega arith)
-    (λ p.
-    place-if (some (unusedGrid g) 64) 2 1 74 _ (omega arith)
-    (λ o.
-    place-first (badRamp g) (g .ramps) 2 2 74 _ (omega (arith, ramps-most g h))
-    (place-first (badGrid g) (g .grids) 2 (g .ramps + 2) 74 _ (omega (arith, ramps-most g h, grids-between g h))
-    (place-first (namedEarlier g) (g .grids) 3 1 74 _ (omega (arith, grids-between g h))
-    (place-first (outside g) (g .grids) 4 1 74 _ (omega (arith, grids-between g h))
-    (place-first (rankedEarlier g) (g .grids) 5 1 74 Accepted (omega (arith, grids-between g h)) (omega arith))))))))
-
--- so it is stored as it is
-pub place-stored : (g : Group) → stored (placeOf (judged g)) ≡ pos (placeOf (judged g))
-place-stored g = ap pos (min-eq-left (let h = place-most g in omega arith))

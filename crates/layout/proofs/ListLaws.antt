@@ -1,14 +1,14 @@
 -- A list that a loop fills value by value, and runs of stores one behind the other.
 use Prim.Native.Nat.{ℕ, zero, suc, _+_, _*_, _≤_, _<_}
 use mathlib.Core.Path.{_≡_, refl, sym, ap, _∙_}
-use mathlib.Core.List.{List, [], _∷_, _++_}
+use mathlib.Core.List.{List, [], _∷_, _++_, append-nil}
 use mathlib.Core.Logic.{⊎-elim}
 use native.Mathlib.Numerals.{add-one}
 use native.Mathlib.Nat.{suc-mul, mul-le-mul-right, eq-or-lt-of-le}
 use native.Mathlib.Omega.{arith}
 use borrow.Author.Count.{below-more, below-none}
-use lib.ListN.{length, getD, set, take, length-append, length-set, List·getD-append}
-use lib.Seq.{ext-getD, getD-set-same, getD-set-other, getD-append-add, take-suc, length-take-le, sets, length-sets}
+use lib.ListN.{length, getD, set, take, length-append, length-set, drop-of-length-le, List·getD-append}
+use lib.Seq.{ext-getD, getD-set-same, getD-set-other, getD-append-add, take-suc, length-take-le, sets, length-sets, sets-eq}
 use Rattle.layout.specs.Layout.{listOf, joined}
 
 module _ {A : Type 0} where
@@ -57,6 +57,11 @@ module _ {A : Type 0} where
   sets-append l i [] ys = ap (λ (k : ℕ). sets l k ys) (omega arith)
   sets-append l i (x ∷ xs) ys =
       ap (λ (k : ℕ). sets (sets (set l i x) (suc i) xs) k ys) (omega arith) ∙ sets-append (set l i x) (suc i) xs ys
+
+  -- a run of stores over the whole list
+  pub sets-whole : (l xs : List A) → length l ≡ length xs → sets l 0 xs ≡ xs
+  sets-whole l xs e =
+      sets-eq xs l 0 (omega arith) ∙ ap (λ (r : List A). xs ++ r) (drop-of-length-le l {i = 0 + length xs} (omega arith)) ∙ append-nil xs
 
   pub length-joined : (f : ℕ → List A) (m n : ℕ) → ((k : ℕ) → k < n → length (f k) ≡ m) → length (joined f n) ≡ n * m
   unfolding joined

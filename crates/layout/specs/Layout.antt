@@ -1,5 +1,5 @@
--- A group as the C interface passes it: a list of signed numbers and a list of bytes. What is not there counts as 0.
-use Prim.Native.Nat.{ℕ, zero, suc, _+_, _*_, min, _≤_, _<_}
+-- A group as the C interface passes it: a list of signed numbers. What is not there counts as 0.
+use Prim.Native.Nat.{ℕ, zero, suc, _+_, _*_, _/_, _%_, _^_, min, _≤_, _<_}
 use mathlib.Core.Path.{_≡_}
 use mathlib.Core.Bool.{cond}
 use mathlib.Core.List.{List, [], _∷_, _++_}
@@ -39,9 +39,13 @@ unfoldable pub listOf : {A : Type 0} → (ℕ → A) → ℕ → List A
 listOf f zero = []
 listOf f (suc n) = f zero ∷ listOf (λ i. f (suc i)) n
 
--- the name at place k, of a length: the group's stands at 0, grid k's at k + 1
-unfoldable pub nameOf : List ℕ → ℕ → ℕ → Name
-nameOf bs k len = record { bytes = listOf (λ j. byteAt bs (k * 24 + j)) 24; len = len }
+-- byte j of eight that a number holds, the lowest first
+abbrev pub byteOf : ℕ → ℕ → ℕ
+byteOf w j = w / 2 ^ (8 * j) % 256
+
+-- the name of a length whose 24 bytes stand in three numbers from place k on; one below zero holds no byte of a name
+unfoldable pub nameOf : List ℤ → ℕ → ℕ → Name
+nameOf ns k len = record { bytes = listOf (λ j. byteOf (countAt ns (k + j / 8)) (j % 8)) 24; len = len }
 
 -- 0 is arc-second, 1 is metre
 abbrev pub unitOf : ℤ → Unit
@@ -51,43 +55,43 @@ unitOf (negsuc n) = Metre
 
 -- a unit other than these two is refused as Q would be: 2 at line 1
 abbrev pub quantumOf : List ℤ → ℕ
-quantumOf ns = cond (between (pos 0) (pos 1) (numberAt ns 1)) (countAt ns 2) beyond
+quantumOf ns = cond (between (pos 0) (pos 1) (numberAt ns 4)) (countAt ns 5) beyond
 
--- ramp k stands from number 6 + 4k on: A S0 B S1
+-- ramp k stands from number 9 + 4k on: A S0 B S1
 unfoldable pub rampOf : List ℤ → ℕ → Ramp
 rampOf ns k =
-    record { a = numberAt ns (k * 4 + 6); s0 = numberAt ns (k * 4 + 7); b = numberAt ns (k * 4 + 8); s1 = numberAt ns (k * 4 + 9) }
+    record { a = numberAt ns (k * 4 + 9); s0 = numberAt ns (k * 4 + 10); b = numberAt ns (k * 4 + 11); s1 = numberAt ns (k * 4 + 12) }
 
--- grid k stands from number 38 + 9k on: name length, LON LAT DLON DLAT NI NJ RANK START
-unfoldable pub gridOf : List ℤ → List ℕ → ℕ → Grid
-gridOf ns bs k =
+-- grid k stands from number 41 + 12k on: name, name length, LON LAT DLON DLAT NI NJ RANK START
+unfoldable pub gridOf : List ℤ → ℕ → Grid
+gridOf ns k =
     record {
-      name = nameOf bs (k + 1) (countAt ns (k * 9 + 38));
-      lon = record { 0 = numberAt ns (k * 9 + 39) };
-      lat = record { 0 = numberAt ns (k * 9 + 40) };
-      dlon = numberAt ns (k * 9 + 41);
-      dlat = numberAt ns (k * 9 + 42);
-      ni = countAt ns (k * 9 + 43);
-      nj = countAt ns (k * 9 + 44);
-      rank = countAt ns (k * 9 + 45);
-      start = countAt ns (k * 9 + 46);
+      name = nameOf ns (k * 12 + 41) (countAt ns (k * 12 + 44));
+      lon = record { 0 = numberAt ns (k * 12 + 45) };
+      lat = record { 0 = numberAt ns (k * 12 + 46) };
+      dlon = numberAt ns (k * 12 + 47);
+      dlat = numberAt ns (k * 12 + 48);
+      ni = countAt ns (k * 12 + 49);
+      nj = countAt ns (k * 12 + 50);
+      rank = countAt ns (k * 12 + 51);
+      start = countAt ns (k * 12 + 52);
     }
 
--- name length, unit, Q, NP, counts of ramps and grids, 8 ramps, 64 grids
-unfoldable pub groupOf : List ℤ → List ℕ → Group
-groupOf ns bs =
+-- name, name length, unit, Q, NP, counts of ramps and grids, 8 ramps, 64 grids
+unfoldable pub groupOf : List ℤ → Group
+groupOf ns =
     record {
-      name = nameOf bs 0 (countAt ns 0);
-      unit = unitOf (numberAt ns 1);
+      name = nameOf ns 0 (countAt ns 3);
+      unit = unitOf (numberAt ns 4);
       quantum = quantumOf ns;
-      parameters = countAt ns 3;
-      ramps = countAt ns 4;
-      grids = countAt ns 5;
+      parameters = countAt ns 6;
+      ramps = countAt ns 7;
+      grids = countAt ns 8;
       ramp = listOf (rampOf ns) 8;
-      grid = listOf (gridOf ns bs) 64;
+      grid = listOf (gridOf ns) 64;
     }
 
--- ---- from the record to the lists
+-- ---- from the record to the list
 
 -- an unsigned number as it is stored: one above the greatest signed number, which no accepted group has, as that greatest
 abbrev pub stored : ℕ → ℤ
@@ -105,44 +109,55 @@ joined f (suc n) = joined f n ++ f n
 abbrev pub rampNumbers : Ramp → List ℤ
 rampNumbers r = r .a ∷ r .s0 ∷ r .b ∷ r .s1 ∷ []
 
+-- four bytes as one number, the first lowest
+abbrev pub fourOf : ℕ → ℕ → ℕ → ℕ → ℕ
+fourOf a b c d = a + b * 256 + c * 65536 + d * 16777216
+
+-- number w of the three that hold the bytes of a name
+unfoldable pub wordOf : List ℕ → ℕ → ℕ
+wordOf bs w =
+    let i = w * 8 in
+    fourOf (byteAt bs i) (byteAt bs (i + 1)) (byteAt bs (i + 2)) (byteAt bs (i + 3))
+    + fourOf (byteAt bs (i + 4)) (byteAt bs (i + 5)) (byteAt bs (i + 6)) (byteAt bs (i + 7)) * 4294967296
+
+abbrev pub nameNumber : Name → ℕ → ℤ
+nameNumber n w = stored (wordOf (n .bytes) w)
+
 abbrev pub gridNumbers : Grid → List ℤ
 gridNumbers g =
-    stored (g .name .len) ∷ g .lon .0 ∷ g .lat .0 ∷ g .dlon ∷ g .dlat ∷ stored (g .ni) ∷ stored (g .nj) ∷ stored (g .rank) ∷ stored (g .start) ∷ []
+    nameNumber (g .name) 0 ∷ nameNumber (g .name) 1 ∷ nameNumber (g .name) 2 ∷ stored (g .name .len)
+    ∷ g .lon .0 ∷ g .lat .0 ∷ g .dlon ∷ g .dlat ∷ stored (g .ni) ∷ stored (g .nj) ∷ stored (g .rank) ∷ stored (g .start) ∷ []
 
 abbrev pub headNumbers : Group → List ℤ
 headNumbers g =
-    stored (g .name .len) ∷ unitNumber (g .unit) ∷ stored (g .quantum) ∷ stored (g .parameters) ∷ stored (g .ramps) ∷ stored (g .grids) ∷ []
+    nameNumber (g .name) 0 ∷ nameNumber (g .name) 1 ∷ nameNumber (g .name) 2 ∷ stored (g .name .len)
+    ∷ unitNumber (g .unit) ∷ stored (g .quantum) ∷ stored (g .parameters) ∷ stored (g .ramps) ∷ stored (g .grids) ∷ []
 
--- the 614 numbers of a group
+-- the 809 numbers of a group
 unfoldable pub numbersOf : Group → List ℤ
 numbersOf g = headNumbers g ++ (joined (λ k. rampNumbers (rampAt g k)) 8 ++ joined (λ k. gridNumbers (gridAt g k)) 64)
 
--- the 24 bytes of a name
-unfoldable pub nameBytes : Name → List ℕ
-nameBytes n = listOf (byteAt (n .bytes)) 24
-
--- the 1560 bytes of a group's names
-unfoldable pub namesOf : Group → List ℕ
-namesOf g = nameBytes (g .name) ++ joined (λ k. nameBytes (gridAt g k .name)) 64
-
--- ---- what makes a group the same again: 8 ramps, 64 grids, names of 24 bytes, and no unsigned number above the greatest signed one
+-- ---- what makes a group the same again: 8 ramps, 64 grids, names of 24 bytes below 128, and no unsigned number above the greatest signed one
 
 abbrev pub most : ℕ
 most = 9223372036854775807
 
+pub record KeptName (n : Name) : Type 0 where
+  pub bytes : length (n .bytes) ≡ 24
+  pub plain : (j : ℕ) → j < 24 → byteAt (n .bytes) j < 128
+  pub len : n .len ≤ most
+
 pub record KeptGrid (g : Grid) : Type 0 where
-  pub bytes : length (g .name .bytes) ≡ 24
-  pub len : g .name .len ≤ most
+  pub name : KeptName (g .name)
   pub ni : g .ni ≤ most
   pub nj : g .nj ≤ most
   pub rank : g .rank ≤ most
   pub start : g .start ≤ most
 
 pub record Kept (g : Group) : Type 0 where
-  pub bytes : length (g .name .bytes) ≡ 24
+  pub name : KeptName (g .name)
   pub ramp : length (g .ramp) ≡ 8
   pub grid : length (g .grid) ≡ 64
-  pub len : g .name .len ≤ most
   pub quantum : g .quantum ≤ most
   pub parameters : g .parameters ≤ most
   pub ramps : g .ramps ≤ most

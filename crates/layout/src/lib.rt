@@ -1,10 +1,10 @@
-// A group as the C interface passes it, a list of numbers and a list of bytes: from the lists to the record and back.
+// A group as the C interface passes it, a list of 809 numbers: from the list to the record and back.
 ghost use mathlib.Core.Path.{_≡_};
 ghost use Prim.Native.Nat.{_+_, _*_, _≤_, _<_};
 ghost use lib.ListN.{length, getD};
 ghost use lib.Seq.{sets};
 ghost use Rattle.group.specs.Record.{noRamp, noGrid};
-ghost use Rattle.layout.specs.Layout.{numberAt, byteAt, countOf, countAt, listOf, nameOf, unitOf, quantumOf, rampOf, gridOf, groupOf, stored, unitNumber, rampNumbers, gridNumbers, headNumbers, joined, nameBytes, numbersOf, namesOf};
+ghost use Rattle.layout.specs.Layout.{numberAt, countOf, countAt, listOf, byteOf, nameOf, unitOf, quantumOf, rampOf, gridOf, groupOf, stored, unitNumber, fourOf, nameNumber, rampNumbers, gridNumbers, headNumbers, joined, numbersOf};
 use group::Grid;
 use group::Group;
 use group::Latitude;
@@ -23,18 +23,8 @@ pub fn number_at(numbers: &[i64], k: usize) -> i64
     0
 }
 
-// Byte k of a list, 0 past its end.
-fn byte_at(bytes: &[u8], k: usize) -> u8
-    ensures { λ r. ⌜ r ≡ byteAt (now (bytes .entry)) k ⌝ }
-{
-    if k < bytes.len() {
-        return bytes[k];
-    }
-    0
-}
-
 // A number where the record is unsigned: below zero it is beyond every limit.
-fn count_of(x: i64) -> u64
+pub fn count_of(x: i64) -> u64
     ensures { λ r. ⌜ r ≡ countOf x ⌝ }
 {
     if numbers::negative(x) {
@@ -50,15 +40,23 @@ pub fn count_at(numbers: &[i64], k: usize) -> u64
     count_of(number_at(numbers, k))
 }
 
-// The name at place k of a group's names, of a length.
-fn name_of(names: &[u8], k: usize, len: u64) -> Name
-    requires { ⌜ k < 65 ⌝ }
-    ensures { λ r. ⌜ r ≡ nameOf (now (names .entry)) k len ⌝ }
+// Byte j of eight that a number holds, the lowest first.
+fn byte_of(word: u64, j: u64) -> u8
+    requires { ⌜ j < 8 ⌝ }
+    ensures { λ r. ⌜ r ≡ byteOf word j ⌝ }
+{
+    ((word >> (8 * j)) % 256) as u8
+}
+
+// The name of a length whose 24 bytes stand in three numbers from place k on.
+fn name_of(numbers: &[i64], k: usize, len: u64) -> Name
+    requires { ⌜ k < 809 ⌝ }
+    ensures { λ r. ⌜ r ≡ nameOf (now (numbers .entry)) k len ⌝ }
 {
     let mut bytes = [0u8; 24];
     let mut i = 0;
     while i < 24 {
-        bytes[i] = byte_at(names, k * 24 + i);
+        bytes[i] = byte_of(count_at(numbers, k + i / 8), (i % 8) as u64);
         i += 1;
     }
     Name {
@@ -81,9 +79,9 @@ fn unit_of(x: i64) -> Unit
 fn quantum_of(numbers: &[i64]) -> u64
     ensures { λ r. ⌜ r ≡ quantumOf (now (numbers .entry)) ⌝ }
 {
-    let u = number_at(numbers, 1);
+    let u = number_at(numbers, 4);
     if (0 <= u) & (u <= 1) {
-        return count_at(numbers, 2);
+        return count_at(numbers, 5);
     }
     18446744073709551615
 }
@@ -94,29 +92,29 @@ fn ramp_of(numbers: &[i64], k: usize) -> Ramp
     ensures { λ r. ⌜ r ≡ rampOf (now (numbers .entry)) k ⌝ }
 {
     Ramp {
-        a: number_at(numbers, k * 4 + 6),
-        s0: number_at(numbers, k * 4 + 7),
-        b: number_at(numbers, k * 4 + 8),
-        s1: number_at(numbers, k * 4 + 9),
+        a: number_at(numbers, k * 4 + 9),
+        s0: number_at(numbers, k * 4 + 10),
+        b: number_at(numbers, k * 4 + 11),
+        s1: number_at(numbers, k * 4 + 12),
     }
 }
 
-// Grid k of a group's numbers and names.
-fn grid_of(numbers: &[i64], names: &[u8], k: usize) -> Grid
+// Grid k of a group's numbers.
+fn grid_of(numbers: &[i64], k: usize) -> Grid
     requires { ⌜ k < 64 ⌝ }
-    ensures { λ r. ⌜ r ≡ gridOf (now (numbers .entry)) (now (names .entry)) k ⌝ }
+    ensures { λ r. ⌜ r ≡ gridOf (now (numbers .entry)) k ⌝ }
 {
-    let name = name_of(names, k + 1, count_at(numbers, k * 9 + 38));
+    let name = name_of(numbers, k * 12 + 41, count_at(numbers, k * 12 + 44));
     Grid {
         name: name,
-        lon: Longitude(number_at(numbers, k * 9 + 39)),
-        lat: Latitude(number_at(numbers, k * 9 + 40)),
-        dlon: number_at(numbers, k * 9 + 41),
-        dlat: number_at(numbers, k * 9 + 42),
-        ni: count_at(numbers, k * 9 + 43),
-        nj: count_at(numbers, k * 9 + 44),
-        rank: count_at(numbers, k * 9 + 45),
-        start: count_at(numbers, k * 9 + 46),
+        lon: Longitude(number_at(numbers, k * 12 + 45)),
+        lat: Latitude(number_at(numbers, k * 12 + 46)),
+        dlon: number_at(numbers, k * 12 + 47),
+        dlat: number_at(numbers, k * 12 + 48),
+        ni: count_at(numbers, k * 12 + 49),
+        nj: count_at(numbers, k * 12 + 50),
+        rank: count_at(numbers, k * 12 + 51),
+        start: count_at(numbers, k * 12 + 52),
     }
 }
 
@@ -135,36 +133,35 @@ fn ramps_of(numbers: &[i64]) -> [Ramp; 8]
     ramps
 }
 
-// The 64 grids of a group's numbers and names.
-fn grids_of(numbers: &[i64], names: &[u8]) -> [Grid; 64]
-    ensures { λ r. ⌜ r ≡ listOf (gridOf (now (numbers .entry)) (now (names .entry))) 64 ⌝ }
+// The 64 grids of a group's numbers.
+fn grids_of(numbers: &[i64]) -> [Grid; 64]
+    ensures { λ r. ⌜ r ≡ listOf (gridOf (now (numbers .entry))) 64 ⌝ }
 {
     let blank = group::blank_grid();
     let mut grids = [blank; 64];
     let mut i = 0;
     while i < 64 {
-        let grid = grid_of(numbers, names, i);
+        let grid = grid_of(numbers, i);
         grids[i] = grid;
         i += 1;
     }
     grids
 }
 
-// The group that a list of numbers and a list of names stand for. What is not there counts as 0, what stands behind number
-// 614 or byte 1560 is not looked at.
-pub fn group_of(numbers: &[i64], names: &[u8]) -> Group
-    ensures { λ r. ⌜ r ≡ groupOf (now (numbers .entry)) (now (names .entry)) ⌝ }
+// The group that a list of numbers stands for. What is not there counts as 0.
+pub fn group_of(numbers: &[i64]) -> Group
+    ensures { λ r. ⌜ r ≡ groupOf (now (numbers .entry)) ⌝ }
 {
-    let name = name_of(names, 0, count_at(numbers, 0));
+    let name = name_of(numbers, 0, count_at(numbers, 3));
     let ramp = ramps_of(numbers);
-    let grid = grids_of(numbers, names);
+    let grid = grids_of(numbers);
     Group {
         name: name,
-        unit: unit_of(number_at(numbers, 1)),
+        unit: unit_of(number_at(numbers, 4)),
         quantum: quantum_of(numbers),
-        parameters: count_at(numbers, 3),
-        ramps: count_at(numbers, 4),
-        grids: count_at(numbers, 5),
+        parameters: count_at(numbers, 6),
+        ramps: count_at(numbers, 7),
+        grids: count_at(numbers, 8),
         ramp: ramp,
         grid: grid,
     }
@@ -192,16 +189,39 @@ pub fn put_numbers(out: &mut [i64], k: usize, numbers: &[i64])
     }
 }
 
-// Stores the 24 bytes of a name from place k on.
-fn put_name(out: &mut [u8], k: usize, name: Name)
-    requires { ⌜ k + 24 ≤ length (now out) ⌝ }
-    ensures { λ _. ⌜ now (out .exit) ≡ sets (now (out .entry)) k (nameBytes name) ⌝ }
+// A byte, widened.
+fn wide(x: u8) -> u64
+    ensures { λ r. ⌜ (r ≡ x) × (r < 256) ⌝ }
 {
-    let mut i = 0;
-    while i < 24 {
-        out[k + i] = name.bytes[i];
-        i += 1;
-    }
+    x as u64
+}
+
+// Four bytes as one number, the first lowest.
+fn four(a: u8, b: u8, c: u8, d: u8) -> u64
+    ensures { λ r. ⌜ (r ≡ fourOf a b c d) × (r < 4294967296) ⌝ }
+{
+    wide(a) + wide(b) * 256 + wide(c) * 65536 + wide(d) * 16777216
+}
+
+// Number w of the three that hold the bytes of a name.
+fn name_number(name: Name, w: usize) -> i64
+    requires { ⌜ w < 3 ⌝ }
+    ensures { λ r. ⌜ r ≡ nameNumber name w ⌝ }
+{
+    let i = w * 8;
+    let low = four(
+        name.bytes[i],
+        name.bytes[i + 1],
+        name.bytes[i + 2],
+        name.bytes[i + 3],
+    );
+    let high = four(
+        name.bytes[i + 4],
+        name.bytes[i + 5],
+        name.bytes[i + 6],
+        name.bytes[i + 7],
+    );
+    as_stored(low + high * 4294967296)
 }
 
 // The number of a unit.
@@ -215,11 +235,15 @@ fn unit_number(unit: Unit) -> i64
 }
 
 // The numbers of a group's line.
-fn head_numbers(group: Group) -> [i64; 6]
+fn head_numbers(group: Group) -> [i64; 9]
     ensures { λ r. ⌜ r ≡ headNumbers group ⌝ }
 {
     let unit = group.unit;
+    let name = group.name;
     [
+        name_number(name, 0),
+        name_number(name, 1),
+        name_number(name, 2),
         as_stored(group.name.len),
         unit_number(unit),
         as_stored(group.quantum),
@@ -230,10 +254,14 @@ fn head_numbers(group: Group) -> [i64; 6]
 }
 
 // The numbers of a grid's line.
-fn grid_numbers(g: Grid) -> [i64; 9]
+fn grid_numbers(g: Grid) -> [i64; 12]
     ensures { λ r. ⌜ r ≡ gridNumbers g ⌝ }
 {
+    let name = g.name;
     [
+        name_number(name, 0),
+        name_number(name, 1),
+        name_number(name, 2),
         as_stored(g.name.len),
         g.lon.0,
         g.lat.0,
@@ -248,58 +276,50 @@ fn grid_numbers(g: Grid) -> [i64; 9]
 
 // Stores the numbers of eight ramps.
 fn put_ramps(out: &mut [i64], ramps: [Ramp; 8])
-    requires { ⌜ 38 ≤ length (now out) ⌝ }
-    ensures { λ _. ⌜ now (out .exit) ≡ sets (now (out .entry)) 6 (joined (λ k. rampNumbers (getD ramps k noRamp)) 8) ⌝ }
+    requires { ⌜ 41 ≤ length (now out) ⌝ }
+    ensures { λ _. ⌜ now (out .exit) ≡ sets (now (out .entry)) 9 (joined (λ k. rampNumbers (getD ramps k noRamp)) 8) ⌝ }
 {
     let mut i = 0;
     while i < 8 {
         let r = ramps[i];
         let numbers = [r.a, r.s0, r.b, r.s1];
-        put_numbers(out, i * 4 + 6, &numbers);
+        put_numbers(out, i * 4 + 9, &numbers);
         i += 1;
     }
 }
 
 // Stores the numbers of 64 grids.
 fn put_grids(out: &mut [i64], grids: [Grid; 64])
-    requires { ⌜ 614 ≤ length (now out) ⌝ }
-    ensures { λ _. ⌜ now (out .exit) ≡ sets (now (out .entry)) 38 (joined (λ k. gridNumbers (getD grids k noGrid)) 64) ⌝ }
+    requires { ⌜ 809 ≤ length (now out) ⌝ }
+    ensures { λ _. ⌜ now (out .exit) ≡ sets (now (out .entry)) 41 (joined (λ k. gridNumbers (getD grids k noGrid)) 64) ⌝ }
 {
     let mut i = 0;
     while i < 64 {
         let g = grids[i];
         let numbers = grid_numbers(g);
-        put_numbers(out, i * 9 + 38, &numbers);
+        put_numbers(out, i * 12 + 41, &numbers);
         i += 1;
     }
 }
 
-// Stores the names of 64 grids.
-fn put_grid_names(out: &mut [u8], grids: [Grid; 64])
-    requires { ⌜ 1560 ≤ length (now out) ⌝ }
-    ensures { λ _. ⌜ now (out .exit) ≡ sets (now (out .entry)) 24 (joined (λ k. nameBytes (getD grids k noGrid .name)) 64) ⌝ }
-{
-    let mut i = 0;
-    while i < 64 {
-        let g = grids[i];
-        put_name(out, i * 24 + 24, g.name);
-        i += 1;
-    }
-}
-
-// Stores a group: 614 numbers and 1560 bytes of names.
-pub fn put_group(group: Group, numbers: &mut [i64], names: &mut [u8])
-    requires { ⌜ (614 ≤ length (now numbers)) × (1560 ≤ length (now names)) ⌝ }
-    ensures { λ _. ⌜ now (numbers .exit) ≡ sets (now (numbers .entry)) 0 (numbersOf group) ⌝ }
-    ensures { λ _. ⌜ now (names .exit) ≡ sets (now (names .entry)) 0 (namesOf group) ⌝ }
+// Stores a group from place 0 on.
+fn put_group(out: &mut [i64], group: Group)
+    requires { ⌜ 809 ≤ length (now out) ⌝ }
+    ensures { λ _. ⌜ now (out .exit) ≡ sets (now (out .entry)) 0 (numbersOf group) ⌝ }
 {
     let head = head_numbers(group);
     let ramps = group.ramp;
     let grids = group.grid;
-    let name = group.name;
-    put_numbers(numbers, 0, &head);
-    put_ramps(numbers, ramps);
-    put_grids(numbers, grids);
-    put_name(names, 0, name);
-    put_grid_names(names, grids);
+    put_numbers(out, 0, &head);
+    put_ramps(out, ramps);
+    put_grids(out, grids);
+}
+
+// The 809 numbers of a group.
+pub fn numbers_of(group: Group) -> [i64; 809]
+    ensures { λ r. ⌜ r ≡ numbersOf group ⌝ }
+{
+    let mut out = [0i64; 809];
+    put_group(&mut out, group);
+    out
 }

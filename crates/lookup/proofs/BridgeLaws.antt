@@ -1,5 +1,5 @@
 -- The flat lists of an accepted group say what its record says of a point.
-use Prim.Native.Nat.{ℕ, zero, suc, _*_, _≤_, _<_}
+use Prim.Native.Nat.{ℕ, zero, suc, _-_, _*_, _≤_, _<_}
 use mathlib.Core.Path.{_≡_, refl, sym, ap, _∙_, subst}
 use mathlib.Core.List.{List}
 use native.Mathlib.Omega.{arith}
@@ -16,6 +16,7 @@ use Rattle.group.specs.Record.{gridAt}
 use Rattle.extent.specs.Sides.{lonFromLeast, latFromLeast}
 use Rattle.judge.specs.Flat.{Sided}
 use Rattle.judge.proofs.Accepted.{accepted-head}
+use Rattle.choice.specs.Rect.{at}
 use Rattle.choice.proofs.ChoiceLaws.{chosen≤}
 use Rattle.choice.proofs.InGroupLaws.{flat-holds, flat-chosen}
 use Rattle.fix.specs.declared.Place.{Place}
@@ -23,7 +24,8 @@ use Rattle.fix.specs.Fix.{Placed, Listed, fixIn}
 use Rattle.choice.specs.InGroup.{chosenIn}
 use Rattle.lookup.specs.declared.Frame.{Frame}
 use Rattle.lookup.specs.Lookup.{endsEarly, placeOf, fixAt, Ready}
-use Rattle.lookup.specs.Flat.{frameAt, Framed, placeIn, fixFlat, Laid}
+use Rattle.lookup.specs.Flat.{frameAt, Framed, placeIn, fixFlat, Laid, fixRanked, LaidRows, RankedRows}
+use Rattle.lookup.proofs.RankLaws.{ranked-chosen, row-owner}
 use Rattle.lookup.proofs.PlaceLaws.{place-placed, place-seen}
 
 -- places that agree in each grid that can be chosen
@@ -80,6 +82,45 @@ module _ (g : Group) (nodes : List ℤ) (p : Point) (t : ℤ) (r : Ready g (leng
       (chosen≤ _ _ (g .grids)) seen
       ∙ ap (λ (c : ℕ). fixAt c (λ k. placeOf (gridAt g k) (g .parameters) p) nodes f)
       (flat-chosen g (r .accepted) sides ranks sd (p .lon .0) (p .lat .0) lon-small lat-small)
+
+  -- the same over rows in the order of ranks
+  module _ (rows owners : List ℕ) (count : ℕ) (o : RankedRows sides ranks rows owners (g .grids) count) where
+    ranked-here : count * 4 ≤ length rows → count ≤ length owners → g .grids * 4 ≤ length sides → g .grids ≤ length ranks → g .grids * 7 ≤ length frames
+        → LaidRows rows owners frames count (g .parameters) (length nodes) x y
+    ranked-here a b u v c =
+        let l = laid-here u v c in
+        record {
+          rows-room = a;
+          owners-room = b;
+          chosen = λ q m h.
+              let w = row-owner sides ranks rows owners (g .grids) count o q m in
+              record {
+                number = omega (arith, l .grids-most);
+                room = omega arith;
+                placed = λ z. l .placed (at owners q - 1) (omega arith) (w .2 x y h);
+                listed = λ z. l .listed (at owners q - 1) (omega arith);
+              };
+        }
+
+    ranked-fix-here : (f : ℤ) → fixRanked rows owners frames count (g .parameters) nodes f x y
+        ≡ fixAt (chosenIn g (p .lon .0) (p .lat .0)) (λ k. placeOf (gridAt g k) (g .parameters) p) nodes f
+    unfolding x y chosenIn
+    ranked-fix-here f =
+        ap (λ (c : ℕ). fixAt c (λ k. placeIn (frameAt frames k) (g .parameters) x y) nodes f)
+        (ranked-chosen g (r .accepted) sides ranks sd rows owners count o (p .lon .0) (p .lat .0) lon-small lat-small)
+        ∙ fix-at-same _ (g .grids) (λ k. placeIn (frameAt frames k) (g .parameters) x y) (λ k. placeOf (gridAt g k) (g .parameters) p) nodes f
+        (chosen≤ _ _ (g .grids)) seen
+
+    module _ {a b : ℕ} (ea : a ≡ lonFromLeast (p .lon .0)) (eb : b ≡ latFromLeast (p .lat .0)) where
+      pub ranked-laid : count * 4 ≤ length rows → count ≤ length owners → g .grids * 4 ≤ length sides → g .grids ≤ length ranks → g .grids * 7 ≤ length frames
+          → LaidRows rows owners frames count (g .parameters) (length nodes) a b
+      unfolding x y
+      ranked-laid h k u v m = rw (ea, eb) (ranked-here h k u v m)
+
+      pub ranked-fix : {f h : ℤ} → f ≡ h → fixRanked rows owners frames count (g .parameters) nodes f a b
+          ≡ fixAt (chosenIn g (p .lon .0) (p .lat .0)) (λ k. placeOf (gridAt g k) (g .parameters) p) nodes h
+      unfolding x y
+      ranked-fix {f} {h} e = (λ i. fixRanked rows owners frames count (g .parameters) nodes (e i) (ea i) (eb i)) ∙ ranked-fix-here h
 
   -- at the distances and the factor that code computes
   module _ {a b : ℕ} (ea : a ≡ lonFromLeast (p .lon .0)) (eb : b ≡ latFromLeast (p .lat .0)) where

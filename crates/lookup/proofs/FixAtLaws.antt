@@ -19,3 +19,7 @@ module _ (c : ℕ) (place : ℕ → Place) (nodes : List ℤ) (factor : ℤ) whe
   fix-at-some h =
       let q : c ≡ suc (c - 1) = omega arith in let r : suc (c - 1) ≡ c = omega arith in
       ap (λ (n : ℕ). fixAt n place nodes factor) q ∙ ap (λ (n : ℕ). fixIn (place (c - 1)) nodes factor n) r
+
+  pub fix-at-suc : (k : ℕ) → c ≡ suc k → fixAt c place nodes factor ≡ fixIn (place k) nodes factor (suc k)
+  unfolding fixAt
+  fix-at-suc k e = ap (λ (n : ℕ). fixAt n place nodes factor) e

@@ -11,6 +11,9 @@ use Rattle.group.specs.Record.{gridAt}
 use Rattle.extent.specs.Sides.{lonFromLeast, latFromLeast}
 use Rattle.choice.specs.Rect.{at, holds}
 use Rattle.choice.specs.Choice.{chosen}
+use Rattle.choice.specs.Holder.{holder}
+use Rattle.coverage.specs.InForce.{byRank}
+use Rattle.coverage.specs.Steps.{Begins}
 use Rattle.fix.specs.declared.Place.{Place}
 use Rattle.fix.specs.declared.Lookup.{Lookup}
 use Rattle.fix.specs.Fix.{Placed, Listed}
@@ -92,3 +95,46 @@ pub record Laid (sides ranks frames : List ℕ) (grids np count x y : ℕ) : Typ
   pub frames-room : grids * 7 ≤ length frames
   pub placed : (k : ℕ) → k < grids → holds sides k x y ≡ true → Placed (placeIn (frameAt frames k) np x y)
   pub listed : (k : ℕ) → k < grids → Listed (placeIn (frameAt frames k) np x y) count
+
+-- the grid numbered c, from 1, holds the point, its frame stands in the list and its node range ends within so many nodes; c is 0 for none
+pub record Chosen (frames : List ℕ) (c np count x y : ℕ) : Type 0 where
+  pub number : c ≤ 64
+  pub room : c * 7 ≤ length frames
+  pub placed : 0 < c → Placed (placeIn (frameAt frames (c - 1)) np x y)
+  pub listed : 0 < c → Listed (placeIn (frameAt frames (c - 1)) np x y) count
+
+-- 7, 8 or 11, or the fix, from rectangles in the order of their owners' ranks
+abbrev pub fixRanked : (rows owners frames : List ℕ) (count np : ℕ) → List ℤ → ℤ → (x y : ℕ) → Lookup
+fixRanked rows owners frames count np nodes factor x y =
+    fixAt (holder (λ i. holds rows i x y) (at owners) count) (λ k. placeIn (frameAt frames k) np x y) nodes factor
+
+-- what that lookup may rely on
+pub record LaidRows (rows owners frames : List ℕ) (count np nodes x y : ℕ) : Type 0 where
+  pub rows-room : count * 4 ≤ length rows
+  pub owners-room : count ≤ length owners
+  pub chosen : (r : ℕ) → r < count → holds rows r x y ≡ true → Chosen frames (at owners r) np nodes x y
+
+-- the sides of grid k stored as row r
+abbrev pub putRow : List ℕ → ℕ → List ℕ → ℕ → List ℕ
+putRow rows r sides k =
+    set
+    (set
+    (set (set rows (r * 4) (getD sides (k * 4) 0)) (r * 4 + 1) (getD sides (k * 4 + 1) 0))
+    (r * 4 + 2) (getD sides (k * 4 + 2) 0))
+    (r * 4 + 3) (getD sides (k * 4 + 3) 0)
+
+-- row r has the sides of grid k
+pub record RowAt (sides rows : List ℕ) (r k : ℕ) : Type 0 where
+  pub west : getD rows (r * 4) 0 ≡ getD sides (k * 4) 0
+  pub east : getD rows (r * 4 + 1) 0 ≡ getD sides (k * 4 + 1) 0
+  pub south : getD rows (r * 4 + 2) 0 ≡ getD sides (k * 4 + 2) 0
+  pub north : getD rows (r * 4 + 3) 0 ≡ getD sides (k * 4 + 3) 0
+
+-- the first n rows have the sides of their owners
+abbrev pub Rows : (sides owners rows : List ℕ) → ℕ → Type 0
+Rows sides owners rows n = (r : ℕ) → r < n → RowAt sides rows r (at owners r - 1)
+
+-- rows and owners in the order of the ranks of n grids
+pub record RankedRows (sides ranks rows owners : List ℕ) (n count : ℕ) : Type 0 where
+  pub made : Rows sides owners rows count
+  pub order : Begins (byRank (at ranks) n 1000) owners count

@@ -1,3 +1,4 @@
 -- What the contracts of `lookup` cite.
 pub mod Lookup
 pub mod Flat
+pub mod Demand2

@@ -7,14 +7,15 @@ use group::Point;
 use group::Refusal;
 use group::Verdict;
 ghost use mathlib.Core.Path.{_≡_};
-ghost use Prim.Native.Nat.{_+_, _*_, _≤_, _<_};
+ghost use Prim.Native.Nat.{ℕ, _+_, _*_, _≤_, _<_};
 ghost use lib.Dec.{ltb};
 ghost use lib.IntN.{natAbs};
 ghost use lib.ListN.{length, getD};
 ghost use Rattle.numbers.specs.First.{first};
 ghost use Rattle.judge.specs.Judge.{judged};
-ghost use Rattle.lookup.specs.Lookup.{pointFits, dayFits, fixOf, lookedIn, looked, Ready};
-ghost use Rattle.lookup.specs.Flat.{frameOf, frameAt, putFrame, Framed, apart, placeIn, fixFlat, Laid};
+ghost use Rattle.choice.specs.Rect.{at};
+ghost use Rattle.lookup.specs.Lookup.{pointFits, dayFits, fixAt, fixOf, lookedIn, looked, Ready};
+ghost use Rattle.lookup.specs.Flat.{frameOf, frameAt, putFrame, Framed, apart, placeIn, fixFlat, Laid, Chosen, fixRanked, LaidRows, putRow, Rows, RankedRows};
 
 // What a point's cell needs of a grid: its node 0 as distances in mas from the least longitude and latitude, its spacing sizes,
 // counts of nodes and START.
@@ -117,6 +118,22 @@ fn place_in(f: Frame, np: u64, x: u64, y: u64) -> Place
     }
 }
 
+// The fix of a point (x, y) in the grid numbered c, from 1; refusal 7 where c is 0, for none.
+fn fix_chosen(frames: &[u64], c: u64, np: u64, nodes: &[i32], factor: i64, x: u64, y: u64) -> Lookup
+    requires { ⌜ Chosen (now frames) c np (length (now nodes)) x y × (natAbs factor ≤ 80000000) ⌝ }
+    ensures { λ r. ⌜ r ≡ fixAt c (λ k. placeIn (frameAt (now (frames .entry)) k) np x y) (now (nodes .entry)) factor ⌝ }
+{
+    if c == 0 {
+        return Lookup::Refused(Refusal {
+            number: 7,
+            place: 0,
+        });
+    }
+    let k = (c - 1) as usize;
+    let l = place_in(frame_at(frames, k), np, x, y);
+    fix::fix_in(l, nodes, factor, c)
+}
+
 // The lookup of one point (x, y), given as distances in mas from the least longitude and latitude, in an accepted group of which
 // the flat lists are made once: refusal 7, 8 or 11, or the fix.
 pub fn look_flat(
@@ -135,15 +152,64 @@ pub fn look_flat(
 {
     let m = grids * 4;
     let c = choice::chosen_at(&sides[..m], &ranks[..grids], x, y);
-    if c == 0 {
-        return Lookup::Refused(Refusal {
-            number: 7,
-            place: 0,
-        });
+    fix_chosen(frames, c, np, nodes, factor, x, y)
+}
+
+// The same over rectangles in the order of their owners' ranks, best first: the owner of the first that holds the point is chosen.
+// For many points in one group; a grid may own several rectangles.
+pub fn look_ranked(
+    rows: &[u64],
+    owners: &[u64],
+    frames: &[u64],
+    count: usize,
+    np: u64,
+    nodes: &[i32],
+    factor: i64,
+    x: u64,
+    y: u64,
+) -> Lookup
+    requires { ⌜ LaidRows (now rows) (now owners) (now frames) count np (length (now nodes)) x y × (natAbs factor ≤ 80000000) ⌝ }
+    ensures { λ r. ⌜ r ≡ fixRanked (now (rows .entry)) (now (owners .entry)) (now (frames .entry)) count np (now (nodes .entry)) factor x y ⌝ }
+{
+    let c = choice::first_holder(rows, owners, count, x, y);
+    fix_chosen(frames, c, np, nodes, factor, x, y)
+}
+
+// Stores the sides of grid k as row r.
+fn put_row(rows: &mut [u64], r: usize, sides: &[u64], k: usize)
+    requires { ⌜ (r * 4 + 3 < length (now rows)) × (k * 4 + 3 < length (now sides)) ⌝ }
+    ensures { λ _. ⌜ now (rows .exit) ≡ putRow (now (rows .entry)) r (now (sides .entry)) k ⌝ }
+{
+    let to = r * 4;
+    let at = k * 4;
+    rows[to] = sides[at];
+    rows[to + 1] = sides[at + 1];
+    rows[to + 2] = sides[at + 2];
+    rows[to + 3] = sides[at + 3];
+}
+
+// Stores the sides of the grids of these numbers, row by row.
+fn fill_rows(sides: &[u64], owners: &[u64], count: usize, rows: &mut [u64])
+    requires { ⌜ (count ≤ length (now owners)) × (count * 4 ≤ length (now rows)) × ((r : ℕ) → r < count → (1 ≤ at (now owners) r) × (at (now owners) r * 4 ≤ length (now sides))) ⌝ }
+    ensures { λ _. ⌜ Rows (now (sides .entry)) (now (owners .entry)) (now (rows .exit)) count × (length (now (rows .exit)) ≡ length (now (rows .entry))) ⌝ }
+{
+    let mut r = 0;
+    while r < count {
+        let k = (owners[r] - 1) as usize;
+        put_row(rows, r, sides, k);
+        r += 1;
     }
-    let k = (c - 1) as usize;
-    let l = place_in(frame_at(frames, k), np, x, y);
-    fix::fix_in(l, nodes, factor, c)
+}
+
+// Stores the sides of n grids by rank, best first, and at equal ranks by number, with the grids' numbers; answers how many. What
+// `look_ranked` takes, made once for many points.
+pub fn rank_rows(sides: &[u64], ranks: &[u64], rows: &mut [u64], owners: &mut [u64]) -> usize
+    requires { ⌜ (length (now ranks) * 4 ≤ length (now sides)) × (length (now ranks) ≤ length (now owners)) × (length (now ranks) * 4 ≤ length (now rows)) ⌝ }
+    ensures { λ c. ⌜ RankedRows (now (sides .entry)) (now (ranks .entry)) (now (rows .exit)) (now (owners .exit)) (length (now (ranks .entry))) c × (length (now (rows .exit)) ≡ length (now (rows .entry))) × (length (now (owners .exit)) ≡ length (now (owners .entry))) ⌝ }
+{
+    let count = coverage::order_by_rank(ranks, owners);
+    fill_rows(sides, owners, count, rows);
+    count
 }
 
 // The first of n grids whose node range ends behind so many nodes, n if none does.

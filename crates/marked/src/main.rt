@@ -2,17 +2,12 @@
 use extent::LatSpan;
 use extent::LonSpan;
 use fix::Lookup;
-use group::Grid;
 use group::Group;
 use group::Latitude;
 use group::Longitude;
-use group::Name;
 use group::Point;
-use group::Ramp;
 use group::Refusal;
 use group::Verdict;
-use group::blank_group;
-use group::blank_name;
 use inforce::Area;
 use inforce::GridInForce;
 use inforce::InForce;
@@ -22,74 +17,36 @@ use nodes::Loaded;
 // The no-data mark.
 const MARK: i32 = -2147483648;
 
-// A name of one byte.
-fn letter(b: u8) -> Name {
-    let mut n = blank_name();
-    n.bytes[0] = b;
-    n.len = 1;
-    n
+// The group of an accepted header text.
+fn read(text: &[u8]) -> Group {
+    let reading = header::read_header(text);
+    reading.group
 }
 
-// A grid of 10 mas spacing from latitude 0 to 10, with its first node at a longitude.
-fn grid(name: u8, lon: i64, ni: u64, rank: u64) -> Grid {
-    let n = letter(name);
-    Grid {
-        name: n,
-        lon: Longitude(lon),
-        lat: Latitude(0),
-        dlon: 10,
-        dlat: 10,
-        ni: ni,
-        nj: 2,
-        rank: rank,
-        start: 0,
-    }
-}
-
-// A group with no ramps and no grids yet.
-fn dock() -> Group {
-    let mut g = blank_group();
-    let n = letter(b'd');
-    g.name = n;
-    g.parameters = 1;
-    g
-}
-
-// The grid `basin` of document 01's header, with no ramps.
-fn plain() -> Group {
-    let mut g = dock();
-    let b = grid(b'b', 0, 3, 1);
-    g.quantum = 13;
-    g.grids = 1;
-    g.grid[0] = b;
-    g
-}
-
-// The header of document 01: one ramp and the grid `basin`.
+// The header of document 01.
 fn basin() -> Group {
-    let mut g = plain();
-    let r = Ramp {
-        a: 100,
-        s0: 0,
-        b: 200,
-        s1: 1000000,
-    };
-    g.ramps = 1;
-    g.ramp[0] = r;
-    g
+    read(
+        b"group\tdock\tmetre\t13\t1\t1\t1\nramp\t100\t0\t200\t1000000\ngrid\tbasin\t0\t0\t10\t10\t3\t2\t1\t0\n",
+    )
 }
 
-// G1 of rank 3, G2 of rank 1, and G3 from a longitude with a rank of its own: the groups of M11 and M12.
-fn three(lon: i64, rank: u64) -> Group {
-    let mut g = dock();
-    let first = grid(b'1', 0, 3, 3);
-    let second = grid(b'2', 0, 2, 1);
-    let third = grid(b'3', lon, 2, rank);
-    g.grids = 3;
-    g.grid[0] = first;
-    g.grid[1] = second;
-    g.grid[2] = third;
-    g
+// The same with no ramps.
+fn plain() -> Group {
+    read(b"group\tdock\tmetre\t13\t1\t0\t1\ngrid\tbasin\t0\t0\t10\t10\t3\t2\t1\t0\n")
+}
+
+// G1 of rank 3 over 0..20, G2 of rank 1 over 0..10, G3 of rank 2 over 10..20.
+fn m11() -> Group {
+    read(
+        b"group\tdock\tmetre\t13\t1\t0\t3\ngrid\tG1\t0\t0\t10\t10\t3\t2\t3\t0\ngrid\tG2\t0\t0\t10\t10\t2\t2\t1\t0\ngrid\tG3\t10\t0\t10\t10\t2\t2\t2\t0\n",
+    )
+}
+
+// The same with G3 over 12..22.
+fn m12() -> Group {
+    read(
+        b"group\tdock\tmetre\t13\t1\t0\t3\ngrid\tG1\t0\t0\t10\t10\t3\t2\t3\t0\ngrid\tG2\t0\t0\t10\t10\t2\t2\t1\t0\ngrid\tG3\t12\t0\t10\t10\t2\t2\t2\t0\n",
+    )
 }
 
 // A point, in mas.
@@ -151,15 +108,22 @@ fn say_refused(r: Refusal) {
     }
 }
 
-// A group's verdict: accepted, or the refusal.
-fn judged(label: &[u8], group: Group) {
+// A verdict: accepted, or the refusal.
+fn say_verdict(label: &[u8], verdict: Verdict) {
     say(label);
     say(b": ");
-    match judge::judge(group) {
+    match verdict {
         Verdict::Accepted => say(b"accepted"),
         Verdict::Refused(r) => say_refused(r),
     }
     say(b"\n");
+}
+
+// What reading a header text answers.
+fn header(label: &[u8], text: &[u8]) {
+    let reading = header::read_header(text);
+    let verdict = reading.verdict;
+    say_verdict(label, verdict);
 }
 
 // A lookup's answer: the chosen grid's number and its first result, or the refusal.
@@ -239,33 +203,31 @@ fn loaded(label: &[u8], x: f32) {
     say(b"\n");
 }
 
-// The marked groups' verdicts.
-fn verdicts() {
-    judged(b"the header with grid basin", basin());
-    judged(b"M11, three grids", three(10, 2));
-    judged(b"M12, three grids", three(12, 2));
-    judged(b"M11 with G2 and G3 of equal ranks", three(10, 1));
-}
-
-// Groups that 2, 3 and 4 refuse.
+// Header texts that 5, 2, 3 and 4 refuse, and a record that 2 refuses.
 fn refused_groups() {
-    let mut turned = basin();
-    turned.ramp[0] = Ramp {
-        a: 200,
-        s0: 0,
-        b: 100,
-        s1: 1000000,
-    };
-    judged(b"a ramp with A above B", turned);
-    let mut twice = three(10, 2);
-    twice.grid[2] = grid(b'1', 10, 2, 2);
-    judged(b"a grid name that stands earlier", twice);
-    let mut unused = basin();
-    unused.grid[63] = grid(b'u', 0, 2, 1);
-    judged(b"an unused grid entry that is not zero", unused);
-    let mut far = basin();
-    far.grid[0] = grid(b'b', 1295999981, 3, 1);
-    judged(b"a far edge one mas beyond the limit", far);
+    header(
+        b"M11 with G2 and G3 of equal ranks",
+        b"group\tdock\tmetre\t13\t1\t0\t3\ngrid\tG1\t0\t0\t10\t10\t3\t2\t3\t0\ngrid\tG2\t0\t0\t10\t10\t2\t2\t1\t0\ngrid\tG3\t10\t0\t10\t10\t2\t2\t1\t0\n",
+    );
+    header(
+        b"a ramp with A above B",
+        b"group\tdock\tmetre\t13\t1\t1\t1\nramp\t200\t0\t100\t1000000\ngrid\tbasin\t0\t0\t10\t10\t3\t2\t1\t0\n",
+    );
+    header(
+        b"a grid name that stands earlier",
+        b"group\tdock\tmetre\t13\t1\t0\t2\ngrid\tbasin\t0\t0\t10\t10\t3\t2\t1\t0\ngrid\tbasin\t0\t0\t10\t10\t3\t2\t2\t0\n",
+    );
+    header(
+        b"a far edge one mas beyond the limit",
+        b"group\tdock\tmetre\t13\t1\t0\t1\ngrid\tbasin\t1295999981\t0\t10\t10\t3\t2\t1\t0\n",
+    );
+    let mut unused = plain();
+    let first = unused.grid[0];
+    unused.grid[63] = first;
+    say_verdict(
+        b"an unused grid entry that is not zero",
+        judge::judge(unused),
+    );
 }
 
 // M1 to M3.
@@ -303,21 +265,20 @@ fn factors() {
 // M11 and M12, and M11 in the area of longitudes ±648,000,000 and latitudes ±324,000,000.
 fn areas() {
     let small = area(0, 20, 0, 10);
-    in_force(b"M11", three(10, 2), small);
-    in_force(b"M12", three(12, 2), small);
+    in_force(b"M11", m11(), small);
+    in_force(b"M12", m12(), small);
     let earth = area(-648000000, 648000000, -324000000, 324000000);
-    in_force(b"M11 in the whole earth", three(10, 2), earth);
+    in_force(b"M11 in the whole earth", m11(), earth);
 }
 
 // Every marked case, one line each.
 fn main() {
-    verdicts();
-    refused_groups();
     lookups();
     ties();
     marks();
     factors();
     areas();
+    refused_groups();
     loaded(b"0.5 at Q 0", 0.5);
     loaded(b"1.5 at Q 0", 1.5);
 }

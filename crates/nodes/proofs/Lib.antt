@@ -5,3 +5,4 @@ pub mod ScaledLaws
 pub mod Fields
 pub mod Steps
 pub mod LoadLaws
+pub mod TableLaws

@@ -18,8 +18,9 @@ use Rattle.numbers.specs.Order.{within}
 use Rattle.numbers.proofs.Bools.{and-right}
 use Rattle.numbers.proofs.OrderLaws.{within-test}
 use Rattle.nodes.specs.declared.Loaded.{Loaded}
-use Rattle.nodes.specs.declared.Loaded.the-variants.{Done}
-use Rattle.nodes.specs.Load.{signed, mark, marks, steps, refused, nodeOf, firstRefused, refusal, loaded, nodesAfter}
+use Rattle.nodes.specs.declared.Loaded.the-variants.{Done, Refused}
+use Rattle.group.specs.Refusals.{refusal}
+use Rattle.nodes.specs.Load.{signed, mark, marks, steps, refused, nodeOf, firstRefused, loaded, nodesAfter}
 use Rattle.nodes.specs.Size.{sizeOf}
 use Rattle.nodes.proofs.Fields.{value-nearest, sign}
 use Rattle.nodes.proofs.Signed.{round-signed, size-signed}
@@ -97,14 +98,14 @@ table = case 0 0x7fc0_0000 0x3f00_0000 Done (pos 0)
     ∷ case 0 0x7fc0_0000 0x8000_0000 Done (pos 0)
     ∷ case 0 0x7fc0_0000 0x4a74_2400 Done (pos 4000000)
     ∷ case 0 0x7fc0_0000 0x4a74_2402 Done (pos 4000000)
-    ∷ case 0 0x7fc0_0000 0x4a74_2403 (refusal 11 1) (pos 7)
-    ∷ case 20 0x7fc0_0000 0x7f80_0000 (refusal 11 1) (pos 7)
+    ∷ case 0 0x7fc0_0000 0x4a74_2403 (Refused (refusal 11 1)) (pos 7)
+    ∷ case 20 0x7fc0_0000 0x7f80_0000 (Refused (refusal 11 1)) (pos 7)
     ∷ case 20 0x7fc0_0000 0x7fc0_0001 Done mark
     ∷ case 20 0x7fc0_0000 0x0000_0001 Done (pos 0)
     ∷ case 3 0x8000_0000 0x0000_0000 Done (pos 0)
     ∷ case 3 0x8000_0000 0x8000_0000 Done mark
     ∷ case 3 0x7f80_0000 0x7f80_0000 Done mark
-    ∷ case 21 0x7fc0_0000 0x3f00_0000 (refusal 2 0) (pos 7)
+    ∷ case 21 0x7fc0_0000 0x3f00_0000 (Refused (refusal 2 0)) (pos 7)
     ∷ []
 
 -- what the definitions make of a case

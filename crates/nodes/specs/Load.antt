@@ -9,6 +9,8 @@ use lib.Ieee.{Float, nan, inf, fin, binary32, isNan, toBits, up, down}
 use Rattle.numbers.specs.Round.{roundZ}
 use Rattle.numbers.specs.Order.{within}
 use Rattle.numbers.specs.First.{first}
+use Rattle.group.specs.declared.Refusal.{Refusal}
+use Rattle.group.specs.Refusals.{refusal, noRefusal}
 use Rattle.nodes.specs.declared.Loaded.{Loaded}
 use Rattle.nodes.specs.declared.Loaded.the-variants.{Done, Refused}
 
@@ -48,26 +50,19 @@ nodeOf q flag x = cond (marks flag x) mark (steps q x)
 unfoldable pub firstRefused : ℕ → Float → List Float → ℕ
 firstRefused q flag floats = first (λ i. refused q flag (getD floats i nan)) (length floats)
 
-abbrev pub refusal : ℕ → ℕ → Loaded
-refusal number place = Refused (record { number = number; place = place })
-
 -- what loading answers where n nodes are lent: Q by 2, then 12, then 11 at the first position, from 1
 unfoldable pub loaded : ℕ → Float → List Float → ℕ → Loaded
 loaded q flag floats n =
     let k = firstRefused q flag floats in
-    cond (ltb 20 q) (refusal 2 0)
-    (cond (not (eqb (length floats) n)) (refusal 12 0)
-    (cond (ltb k (length floats)) (refusal 11 (suc k)) Done))
+    cond (ltb 20 q) (Refused (refusal 2 0))
+    (cond (not (eqb (length floats) n)) (Refused (refusal 12 0))
+    (cond (ltb k (length floats)) (Refused (refusal 11 (suc k))) Done))
 
--- the refusal's number and place, as document 01 has them: 0 and 0 where nothing is refused
-abbrev pub numberOf : Loaded → ℕ
-numberOf Done = 0
-numberOf (Refused r) = r .number
-
-abbrev pub placeOf : Loaded → ℕ
-placeOf Done = 0
-placeOf (Refused r) = r .place
+-- what loading refuses
+abbrev pub loadedRefusal : Loaded → Refusal
+loadedRefusal Done = noRefusal
+loadedRefusal (Refused r) = r
 
 -- the lent nodes afterwards: the node of each float where nothing is refused, else unchanged
 unfoldable pub nodesAfter : ℕ → Float → List Float → List ℤ → List ℤ
-nodesAfter q flag floats nodes = cond (eqb (numberOf (loaded q flag floats (length nodes))) 0) (map (nodeOf q flag) floats) nodes
+nodesAfter q flag floats nodes = cond (eqb (loadedRefusal (loaded q flag floats (length nodes)) .number) 0) (map (nodeOf q flag) floats) nodes

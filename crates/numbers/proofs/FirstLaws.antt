@@ -1,13 +1,14 @@
 -- What a loop that looks for the first index shows, once for every test.
 use Prim.Native.Nat.{ℕ, zero, suc, _+_, _<_, _≤_, zero-le, suc-le-suc}
 use mathlib.Core.Path.{_≡_, refl, sym, _∙_, ap, subst}
-use mathlib.Core.Bool.{Bool, true, false, cond, not}
+use mathlib.Core.Bool.{Bool, true, false, cond, not, _&&_}
 use native.Mathlib.Omega.{arith}
 use native.Mathlib.Nat.{le-of-suc-le-suc, not-suc-le-zero}
 use borrow.Author.Count.{below-more, below-none}
+use lib.Dec.{leb}
 use native.Mathlib.Decide.{decLt}
 use borrow.Author.Tests.{leb-true, ltb-true, not-false, lt-ltb, le-ltb, lt-leb, le-leb}
-use Rattle.numbers.proofs.Bools.{true-false}
+use Rattle.numbers.proofs.Bools.{and-left, and-right, both, same-test, true-false}
 use Rattle.numbers.specs.First.{first, every, some}
 
 -- none of the indices below i passes, and i is at most n
@@ -111,6 +112,21 @@ pub all-every : (p : ℕ → Bool) (n : ℕ) → ((k : ℕ) → k < n → p k �
 all-every p n h =
     let e = first-none (λ i. not (p i)) n (λ k l. rw (h k l)) in
     le-leb n (first (λ i. not (p i)) n) (omega arith)
+
+-- a loop that goes through all, with no early answer
+pub every-none : (p : ℕ → Bool) → every p 0 ≡ true
+every-none p = all-every p 0 (below-none (λ k. p k ≡ true))
+
+pub every-more : (p : ℕ → Bool) (i : ℕ) → every p (i + 1) ≡ (every p i && p i)
+every-more p i =
+    same-test (every p (i + 1)) (every p i && p i)
+    (λ e. both (all-every p i (λ k l. every-at p (i + 1) k e (omega arith))) (every-at p (i + 1) i e (omega arith)))
+    (λ e.
+    all-every p (i + 1)
+    (below-more (λ k. p k ≡ true) i (λ k l. every-at p i k (and-left (every p i) (p i) e) l) (and-right (every p i) (p i) e)))
+
+pub every-same : (p q : ℕ → Bool) (n : ℕ) → ((k : ℕ) → k < n → p k ≡ q k) → every p n ≡ every q n
+every-same p q n h = ap (λ (m : ℕ). leb n m) (first-same (λ i. not (p i)) (λ i. not (q i)) n (λ k l. ap not (h k l)))
 
 -- one that passes, and some that do
 module _ (p : ℕ → Bool) (n : ℕ) where

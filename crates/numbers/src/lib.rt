@@ -1,6 +1,6 @@
 // Rounding to the nearest whole number, ties to even, and signed numbers as unsigned ones.
 ghost use mathlib.Core.Path.{_≡_};
-ghost use Prim.Native.Nat.{_+_, _*_, _<_, _^_};
+ghost use Prim.Native.Nat.{_+_, _*_, _≤_, _<_, _^_};
 ghost use lib.IntN.{natAbs, pos, _+ℤ_};
 ghost use lib.Signed.{ltZ};
 ghost use Rattle.numbers.specs.Round.{gain, nearest};
@@ -75,6 +75,14 @@ pub fn raised(m: u32, x: i64) -> u64
         return 0;
     }
     wide + n
+}
+
+// x + m, of an x not below -m: one addition, no test of the sign.
+pub fn lifted(x: i64, m: u64) -> u64
+    requires { ⌜ (natAbs x ≤ m) × (m < 2 ^ 62) ⌝ }
+    ensures { λ r. ⌜ x +ℤ pos m ≡ pos r ⌝ }
+{
+    (x + m as i64) as u64
 }
 
 // a - b as a signed number.

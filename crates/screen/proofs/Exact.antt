@@ -15,6 +15,7 @@ use lib.Ieee.Fits.{up-pos, down-pos, mul-fits}
 use lib.Ieee.Scale.{round-same}
 use borrow.Author.Tests.{ne-eqb}
 use Rattle.screen.specs.Screen.{plusZero, negPower, shiftOf}
+use Rattle.screen.specs.Shown.{below, Times}
 
 -- a product and a quotient, by any fractions that the operands equal
 mul-at : (f : Format) (x y : Float) (s t : Bool) (a c b d : ℕ) → 0 < c → 0 < d → HasValue x s a c → HasValue y t b d → mul f x y ≡ round f (unlike s t) (a * b) (c * d)
@@ -36,7 +37,7 @@ nonzero n u d b w B W e z =
     let q : n * u * d ≡ 0 = ap (λ (k : ℕ). k * u * d) z ∙ ap (λ (k : ℕ). k * d) (zero-mul u) ∙ zero-mul d in
     omega arith
 
-div-at : (f : Format) (x y : Float) (s t : Bool) (a c b d : ℕ) → 0 < c → 0 < d → 0 < b → HasValue x s a c → HasValue y t b d → div f x y ≡ round f (unlike s t) (a * d) (c * b)
+pub div-at : (f : Format) (x y : Float) (s t : Bool) (a c b d : ℕ) → 0 < c → 0 < d → 0 < b → HasValue x s a c → HasValue y t b d → div f x y ≡ round f (unlike s t) (a * d) (c * b)
 unfolding div
 div-at f nan y s t a c b d C D B h k = absurd h
 div-at f (inf u) y s t a c b d C D B h k = absurd h
@@ -77,27 +78,23 @@ power-value q h =
     ∙ ap (round binary64 false 1) (one-mul (2 ^ q))))
     (over false 1 q (lit≤ tt) (omega arith))
 
--- whether a number is below zero
-abbrev pub below : ℤ → Bool
-below (pos n) = false
-below (negsuc n) = true
-
-whole : (z : ℤ) → natAbs z ≤ 2 ^ 53 → HasValue (ofInt binary64 z) (below z) (natAbs z) 1
+-- the nearest float of a whole number of size at most 2^53 is that number: up to there the cast is exact
+pub cast-exact : (z : ℤ) → natAbs z ≤ 2 ^ 53 → Times (ofInt binary64 z) 1 z
 unfolding ofInt
-whole (pos n) h = round-whole binary64 false n h
-whole (negsuc n) h = round-whole binary64 true (suc n) h
+cast-exact (pos n) h = round-whole binary64 false n h
+cast-exact (negsuc n) h = round-whole binary64 true (suc n) h
 
-like : (s : Bool) → unlike s false ≡ s
+pub like : (s : Bool) → unlike s false ≡ s
 like true = refl
 like false = refl
 
 -- The shift of a whole result n has n's sign and the exact size |n| / 2^q, for every size up to 2^53. A lookup's results are far below: a node
 -- of at most 4,000,000 steps times a factor of at most 80,000,000 millionths is at most 320,000,000 steps.
-pub shift-exact : (n : ℤ) (q : ℕ) → natAbs n ≤ 2 ^ 53 → q ≤ 20 → HasValue (shiftOf q n) (below n) (natAbs n) (2 ^ q)
+pub shift-exact : (n : ℤ) (q : ℕ) → natAbs n ≤ 2 ^ 53 → q ≤ 20 → Times (shiftOf q n) (2 ^ q) n
 unfolding shiftOf
 shift-exact n q h k =
     subst (λ (x : Float). HasValue x (below n) (natAbs n) (2 ^ q))
-    (sym (mul-at binary64 (ofInt binary64 n) (negPower q) (below n) false (natAbs n) 1 1 (2 ^ q) (lit< tt) (pow-pos q) (whole n h) (power-value q (omega arith))
+    (sym (mul-at binary64 (ofInt binary64 n) (negPower q) (below n) false (natAbs n) 1 1 (2 ^ q) (lit< tt) (pow-pos q) (cast-exact n h) (power-value q (omega arith))
     ∙ ap (λ (s : Bool). round binary64 s (natAbs n * 1) (1 * 2 ^ q)) (like (below n))
     ∙ ap (λ (a : ℕ). round binary64 (below n) a (1 * 2 ^ q)) (mul-one (natAbs n))
     ∙ ap (round binary64 (below n) (natAbs n)) (one-mul (2 ^ q))))

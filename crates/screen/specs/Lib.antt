@@ -1,2 +1,3 @@
--- What the screen shows.
+-- What the screen shows, and what it promises.
 pub mod Screen
+pub mod Shown

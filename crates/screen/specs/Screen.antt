@@ -1,10 +1,13 @@
 -- What the screen shows, as 64-bit floats: document 01, 'Loading and showing'.
 use Prim.Native.Nat.{ℕ, _^_}
 use mathlib.Core.Bool.{Bool, false, cond, _&&_}
+use mathlib.Core.List.{List, [], _∷_}
 use lib.Dec.{leb, ltb}
 use lib.IntN.{ℤ, pos}
 use lib.Ieee.{Float, fin, binary64, ofInt, mul, div}
 use Rattle.group.specs.declared.Point.{Point}
+use Rattle.group.specs.declared.Refusal.{Refusal}
+use Rattle.group.specs.Refusals.{refusal, noRefusal, inTable}
 use Rattle.fix.specs.declared.Lookup.{Lookup}
 use Rattle.fix.specs.declared.Lookup.the-variants as lookup
 use Rattle.screen.specs.declared.ScreenAnswer.{ScreenAnswer}
@@ -34,23 +37,27 @@ degreesOf mas = div binary64 (ofInt binary64 mas) (ofInt binary64 (pos 3600000))
 abbrev pub admitted : ℕ → ℕ → Bool
 admitted q np = leb q 20 && (leb 1 np && leb np 3)
 
+-- a lookup's refusal, handed on with its place; a number outside the table is itself outside its limit: 2 with place 0
+abbrev pub handedOn : Refusal → Refusal
+handedOn r = cond (inTable (r .number)) r (refusal 2 0)
+
 -- a lookup's answer for the screen
 unfoldable pub shown : Lookup → ℕ → ℕ → ScreenAnswer
 shown (lookup.Fix f) q np = Fix (shownShift q np 0 (f .first)) (shownShift q np 1 (f .second)) (shownShift q np 2 (f .third))
-shown (lookup.Refused r) q np = Refused r
+shown (lookup.Refused r) q np = Refused (handedOn r)
 
 -- the same, with Q and NP judged first: 2 with place 0
 unfoldable pub answerOf : Lookup → ℕ → ℕ → ScreenAnswer
-answerOf found q np = cond (admitted q np) (shown found q np) (Refused (record { number = 2; place = 0 }))
+answerOf found q np = cond (admitted q np) (shown found q np) (Refused (refusal 2 0))
 
--- the refusal's number and place, as document 01 has them: 0 and 0 where nothing is refused
-abbrev pub numberOf : ScreenAnswer → ℕ
-numberOf (Fix a b c) = 0
-numberOf (Refused r) = r .number
+-- what the screen refuses, and the shifts that it hands back beside it
+abbrev pub screenRefusal : ScreenAnswer → Refusal
+screenRefusal (Fix a b c) = noRefusal
+screenRefusal (Refused r) = r
 
-abbrev pub placeOf : ScreenAnswer → ℕ
-placeOf (Fix a b c) = 0
-placeOf (Refused r) = r .place
+abbrev pub shiftsOf : ScreenAnswer → List Float
+shiftsOf (Fix a b c) = a ∷ b ∷ c ∷ []
+shiftsOf (Refused r) = plusZero ∷ plusZero ∷ plusZero ∷ []
 
 -- the screen record at a point
 unfoldable pub recordOf : Point → ScreenAnswer → ScreenRecord

@@ -1,7 +1,7 @@
 // What the screen shows of a lookup's answer: document 01, 'Loading and showing'.
 ghost use mathlib.Core.Path.{_≡_};
 ghost use Prim.Native.Nat.{_≤_};
-ghost use Rattle.screen.specs.Screen.{admitted, negPower, shiftOf, shownShift, degreesOf, answerOf, recordOf};
+ghost use Rattle.screen.specs.Screen.{admitted, negPower, shiftOf, shownShift, degreesOf, handedOn, answerOf, recordOf};
 
 // What the screen answers: three shifts in the group's unit, or the refusal.
 pub enum ScreenAnswer {
@@ -56,8 +56,22 @@ fn degrees(mas: i64) -> f64
     std::num::nearest_i64_to_f64(mas) / 3600000.0
 }
 
+// A lookup's refusal as the screen hands it on; a number outside the table of refusals is refused by 2 with place 0.
+fn handed_on(r: group::Refusal) -> group::Refusal
+    ensures { λ s. ⌜ s ≡ handedOn r ⌝ }
+{
+    if group::in_table(r.number) {
+        return r;
+    }
+    group::Refusal {
+        number: 2,
+        place: 0,
+    }
+}
+
 // The shifts of a fix in the unit, each the whole result times 2 to the power -quantum, +0 for a parameter that the group doesn't have; or
-// the lookup's refusal. A quantum above 20, or parameters other than 1 to 3, are refused by 2 with place 0.
+// the lookup's refusal with its place. A quantum above 20, parameters other than 1 to 3, or a refusal's number outside 1 to 13 are refused by
+// 2 with place 0.
 pub fn screen_answer(found: fix::Lookup, quantum: u64, parameters: u64) -> ScreenAnswer
     ensures { λ r. ⌜ r ≡ answerOf found quantum parameters ⌝ }
 {
@@ -73,7 +87,7 @@ pub fn screen_answer(found: fix::Lookup, quantum: u64, parameters: u64) -> Scree
             shown_shift(parameters, 1, f.second, quantum),
             shown_shift(parameters, 2, f.third, quantum),
         ),
-        fix::Lookup::Refused(r) => ScreenAnswer::Refused(r),
+        fix::Lookup::Refused(r) => ScreenAnswer::Refused(handed_on(r)),
     }
 }
 

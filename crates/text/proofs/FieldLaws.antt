@@ -2,7 +2,7 @@
 use Prim.Native.Nat.{ℕ, zero, suc, _+_, _<_, _≤_}
 use mathlib.Core.Path.{_≡_, refl, sym, ap, _∙_}
 use mathlib.Core.Bool.{Bool, true, false, cond, _&&_, and-false}
-use mathlib.Core.List.{List, [], _∷_, _++_, map, append-nil}
+use mathlib.Core.List.{List, [], _∷_, map}
 use mathlib.Core.Option.{Option, none, some}
 use native.Mathlib.Numerals.{add-one}
 use native.Mathlib.Omega.{arith}
@@ -15,8 +15,7 @@ use Rattle.numbers.proofs.Bools.{and-left, and-right, untrue}
 use Rattle.text.specs.Parts.{split, fieldOf}
 use Rattle.text.specs.Decimal.{readInt, intText}
 use Rattle.text.specs.Number.{most, clamp, numberOf}
-use Rattle.text.specs.Fields.{same, fieldsOf, both, readInts, fourOf, fourAt, ledInts}
-use Rattle.text.specs.declared.Four.the-variants as F
+use Rattle.text.specs.Fields.{same, both, readInts}
 use Rattle.text.specs.declared.Number.{Number}
 use Rattle.text.specs.declared.Number.the-variants.{Malformed, Whole}
 use Rattle.text.proofs.PartLaws.{AllFree, field-split}
@@ -59,19 +58,6 @@ same-end s t i h k = rw (drop-of-length-le s h, drop-of-length-le t k)
 
 -- ---- the fields of a line
 
-module _ (word : List ℕ) (n : ℕ) where
-  pub fields-count : (ps : List (List ℕ)) → (length ps ≡ suc n → ⊥) → fieldsOf word n ps ≡ none
-  fields-count [] h = refl
-  fields-count (k ∷ fs) h = simp (ne-eqb (length fs) n (λ e. h (ap suc e)), and-false)
-
-  pub fields-word : (ps : List (List ℕ)) → same (getD ps 0 []) word ≡ false → fieldsOf word n ps ≡ none
-  fields-word [] h = refl
-  fields-word (k ∷ fs) h = rw h
-
-  pub fields-ok : (ps : List (List ℕ)) → length ps ≡ suc n → same (getD ps 0 []) word ≡ true → fieldsOf word n ps ≡ some (drop 1 ps)
-  fields-ok [] e h = absurd (omega arith)
-  fields-ok (k ∷ fs) e h = rw (h, eq-eqb (length fs) n (omega arith))
-
 -- one field that is no number
 pub ints-bad : (ps : List (List ℕ)) (j k : ℕ) → j ≤ k → k < length ps → readInt (getD ps k []) ≡ none → readInts (drop j ps) ≡ none
 ints-bad [] j k l h e = absurd (omega arith)
@@ -109,80 +95,19 @@ pub clamp-id : (z : ℤ) → natAbs z ≤ most → clamp z ≡ z
 clamp-id (pos n) h = ap pos (omega arith)
 clamp-id (negsuc n) h = ap negsuc (omega arith)
 
--- ---- four fields at once
+-- ---- as many numbers as one likes
 
-four-two : (o p q : Option ℤ) → fourOf o none p q ≡ F.Malformed
-four-two none p q = refl
-four-two (some a) p q = refl
+-- the fields from index k on are these numbers, as the code tells them apart
+abbrev pub Numbers : List (List ℕ) → ℕ → List ℤ → Type 0
+Numbers ps k [] = Unit {0}
+Numbers ps k (y ∷ ys) = (numberOf (readInt (getD ps k [])) ≡ Whole y) × Numbers ps (suc k) ys
 
-four-three : (o p q : Option ℤ) → fourOf o p none q ≡ F.Malformed
-four-three none p q = refl
-four-three (some a) none q = refl
-four-three (some a) (some b) q = refl
-
-four-four : (o p q : Option ℤ) → fourOf o p q none ≡ F.Malformed
-four-four none p q = refl
-four-four (some a) none q = refl
-four-four (some a) (some b) none = refl
-four-four (some a) (some b) (some c) = refl
-
--- as the code meets them: each number in turn
-module _ (ps : List (List ℕ)) (k : ℕ) where
-  pub bad-first : numberOf (readInt (getD ps k [])) ≡ Malformed → fourAt ps k ≡ F.Malformed
-  bad-first e = rw (malformed (readInt (getD ps k [])) e)
-
-  pub bad-second : numberOf (readInt (getD ps (k + 1) [])) ≡ Malformed → fourAt ps k ≡ F.Malformed
-  bad-second e = rw (malformed (readInt (getD ps (k + 1) [])) e) (four-two (readInt (getD ps k [])) (readInt (getD ps (k + 2) [])) (readInt (getD ps (k + 3) [])))
-
-  pub bad-third : numberOf (readInt (getD ps (k + 2) [])) ≡ Malformed → fourAt ps k ≡ F.Malformed
-  bad-third e = rw (malformed (readInt (getD ps (k + 2) [])) e) (four-three (readInt (getD ps k [])) (readInt (getD ps (k + 1) [])) (readInt (getD ps (k + 3) [])))
-
-  pub bad-fourth : numberOf (readInt (getD ps (k + 3) [])) ≡ Malformed → fourAt ps k ≡ F.Malformed
-  bad-fourth e = rw (malformed (readInt (getD ps (k + 3) [])) e) (four-four (readInt (getD ps k [])) (readInt (getD ps (k + 1) [])) (readInt (getD ps (k + 2) [])))
-
-  pub all-good : (a b c d : ℤ) → numberOf (readInt (getD ps k [])) ≡ Whole a → numberOf (readInt (getD ps (k + 1) [])) ≡ Whole b
-      → numberOf (readInt (getD ps (k + 2) [])) ≡ Whole c → numberOf (readInt (getD ps (k + 3) [])) ≡ Whole d → fourAt ps k ≡ F.Whole a b c d
-  all-good a b c d p q r s =
-      let w = whole (readInt (getD ps k [])) a p in
-      let x = whole (readInt (getD ps (k + 1) [])) b q in
-      let y = whole (readInt (getD ps (k + 2) [])) c r in
-      let z = whole (readInt (getD ps (k + 3) [])) d s in
-      rw (w .1 .0, x .1 .0, y .1 .0, z .1 .0) (λ i. F.Whole (w .1 .1 i) (x .1 .1 i) (y .1 .1 i) (z .1 .1 i))
-
--- what four fields that are numbers are
-pub record FourAre (o p q r : Option ℤ) (a b c d : ℤ) : Type 0 where
-  pub z₁ : ℤ
-  pub z₂ : ℤ
-  pub z₃ : ℤ
-  pub z₄ : ℤ
-  pub e₁ : o ≡ some z₁
-  pub e₂ : p ≡ some z₂
-  pub e₃ : q ≡ some z₃
-  pub e₄ : r ≡ some z₄
-  pub c₁ : clamp z₁ ≡ a
-  pub c₂ : clamp z₂ ≡ b
-  pub c₃ : clamp z₃ ≡ c
-  pub c₄ : clamp z₄ ≡ d
-
-pub four-are : (o p q r : Option ℤ) (a b c d : ℤ) → fourOf o p q r ≡ F.Whole a b c d → FourAre o p q r a b c d
-four-are none p q r a b c d e = let x : _≡_ {A = ℕ} 0 1 = cc in absurd (omega arith)
-four-are (some w) none q r a b c d e = let x : _≡_ {A = ℕ} 0 1 = cc in absurd (omega arith)
-four-are (some w) (some x) none r a b c d e = let y : _≡_ {A = ℕ} 0 1 = cc in absurd (omega arith)
-four-are (some w) (some x) (some y) none a b c d e = let z : _≡_ {A = ℕ} 0 1 = cc in absurd (omega arith)
-four-are (some w) (some x) (some y) (some z) a b c d e =
-    record { z₁ = w; z₂ = x; z₃ = y; z₄ = z; e₁ = refl; e₂ = refl; e₃ = refl; e₄ = refl; c₁ = cc; c₂ = cc; c₃ = cc; c₄ = cc }
-
--- one of four fields is no number
-pub four-bad : (ps : List (List ℕ)) (j k : ℕ) → j ≤ k → k + 4 ≤ length ps → fourAt ps k ≡ F.Malformed → readInts (drop j ps) ≡ none
-four-bad ps j k l h e = go (readInt (getD ps k [])) (readInt (getD ps (k + 1) [])) (readInt (getD ps (k + 2) [])) (readInt (getD ps (k + 3) [])) refl refl refl refl e
-  where
-    go : (o p q r : Option ℤ) → readInt (getD ps k []) ≡ o → readInt (getD ps (k + 1) []) ≡ p → readInt (getD ps (k + 2) []) ≡ q → readInt (getD ps (k + 3) []) ≡ r
-        → fourOf o p q r ≡ F.Malformed → readInts (drop j ps) ≡ none
-    go none p q r u v w x e = ints-bad ps j k l (omega arith) u
-    go (some a) none q r u v w x e = ints-bad ps j (k + 1) (omega arith) (omega arith) v
-    go (some a) (some b) none r u v w x e = ints-bad ps j (k + 2) (omega arith) (omega arith) w
-    go (some a) (some b) (some c) none u v w x e = ints-bad ps j (k + 3) (omega arith) (omega arith) x
-    go (some a) (some b) (some c) (some d) u v w x e = let y : _≡_ {A = ℕ} 0 1 = cc in absurd (omega arith)
+pub numbers-read : (ps : List (List ℕ)) (k : ℕ) (ys : List ℤ) → length ps ≡ k + length ys → Numbers ps k ys → (zs : List ℤ) × ((readInts (drop k ps) ≡ some zs) × (map clamp zs ≡ ys))
+numbers-read ps k [] h n = ([], (ints-end ps k (omega arith), refl))
+numbers-read ps k (y ∷ ys) h n =
+    let w = whole (readInt (getD ps k [])) y (n .0) in
+    let m = numbers-read ps (suc k) ys (omega arith) (n .1) in
+    (w .0 ∷ m .0, (ints-cons ps k (w .0) (m .0) (omega arith) (w .1 .0) (m .1 .0), λ i. w .1 .1 i ∷ m .1 .1 i))
 
 -- ---- reading and writing
 
@@ -214,23 +139,3 @@ length-ints (f ∷ fs) zs e =
 pub ints-free : (c : ℕ) (zs : List ℤ) → c < 45 → AllFree c (map intText zs)
 ints-free c [] l = tt
 ints-free c (z ∷ zs) l = (intText-free c z l, ints-free c zs l)
-
--- the fields behind a keyword
-pub fields-some : (word : List ℕ) (n : ℕ) (ps fs : List (List ℕ)) → fieldsOf word n ps ≡ some fs → (ps ≡ word ∷ fs) × (length fs ≡ n)
-fields-some word n [] fs e = let q : _≡_ {A = ℕ} 0 1 = cc in absurd (omega arith)
-fields-some word n (k ∷ gs) fs e = go (same k word) (eqb (length gs) n) refl refl e
-  where
-    go : (p q : Bool) → same k word ≡ p → eqb (length gs) n ≡ q → cond (p && q) (some gs) none ≡ some fs → (k ∷ gs ≡ word ∷ fs) × (length fs ≡ n)
-    go true true a b f =
-        let g : gs ≡ fs = cc in
-        let w : k ≡ word = same-true k word a in
-        (cc, ap length (sym g) ∙ eqb-true (length gs) n b)
-    go true false a b f = let q : _≡_ {A = ℕ} 0 1 = cc in absurd (omega arith)
-    go false q a b f = let q : _≡_ {A = ℕ} 0 1 = cc in absurd (omega arith)
-
-pub fields-back : (word : List ℕ) (fs : List (List ℕ)) → fieldsOf word (length fs) (word ∷ fs) ≡ some fs
-fields-back word fs = rw (same-refl word, eq-eqb (length fs) (length fs) refl)
-
--- four numbers in the order in which they are written
-pub four-led : (a b c d : ℤ) → ledInts (a ∷ b ∷ c ∷ d ∷ []) ≡ (9 ∷ intText a) ++ ((9 ∷ intText b) ++ ((9 ∷ intText c) ++ (9 ∷ intText d)))
-four-led a b c d = rw (append-nil (intText d))

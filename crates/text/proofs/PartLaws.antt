@@ -10,7 +10,7 @@ use native.Mathlib.Numerals.{add-one, sub-one}
 use lib.ListN.{length, take, drop, getD, drop-of-length-le}
 use lib.Seq.{drop-cons}
 use borrow.Author.Tests.{eqb-true, eq-eqb, ne-eqb}
-use Rattle.text.specs.Parts.{glue, split, led, join, upTo, startOf, fieldOf}
+use Rattle.text.specs.Parts.{glue, split, led, join, upTo, startOf, endOf, fieldOf, EmptyAtEnd}
 
 -- no byte of the list is the separator
 abbrev pub Free : ℕ → List ℕ → Type 0
@@ -178,6 +178,28 @@ count-other c s i h e =
 
 pub count-end : (c : ℕ) (s : List ℕ) (i : ℕ) → length s ≤ i → length (split c (drop i s)) ≡ 1
 count-end c s i h = rw (drop-of-length-le s h)
+
+-- ---- past the last part
+
+start-past : (c : ℕ) (s : List ℕ) (k : ℕ) → length (split c s) ≤ k → startOf c s k ≡ length s
+start-past c [] k h = refl
+start-past c (x ∷ xs) zero h = absurd (let n = some-split c (x ∷ xs) in omega arith)
+start-past c (x ∷ xs) (suc k) h = go (eqb x c) h (start-past c xs k) (start-past c xs (suc k))
+  where
+    go : (b : Bool) → length (cond b ([] ∷ split c xs) (glue x (split c xs))) ≤ suc k
+        → (length (split c xs) ≤ k → startOf c xs k ≡ length xs) → (length (split c xs) ≤ suc k → startOf c xs (suc k) ≡ length xs)
+        → suc (cond b (startOf c xs k) (startOf c xs (suc k))) ≡ suc (length xs)
+    go true h f g = ap suc (f (le-of-suc-le-suc h))
+    go false h f g = let e = length-glue x (split c xs) (some-split c xs) in ap suc (g (omega arith))
+
+-- past the last field there is the empty part at the line's end
+pub past-last : (line : List ℕ) (k : ℕ) → length (split 9 line) ≤ k → EmptyAtEnd line k
+past-last line k h =
+    let s = start-past 9 line k h in
+    let u = upTo-end 9 line (startOf 9 line k) (omega arith) in
+    let e : endOf 9 line k ≡ length line = omega arith in
+    let z : endOf 9 line k - startOf 9 line k ≡ 0 = omega arith in
+    record { starts = s; ends = e; empty = ap (λ (n : ℕ). take n (drop (startOf 9 line k) line)) z }
 
 pub Free-append : (c : ℕ) (a b : List ℕ) → Free c a → Free c b → Free c (a ++ b)
 Free-append c [] b f g = g

@@ -1,12 +1,18 @@
 -- Laws of put, and of writers one after the other.
 use Prim.Native.Nat.{ℕ, _+_, _-_, _<_, _≤_}
-use mathlib.Core.Path.{_≡_, refl, sym, ap, _∙_}
-use mathlib.Core.List.{List, [], _∷_, _++_, append-assoc}
+use mathlib.Core.Path.{_≡_, refl, sym, ap, subst, _∙_}
+use mathlib.Core.List.{List, [], _∷_, _++_, append-assoc, append-nil}
 use native.Mathlib.Nat.{add-zero}
 use native.Mathlib.Numerals.{add-one}
 use native.Mathlib.Omega.{arith}
 use lib.ListN.{length, take, drop, set, getD, length-append, length-take, length-drop, take-append-drop}
 use lib.Seq.{length-take-le, take-suc, set-split, take-at, drop-at, drop-drop}
+use lib.IntN.{ℤ}
+use mir.Syntax.{w64}
+use mir.Val.{toZ, ofZ, SFits}
+use mir.Facts.{toZ-ofZ}
+use Rattle.text.specs.Parts.{led, join}
+use Rattle.text.specs.Decimal.{intText}
 use Rattle.text.specs.Put.{put, Wrote}
 
 pub put-nil : (at : ℕ) (out : List ℕ) → put at [] out ≡ out
@@ -83,3 +89,76 @@ wrote-both at a b out p mid q after v w h =
     let l = v .place in
     let m = w .place in
     record { place = omega arith; holds = put-more at p a b out mid after (v .holds) (v .place) (w .holds) (omega arith) }
+
+-- ---- a text written piece by piece: some of it stands in the bytes, and the rest is left
+
+pub record Left (at : ℕ) (text out rest : List ℕ) (p : ℕ) (mid : List ℕ) : Type 0 where
+  pub done : List ℕ
+  pub whole : done ++ rest ≡ text
+  pub wrote : Wrote at done out p mid
+  pub room : at + length text ≤ length out
+
+pub left-all : (at : ℕ) (text out rest : List ℕ) → text ≡ rest → at + length text ≤ length out → Left at text out rest at out
+left-all at text out rest e r = record { done = []; whole = sym e; wrote = record { place = omega arith; holds = sym (put-nil at out) }; room = r }
+
+module _ {at : ℕ} {text out : List ℕ} {p : ℕ} {mid : List ℕ} where
+  pub left-length : {rest : List ℕ} → Left at text out rest p mid → length mid ≡ length out
+  left-length {rest} l =
+      let e = length-append (l .done) rest in
+      let f = ap length (l .whole) in
+      let r = l .room in
+      wrote-length (l .wrote) (omega arith)
+
+  pub left-none : Left at text out [] p mid → Wrote at text out p mid
+  left-none l = subst (λ (t : List ℕ). Wrote at t out p mid) (sym (append-nil (l .done)) ∙ l .whole) (l .wrote)
+
+  -- the next piece: its room, and what is left behind it
+  module _ (t rest : List ℕ) (l : Left at text out (t ++ rest) p mid) where
+    whole-room : at + length (l .done ++ (t ++ rest)) ≤ length out
+    whole-room = subst (λ (s : List ℕ). at + length s ≤ length out) (sym (l .whole)) (l .room)
+
+    pub left-room : p + length t ≤ length mid
+    left-room = room-first p t rest mid (room-next at (l .done) (t ++ rest) out p mid (l .wrote) whole-room)
+
+    pub left-more : {q : ℕ} {after : List ℕ} → Wrote p t mid q after → Left at text out rest q after
+    left-more {q} {after} w =
+        let a = append-assoc (l .done) t rest in
+        record {
+          done = l .done ++ t;
+          whole = a ∙ l .whole;
+          wrote = wrote-both at (l .done) t out p mid q after (l .wrote) w (room-first at (l .done ++ t) rest out (subst (λ (s : List ℕ). at + length s ≤ length out) (sym a) whole-room));
+          room = l .room;
+        }
+
+  -- the same for a number that comes by way of its bits
+  module _ (z : ℤ) (rest : List ℕ) (s : SFits w64 z) (l : Left at text out (9 ∷ (intText z ++ rest)) p mid) where
+    pub int-room : p + length (9 ∷ intText (toZ w64 (ofZ w64 z))) ≤ length mid
+    int-room = subst (λ (y : ℤ). p + length (9 ∷ intText y) ≤ length mid) (sym (toZ-ofZ s)) (left-room (9 ∷ intText z) rest l)
+
+    pub int-more : {q : ℕ} {after : List ℕ} → Wrote p (9 ∷ intText (toZ w64 (ofZ w64 z))) mid q after → Left at text out rest q after
+    int-more {q} {after} w = left-more (9 ∷ intText z) rest l (subst (λ (y : ℤ). Wrote p (9 ∷ intText y) mid q after) (toZ-ofZ s) w)
+
+-- ---- the pieces of a line: its word, and each field with its tab
+
+abbrev pub pieces : List (List ℕ) → List ℕ → List ℕ
+pieces [] end = end
+pieces (f ∷ fs) end = 9 ∷ (f ++ pieces fs end)
+
+led-pieces : (fs : List (List ℕ)) (end : List ℕ) → led 9 fs ++ end ≡ pieces fs end
+led-pieces [] end = refl
+led-pieces (f ∷ fs) end = ap (λ (t : List ℕ). 9 ∷ t) (append-assoc f (led 9 fs) end ∙ ap (λ (t : List ℕ). f ++ t) (led-pieces fs end))
+
+pub line-pieces : (word : List ℕ) (fs : List (List ℕ)) (end : List ℕ) → join 9 (word ∷ fs) ++ end ≡ word ++ pieces fs end
+line-pieces word fs end = append-assoc word (led 9 fs) end ∙ ap (λ (t : List ℕ). word ++ t) (led-pieces fs end)
+
+-- the length of a line
+abbrev pub lengths : List (List ℕ) → ℕ
+lengths [] = 0
+lengths (f ∷ fs) = 1 + (length f + lengths fs)
+
+led-length : (fs : List (List ℕ)) → length (led 9 fs) ≡ lengths fs
+led-length [] = refl
+led-length (f ∷ fs) = let e = length-append f (led 9 fs) in let h = led-length fs in omega arith
+
+pub line-length : (word : List ℕ) (fs : List (List ℕ)) → length (join 9 (word ∷ fs)) ≡ length word + lengths fs
+line-length word fs = length-append word (led 9 fs) ∙ ap (λ (n : ℕ). length word + n) (led-length fs)

@@ -2,8 +2,9 @@
 use Prim.Native.Nat.{ℕ, zero, suc, _+_, _-_}
 use mathlib.Core.Bool.{cond}
 use mathlib.Core.List.{List, [], _∷_, _++_}
+use mathlib.Core.Path.{_≡_}
 use lib.Dec.{eqb}
-use lib.ListN.{take, drop}
+use lib.ListN.{length, take, drop}
 
 -- x put in front of the first part
 abbrev pub glue : ℕ → List (List ℕ) → List (List ℕ)
@@ -43,6 +44,12 @@ endOf c s k = startOf c s k + upTo c (drop (startOf c s k) s)
 -- field k of a line: what stands from its start up to its end, parted at tabs
 abbrev pub fieldOf : List ℕ → ℕ → List ℕ
 fieldOf line k = take (endOf 9 line k - startOf 9 line k) (drop (startOf 9 line k) line)
+
+-- field k is the empty part at the line's end
+pub record EmptyAtEnd (line : List ℕ) (k : ℕ) : Type 0 where
+  pub starts : startOf 9 line k ≡ length line
+  pub ends : endOf 9 line k ≡ length line
+  pub empty : fieldOf line k ≡ []
 
 -- the place of a byte in memory, a block and an offset in it, k bytes behind another
 abbrev pub behind : ℕ × ℕ → ℕ → ℕ × ℕ

@@ -7,7 +7,7 @@ ghost use lib.ListN.{length, drop};
 ghost use Rattle.text.specs.Parts.{behind, split, upTo, startOf, fieldOf};
 ghost use Rattle.text.specs.Decimal.{digitsFrom, readNat, readInt, decimal, intText};
 ghost use Rattle.text.specs.Number.{most, naturalOf, numberOf};
-ghost use Rattle.text.specs.Fields.{same, fourAt, ledInts};
+ghost use Rattle.text.specs.Fields.{same};
 ghost use Rattle.text.specs.Put.{Wrote};
 
 // Where the first byte c at or behind a stands, or the end.
@@ -169,32 +169,6 @@ pub fn read_number(s: &[u8]) -> Number
     Number::Whole(plus(m))
 }
 
-// Four fields as numbers.
-pub enum Four {
-    Malformed,
-    Whole(i64, i64, i64, i64),
-}
-
-// The four fields of a line from field k on.
-pub fn four_numbers(line: &[u8], k: usize) -> Four
-    requires { ⌜ k ≤ 100 ⌝ }
-    ensures { λ r. ⌜ r ≡ fourAt (split 9 (now (line .entry))) k ⌝ }
-{
-    let Number::Whole(a) = read_number(field(line, k)) else {
-        return Four::Malformed;
-    };
-    let Number::Whole(b) = read_number(field(line, k + 1)) else {
-        return Four::Malformed;
-    };
-    let Number::Whole(c) = read_number(field(line, k + 2)) else {
-        return Four::Malformed;
-    };
-    let Number::Whole(d) = read_number(field(line, k + 3)) else {
-        return Four::Malformed;
-    };
-    Four::Whole(a, b, c, d)
-}
-
 // Whether s holds the bytes of w.
 pub fn same_bytes(s: &[u8], w: &[u8]) -> bool
     ensures { λ r. ⌜ r ≡ same (now (s .entry)) (now (w .entry)) ⌝ }
@@ -261,33 +235,11 @@ pub fn put_number(z: i64, out: &mut [u8], at: usize) -> usize
     put_digits(numbers::magnitude(z), out, at + 1)
 }
 
-// Writes four numbers, each led by a tab.
-pub fn put_four(a: i64, b: i64, c: i64, d: i64, out: &mut [u8], at: usize) -> usize
-    requires { ⌜ at + length (ledInts (a ∷ b ∷ c ∷ d ∷ [])) ≤ length (now out) ⌝ }
-    ensures { λ r. ⌜ Wrote at (ledInts (a ∷ b ∷ c ∷ d ∷ [])) (now (out .entry)) r (now (out .exit)) ⌝ }
-{
-    let p = put_number(a, out, at);
-    let q = put_number(b, out, p);
-    let r = put_number(c, out, q);
-    put_number(d, out, r)
-}
-
 // Writes a tab and a count.
-fn put_count(n: u64, out: &mut [u8], at: usize) -> usize
+pub fn put_count(n: u64, out: &mut [u8], at: usize) -> usize
     requires { ⌜ at + length (9 ∷ intText (pos n)) ≤ length (now out) ⌝ }
     ensures { λ r. ⌜ Wrote at (9 ∷ intText (pos n)) (now (out .entry)) r (now (out .exit)) ⌝ }
 {
     let p = put_byte(9, out, at);
     put_digits(n, out, p)
-}
-
-// Writes four counts, each led by a tab.
-pub fn put_counts(a: u64, b: u64, c: u64, d: u64, out: &mut [u8], at: usize) -> usize
-    requires { ⌜ at + length (ledInts (pos a ∷ pos b ∷ pos c ∷ pos d ∷ [])) ≤ length (now out) ⌝ }
-    ensures { λ r. ⌜ Wrote at (ledInts (pos a ∷ pos b ∷ pos c ∷ pos d ∷ [])) (now (out .entry)) r (now (out .exit)) ⌝ }
-{
-    let p = put_count(a, out, at);
-    let q = put_count(b, out, p);
-    let r = put_count(c, out, q);
-    put_count(d, out, r)
 }

@@ -1,21 +1,38 @@
-//! The arguments of a command: files and numbers, by their place and name.
+//! The arguments of a command: files and numbers, by their place and name, and its options.
 
 use crate::number::{self, Form};
+use crate::shown::shown;
 use crate::stop::Stop;
 use std::ffi::{OsStr, OsString};
 
-/// The words behind a command's name.
+/// The words behind a command's name, parted into options and arguments.
 pub struct Arguments<'a> {
     command: &'a str,
-    words: &'a [OsString],
+    words: Vec<&'a OsStr>,
+    options: Vec<&'a OsStr>,
+}
+
+/// Whether a word is an option: it begins with `-`, and is neither standard input nor a number.
+pub fn is_option(word: &OsStr) -> bool {
+    matches!(word.as_encoded_bytes(), [b'-', second, ..] if !matches!(second, b'0'..=b'9' | b'.'))
+}
+
+/// The words before `--`, among which options can stand.
+pub fn before_the_end(words: &[OsString]) -> &[OsString] {
+    let end = words.iter().position(|word| word == "--");
+    &words[..end.unwrap_or(words.len())]
 }
 
 impl<'a> Arguments<'a> {
-    /// Takes the words, none of which may be an option: `--help` has been answered before.
-    pub fn new(command: &'a str, words: &'a [OsString]) -> Result<Arguments<'a>, Stop> {
-        let arguments = Arguments { command, words };
-        match words.iter().find(|word| word.as_encoded_bytes().starts_with(b"--")) {
-            Some(option) => Err(arguments.usage(format!("there is no option '{}'", option.display()))),
+    /// Takes the words, with the options that the command has; `--help` has been answered before.
+    pub fn new(command: &'a str, known: &[&str], words: &'a [OsString]) -> Result<Arguments<'a>, Stop> {
+        let (first, behind) = words.split_at(before_the_end(words).len());
+        let (options, mut all): (Vec<&OsStr>, Vec<&OsStr>) =
+            first.iter().map(OsString::as_os_str).partition(|word| is_option(word));
+        all.extend(behind.iter().skip(1).map(OsString::as_os_str));
+        let arguments = Arguments { command, words: all, options };
+        match arguments.options.iter().find(|&&option| !known.iter().any(|&name| option == name)) {
+            Some(option) => Err(arguments.usage(format!("there is no option '{}'", shown(option)))),
             None => Ok(arguments),
         }
     }
@@ -35,9 +52,14 @@ impl<'a> Arguments<'a> {
         Err(self.usage(format!("{} takes {named}, not {count} argument{plural}", self.command)))
     }
 
+    /// Whether an option is given.
+    pub fn has(&self, option: &str) -> bool {
+        self.options.iter().any(|&given| given == option)
+    }
+
     /// The file at a place.
     pub fn file(&self, k: usize) -> &'a OsStr {
-        &self.words[k]
+        self.words[k]
     }
 
     /// Whether the file at a place is standard input.
@@ -47,7 +69,7 @@ impl<'a> Arguments<'a> {
 
     /// The whole number at a place, cut to 64 bits, which lie beyond every limit.
     pub fn number(&self, k: usize, name: &str) -> Result<i64, Stop> {
-        self.parse(k, name, number::decimal, "a whole number, as 12, 0 or -5, without plus or leading zero")
+        self.parse(k, name, number::decimal, number::WHOLE)
     }
 
     /// The float at a place.
@@ -57,6 +79,6 @@ impl<'a> Arguments<'a> {
 
     fn parse<T>(&self, k: usize, name: &str, form: Form<T>, wanted: &str) -> Result<T, Stop> {
         form(self.words[k].as_encoded_bytes())
-            .ok_or_else(|| self.usage(format!("{name} is '{}', but must be {wanted}", self.words[k].display())))
+            .ok_or_else(|| self.usage(format!("{name} is '{}', but must be {wanted}", shown(self.words[k]))))
     }
 }

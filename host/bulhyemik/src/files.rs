@@ -1,14 +1,21 @@
-//! Files read whole, and files that appear whole or not at all.
+//! Files read whole, and what is said of a file that can't be used.
 
+use crate::shown::shown;
 use crate::stop::Stop;
-use std::ffi::{OsStr, OsString};
-use std::fs::{self, OpenOptions};
-use std::io::{self, ErrorKind, Read, Write};
-use std::path::{Path, PathBuf};
+use std::ffi::OsStr;
+use std::fs::{self, File};
+use std::io::{self, ErrorKind, Read};
+
+/// Bytes read at once.
+const AT_ONCE: usize = 1 << 16;
 
 /// What messages call a file.
-fn called(file: &OsStr) -> String {
-    if file == "-" { "standard input".into() } else { file.display().to_string() }
+pub fn called(file: &OsStr) -> String {
+    match file.as_encoded_bytes() {
+        b"-" => "standard input".into(),
+        b"" => "''".into(),
+        _ => shown(file),
+    }
 }
 
 /// A reason and what to do about it.
@@ -19,27 +26,27 @@ fn reason(error: &io::Error) -> String {
         ErrorKind::NotADirectory => "a part of the path is no folder; check the path".into(),
         ErrorKind::PermissionDenied => "permission is denied; check who may use it".into(),
         ErrorKind::StorageFull => "the disk is full; make room or write elsewhere".into(),
+        ErrorKind::FileTooLarge => "a file may not be so large here; raise the limit or write elsewhere".into(),
         ErrorKind::ReadOnlyFilesystem => "the disk is read-only; write elsewhere".into(),
-        ErrorKind::BrokenPipe => "nobody reads it any more".into(),
+        ErrorKind::OutOfMemory => "there is not enough memory for it; use a smaller file or free memory".into(),
         _ => format!("{error}; check the file and its disk"),
     }
 }
 
-/// The bytes of a file, or of standard input for `-`. An empty file is no use to any command.
-pub fn read(file: &OsStr) -> Result<Vec<u8>, Stop> {
-    let bytes = if file == "-" { read_standard_input() } else { fs::read(file) };
-    match bytes {
-        Ok(bytes) if bytes.is_empty() => {
-            Err(Stop::File(format!("cannot use {}: it is empty; check how it was made", called(file))))
-        }
-        Ok(bytes) => Ok(bytes),
-        Err(error) => Err(Stop::File(format!("cannot read {}: {}", called(file), reason(&error)))),
-    }
+/// A read that failed.
+pub fn not_read(file: &OsStr, error: &io::Error) -> Stop {
+    Stop::File(format!("cannot read {}: {}", called(file), reason(error)))
 }
 
-/// All bytes of standard input, none too.
-pub fn read_points() -> Result<Vec<u8>, Stop> {
-    read_standard_input().map_err(|error| Stop::File(format!("cannot read standard input: {}", reason(&error))))
+/// A write that failed.
+pub fn not_written(file: &str, error: &io::Error) -> Stop {
+    Stop::File(format!("cannot write {file}: {}", reason(error)))
+}
+
+/// The bytes of a file, or of standard input for `-`.
+pub fn read(file: &OsStr) -> Result<Vec<u8>, Stop> {
+    let bytes = if file == "-" { read_standard_input() } else { fs::read(file) };
+    bytes.map_err(|error| not_read(file, &error))
 }
 
 fn read_standard_input() -> io::Result<Vec<u8>> {
@@ -50,51 +57,50 @@ fn read_standard_input() -> io::Result<Vec<u8>> {
 
 /// A file of 32-bit words, each made from its four little-endian bytes.
 pub fn read_words<T>(file: &OsStr, word: impl Fn([u8; 4]) -> T) -> Result<Vec<T>, Stop> {
-    let bytes = read(file)?;
-    let (words, rest) = bytes.as_chunks::<4>();
-    if rest.is_empty() {
-        return Ok(words.iter().map(|&four| word(four)).collect());
+    let mut words = Vec::new();
+    match fill(file, &mut words, word) {
+        Ok(0) => Ok(words),
+        Ok(rest) => Err(Stop::File(format!(
+            "cannot use {}: {} bytes are no multiple of 4, so it is cut short or holds something else; check how it was made",
+            called(file),
+            words.len() * 4 + rest
+        ))),
+        Err(error) => Err(not_read(file, &error)),
     }
-    Err(Stop::File(format!(
-        "cannot use {}: {} bytes are no multiple of 4, so it is cut short or holds something else; check how it was made",
-        called(file),
-        bytes.len()
-    )))
 }
 
-/// A write that failed.
-pub fn not_written(file: &str, error: &io::Error) -> Stop {
-    Stop::File(format!("cannot write {file}: {}", reason(error)))
-}
-
-/// Writes a file so that it appears whole or not at all: beside its place first, then under its name.
-pub fn write_whole(file: &OsStr, bytes: &[u8]) -> Result<(), Stop> {
-    let failed = |error: io::Error| not_written(&called(file), &error);
-    let place = match fs::metadata(file) {
-        Ok(there) if there.is_dir() => return Err(failed(ErrorKind::IsADirectory.into())),
-        Ok(there) if !there.is_file() => {
-            return Err(Stop::File(format!("cannot write {}: it is no regular file; name another", called(file))));
-        }
-        Ok(_) => fs::canonicalize(file).map_err(failed)?,
-        Err(_) => PathBuf::from(file),
+/// Adds the words of a file and answers how many bytes are left over.
+fn fill<T>(file: &OsStr, words: &mut Vec<T>, word: impl Fn([u8; 4]) -> T) -> io::Result<usize> {
+    let mut source: Box<dyn Read> = if file == "-" {
+        Box::new(io::stdin().lock())
+    } else {
+        let open = File::open(file)?;
+        words.try_reserve_exact(open.metadata()?.len() as usize / 4)?;
+        Box::new(open)
     };
-    let beside = beside(&place);
-    write_beside(&beside, bytes).and_then(|()| fs::rename(&beside, &place)).map_err(|error| {
-        let _ = fs::remove_file(&beside);
-        failed(error)
-    })
+    let mut piece = Vec::with_capacity(AT_ONCE);
+    loop {
+        piece.clear();
+        source.by_ref().take(AT_ONCE as u64).read_to_end(&mut piece)?;
+        let (fours, rest) = piece.as_chunks::<4>();
+        words.try_reserve(fours.len())?;
+        words.extend(fours.iter().map(|&four| word(four)));
+        if piece.len() < AT_ONCE {
+            return Ok(rest.len());
+        }
+    }
 }
 
-/// A name in the same folder that nothing else uses.
-fn beside(place: &Path) -> PathBuf {
-    let mut name = OsString::from(".");
-    name.push(place.file_name().unwrap_or_default());
-    name.push(format!(".{}.part", std::process::id()));
-    place.with_file_name(name)
-}
-
-fn write_beside(beside: &Path, bytes: &[u8]) -> io::Result<()> {
-    let mut file = OpenOptions::new().write(true).create_new(true).open(beside)?;
-    file.write_all(bytes)?;
-    file.sync_all()
+/// So many zeros, if there is memory for them.
+pub fn zeros(count: usize) -> Result<Vec<i32>, Stop> {
+    let mut all = Vec::new();
+    match all.try_reserve_exact(count) {
+        Ok(()) => all.resize(count, 0),
+        Err(_) => {
+            return Err(Stop::File(format!(
+                "there is not enough memory for {count} nodes; use a smaller file or free memory"
+            )));
+        }
+    }
+    Ok(all)
 }

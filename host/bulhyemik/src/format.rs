@@ -1,17 +1,16 @@
 //! `format HEADER`: a header as the library writes it.
 
 use crate::arguments::Arguments;
-use crate::group::Group;
+use crate::group;
+use crate::output::Output;
 use crate::stop::{Stop, accepted};
-use interface::Calls;
-use interface::layout::*;
+use interface::{Calls, HEADER_BYTES};
 
-pub fn format(calls: &dyn Calls, arguments: &Arguments) -> Result<Vec<u8>, Stop> {
+pub fn format(calls: &dyn Calls, arguments: &Arguments, out: &mut Output) -> Result<(), Stop> {
     arguments.count(&[1], "HEADER")?;
-    let group = Group::read(calls, arguments.file(0))?;
-    let (mut out, mut answer) = (vec![0; HEADER_BYTES], [0; WRITE_NUMBERS]);
-    let number = calls.write_header(&group.numbers, &group.names, &mut out, &mut answer);
-    accepted(number, answer[PLACE])?;
-    out.truncate(answer[WRITE_COUNT] as usize);
-    Ok(out)
+    let group = group::read(calls, arguments.file(0))?;
+    let (mut text, mut count, mut place) = (vec![0; HEADER_BYTES], 0, 0);
+    let number = calls.write_header(&group, &mut text, &mut count, &mut place);
+    accepted(number, place)?;
+    out.put(&text[..count as usize])
 }

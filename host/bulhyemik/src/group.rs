@@ -1,32 +1,36 @@
-//! A group as the C interface's two arrays, read from a header file.
+//! A group, read from a header file.
 
 use crate::files;
-use crate::stop::{Stop, accepted};
-use interface::layout::*;
-use interface::{Calls, NAME_BYTES};
+use crate::hint::hint;
+use crate::stop::{Refusal, Stop, accepted};
+use interface::{Calls, Grid, Group};
 use std::ffi::OsStr;
 
-/// The numbers and the names of an accepted group.
-pub struct Group {
-    pub numbers: Vec<i64>,
-    pub names: Vec<u8>,
+/// Reads a header file; a refusal's words say what can be seen on its line.
+pub fn read(calls: &dyn Calls, file: &OsStr) -> Result<Group, Stop> {
+    let text = files::read(file)?;
+    let (mut group, mut place) = (Group::default(), 0);
+    let number = calls.read_header(&text, &mut group, &mut place);
+    accepted(number, place).map_err(|refusal| refused(&text, refusal))?;
+    Ok(group)
 }
 
-impl Group {
-    /// Reads a header file.
-    pub fn read(calls: &dyn Calls, file: &OsStr) -> Result<Group, Stop> {
-        let text = files::read(file)?;
-        let mut group = Group { numbers: vec![0; GROUP_NUMBERS], names: vec![0; GROUP_NAMES] };
-        let mut answer = [0; PLACE_NUMBERS];
-        let number = calls.read_header(&text, &mut group.numbers, &mut group.names, &mut answer);
-        accepted(number, answer[PLACE])?;
-        Ok(group)
-    }
+fn refused(text: &[u8], refusal: Refusal) -> Stop {
+    Stop::Refused { line: refusal.line(), words: hint(text, &refusal).unwrap_or_else(|| refusal.words()) }
+}
 
-    /// The name of a grid, by its number from 1.
-    pub fn grid_name(&self, grid: i64) -> String {
-        let at = grid as usize * NAME_BYTES;
-        let length = self.numbers[GRID + (grid as usize - 1) * GRID_NUMBERS + NAME_LENGTH] as usize;
-        String::from_utf8_lossy(&self.names[at..at + length]).into_owned()
-    }
+/// The grids of a group with their numbers, from 1.
+pub fn grids(group: &Group) -> impl Iterator<Item = (usize, &Grid)> {
+    (1..).zip(group.grid.iter().take(group.grids as usize))
+}
+
+/// The name of a grid.
+pub fn name(grid: &Grid) -> String {
+    String::from_utf8_lossy(grid.name.text()).into_owned()
+}
+
+/// Where the values of a grid stand in the node list.
+pub fn node_range(group: &Group, grid: &Grid) -> std::ops::Range<usize> {
+    let [start, count] = [grid.start, grid.ni * grid.nj * group.parameters].map(|number| number as usize);
+    start..start + count
 }

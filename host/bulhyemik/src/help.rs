@@ -6,28 +6,62 @@ usage: bulhyemik COMMAND ARGUMENT..
 Looks up shifts in groups of grids.
 
   check HEADER                            judge a header
+  check HEADER NODES                      judge a header and its node file
+  grids HEADER                            the grids of a header, as a table
   format HEADER                           write a header back
   lookup HEADER NODES LON LAT DAY         shifts of a point on a day, in steps
   lookup HEADER NODES                     the same for points from standard input
   screen HEADER NODES LON LAT DAY         degrees and shifts in units, as floats
+  screen HEADER NODES                     the same for points from standard input
   inforce HEADER WEST EAST SOUTH NORTH    grids in force in an area
   load FLOATS NODES Q [FLAG]              make a node file from a file of floats
+  help [COMMAND]                          say more of a command
 
-bulhyemik COMMAND --help says more; bulhyemik --version prints the version.
-HEADER and other files that are read can be - for standard input.
-Longitudes and latitudes are whole milliarcseconds: 1 degree is 3600000.
+-h or --help behind a command says more of it; -V or --version prints the
+version. Files that are read can be - for standard input; behind -- a word that
+begins with - is no option. Longitudes and latitudes are whole milliarcseconds:
+1 degree is 3600000.
 
-exit status: 0 accepted, 1 refused, 2 usage or file error
+docs/RULES.md says how a header is written, how a node file is made, and what
+every refusal means.
+
+exit status: 0 accepted, 1 refused (one point or more), 2 usage or file error
 ";
 
 const CHECK: &str = "\
 usage: bulhyemik check HEADER
+       bulhyemik check HEADER NODES
 
 Judges a header text. Prints `accepted`, or `refused`, the number of the
 refusal and its place, parted by tabs; the refusal in words goes to standard
 error.
 
+With NODES, a file of little-endian 32-bit integers, judges too whether it is
+long enough, and behind `accepted` prints a line for each grid: its number, its
+name, how many values it has in the file, and how many of them are the no-data
+mark and how many are beyond 4000000 steps. Values that stand in no grid are
+counted on standard error. Many of either tell of a file of another group.
+
   bulhyemik check examples/canyon.txt
+  bulhyemik check examples/canyon.txt examples/canyon.nodes
+
+exit status: 0 accepted, 1 refused, 2 usage or file error
+";
+
+const GRIDS: &str = "\
+usage: bulhyemik grids HEADER
+       bulhyemik grids --tsv HEADER
+
+Prints the grids of a header as a table: number, name, rank, and for each axis
+the extent in milliarcseconds and in degrees, the spacing and the count of
+nodes; then the first and the last position of the grid's values in the node
+list, counted from 0.
+
+With --tsv it is one line a grid, parted by tabs: number, name, rank, west,
+east, south and north in milliarcseconds, DLON, DLAT, NI, NJ, first and last
+position.
+
+  bulhyemik grids examples/canyon.txt
 
 exit status: 0 accepted, 1 refused, 2 usage or file error
 ";
@@ -47,29 +81,37 @@ usage: bulhyemik lookup HEADER NODES LON LAT DAY
        bulhyemik lookup HEADER NODES < POINTS
 
 Looks up a point on a day. Prints `fix`, LON, LAT, DAY, the name of the grid
-used and its shifts in steps, parted by tabs. NODES is a file of little-endian
-32-bit integers. LON and LAT are in milliarcseconds.
+used and its shifts in steps, parted by tabs; or `refused`, the number of the
+refusal, its place, LON, LAT and DAY. NODES is a file of little-endian 32-bit
+integers. LON and LAT are in milliarcseconds.
 
 Without a point, each line of standard input is one: LON, LAT and DAY parted by
-tabs. Each gets its line, in the same order, a refused one its refusal. Nothing
-is printed unless every line is of this form.
+tabs. Each gets its line as it comes, in the same order. A line that is not of
+this form ends the command with status 2.
 
   bulhyemik lookup examples/canyon.txt examples/canyon.nodes 27720000 143880000 0
+  bulhyemik lookup examples/canyon.txt examples/canyon.nodes < examples/canyon.points
 
-exit status: 0 accepted (or points from standard input), 1 refused,
-2 usage or file error
+exit status: 0 accepted, 1 refused (one point or more), 2 usage or file error
 ";
 
 const SCREEN: &str = "\
 usage: bulhyemik screen HEADER NODES LON LAT DAY
+       bulhyemik screen HEADER NODES < POINTS
 
-Looks up a point on a day and prints what the screen shows: its longitude and
-latitude in degrees and three shifts in the group's unit, parted by tabs, each
-the shortest decimal that reads back as the same float.
+Looks up a point on a day and prints what the screen shows: `shown`, its
+longitude and latitude in degrees, DAY, the name of the grid used and its shifts
+in the group's unit, parted by tabs; or `refused`, the number of the refusal,
+its place, LON, LAT and DAY. Each float is the shortest decimal that reads back
+as the same one.
+
+Without a point, each line of standard input is one: LON, LAT and DAY parted by
+tabs. Each gets its line as it comes, in the same order. A line that is not of
+this form ends the command with status 2.
 
   bulhyemik screen examples/canyon.txt examples/canyon.nodes 27720000 143880000 0
 
-exit status: 0 accepted, 1 refused, 2 usage or file error
+exit status: 0 accepted, 1 refused (one point or more), 2 usage or file error
 ";
 
 const INFORCE: &str = "\
@@ -92,22 +134,33 @@ Loads FLOATS, a file of little-endian 32-bit floats in units, writes NODES, a
 file of little-endian 32-bit integers in steps of 2 to the power -Q of the unit,
 and prints their count. NaN and floats with the bits of FLAG become the no-data
 mark. FLAG is a decimal number, as -9999 or 1.5e30, or the 8 hex digits of a
-float's bits, as 0xc61c3c00. NODES appears whole or not at all.
+float's bits, as 0xc61c3c00. NODES appears whole or not at all; a file that
+stands there is replaced and keeps its mode.
 
   bulhyemik load examples/canyon.floats canyon.nodes 20
 
 exit status: 0 accepted, 1 refused, 2 usage or file error
 ";
 
+const HELP: &str = "\
+usage: bulhyemik help [COMMAND]
+
+Says what a command does, what it prints and how it ends.
+
+exit status: 0, 2 usage error
+";
+
 /// The text of a command.
 pub fn of(command: &str) -> &'static str {
     match command {
         "check" => CHECK,
+        "grids" => GRIDS,
         "format" => FORMAT,
         "lookup" => LOOKUP,
         "screen" => SCREEN,
         "inforce" => INFORCE,
         "load" => LOAD,
+        "help" => HELP,
         _ => ALL,
     }
 }

@@ -4,71 +4,116 @@ mod arguments;
 mod check;
 mod files;
 mod format;
+mod grids;
 mod group;
 mod help;
+mod hint;
 mod inforce;
+mod kinds;
 mod load;
 mod lookup;
 mod model;
 mod number;
+mod output;
 mod points;
 mod screen;
+mod shown;
+mod signals;
 mod stop;
+mod whole;
 
-use arguments::Arguments;
+use arguments::{Arguments, before_the_end, is_option};
 use interface::Calls;
-use std::ffi::OsString;
+use output::Output;
+use shown::shown;
+use std::ffi::{OsStr, OsString};
 use std::io::{self, Write};
 use std::process::ExitCode;
 use stop::Stop;
 
-/// A command: its name, and what prints its output.
-type Command = fn(&dyn Calls, &Arguments) -> Result<Vec<u8>, Stop>;
+/// A command: its name, its options, and what it does.
+struct Command {
+    name: &'static str,
+    options: &'static [&'static str],
+    run: fn(&dyn Calls, &Arguments, &mut Output) -> Result<(), Stop>,
+}
 
-const COMMANDS: [(&str, Command); 6] = [
-    ("check", check::check),
-    ("format", format::format),
-    ("lookup", lookup::lookup),
-    ("screen", screen::screen),
-    ("inforce", inforce::inforce),
-    ("load", load::load),
+const COMMANDS: [Command; 8] = [
+    Command { name: "check", options: &[], run: check::check },
+    Command { name: "grids", options: grids::OPTIONS, run: grids::grids },
+    Command { name: "format", options: &[], run: format::format },
+    Command { name: "lookup", options: &[], run: lookup::lookup },
+    Command { name: "screen", options: &[], run: screen::screen },
+    Command { name: "inforce", options: &[], run: inforce::inforce },
+    Command { name: "load", options: &[], run: load::load },
+    Command { name: "help", options: &[], run: explain },
 ];
 
 /// Runs the command line of this process over these calls and answers its exit status.
 pub fn main(calls: &dyn Calls) -> ExitCode {
+    signals::report_file_size();
     let words: Vec<OsString> = std::env::args_os().skip(1).collect();
-    let (status, printed) = match run(calls, &words) {
-        Ok(text) => (0, text),
-        Err(stop) => {
-            let _ = write!(io::stderr(), "{}", stop.message());
-            (stop.status(), stop.printed())
-        }
-    };
-    let mut out = io::stdout().lock();
-    match out.write_all(&printed).and_then(|()| out.flush()) {
-        Ok(()) => ExitCode::from(status),
-        Err(error) => {
-            let _ = write!(io::stderr(), "{}", files::not_written("standard output", &error).message());
-            ExitCode::from(2)
+    let mut out = Output::default();
+    let ran = run(calls, &words, &mut out);
+    match ran.and_then(|()| out.flush()) {
+        Ok(()) => ExitCode::SUCCESS,
+        Err(stop) => ExitCode::from(told(&stop, &mut out)),
+    }
+}
+
+/// Tells why a command stopped, standard output first, and answers the exit status.
+fn told(stop: &Stop, out: &mut Output) -> u8 {
+    let said = out.put(stop.printed()).and_then(|()| out.say(&stop.message()));
+    match said {
+        Ok(()) => stop.status(),
+        Err(not_written) => {
+            let _ = write!(io::stderr(), "{}", not_written.message());
+            not_written.status()
         }
     }
 }
 
-/// What a command line prints, or why it stops.
-fn run(calls: &dyn Calls, words: &[OsString]) -> Result<Vec<u8>, Stop> {
+/// Runs a command line.
+fn run(calls: &dyn Calls, words: &[OsString], out: &mut Output) -> Result<(), Stop> {
     let Some((first, rest)) = words.split_first() else {
         return Err(Stop::Usage(format!("no command is named\n\n{}", help::ALL)));
     };
-    match first.to_str() {
-        Some("--help") => return Ok(help::ALL.into()),
-        Some("--version") => return Ok(concat!("bulhyemik ", env!("CARGO_PKG_VERSION"), "\n").into()),
-        _ => {}
+    if is_help(first) {
+        return out.put(help::ALL);
     }
-    let Some(&(name, command)) = COMMANDS.iter().find(|(name, _)| first == name) else {
-        return Err(Stop::Usage(format!("there is no command '{}'; see bulhyemik --help", first.display())));
-    };
-    if rest.iter().any(|word| word == "--help") {
-        return Ok(help::of(name).into());
+    if first == "--version" || first == "-V" {
+        return out.put(format!("bulhyemik {}\n", version(calls.version())));
     }
-    command(calls, &Arguments::new(name, rest)?)
+    if is_option(first) {
+        return Err(Stop::Usage(format!("there is no option '{}'; see bulhyemik --help", shown(first))));
+    }
+    let command = command(first)?;
+    if before_the_end(rest).iter().any(|word| is_help(word)) {
+        return out.put(help::of(command.name));
+    }
+    (command.run)(calls, &Arguments::new(command.name, command.options, rest)?, out)
+}
+
+fn is_help(word: &OsStr) -> bool {
+    word == "--help" || word == "-h"
+}
+
+fn command(name: &OsStr) -> Result<&'static Command, Stop> {
+    COMMANDS
+        .iter()
+        .find(|command| name == command.name)
+        .ok_or_else(|| Stop::Usage(format!("there is no command '{}'; see bulhyemik --help", shown(name))))
+}
+
+/// `help [COMMAND]`: the help of a command, or of all.
+fn explain(_: &dyn Calls, arguments: &Arguments, out: &mut Output) -> Result<(), Stop> {
+    match arguments.count(&[0, 1], "COMMAND, or nothing")? {
+        0 => out.put(help::ALL),
+        _ => out.put(help::of(command(arguments.file(0))?.name)),
+    }
+}
+
+/// The version of the C interface as people write it.
+fn version(number: u64) -> String {
+    format!("{}.{}.{}", number / 1_000_000, number / 1_000 % 1_000, number % 1_000)
 }

@@ -2,20 +2,23 @@
 
 use crate::arguments::Arguments;
 use crate::files;
-use crate::group::Group;
+use crate::group::{self, name};
 use crate::stop::Stop;
-use interface::Calls;
-use interface::layout::*;
+use interface::{Calls, Fix, Group};
 
 /// A longitude, a latitude and a day.
 pub type Position = [i64; 3];
 
-/// What a lookup fills.
-pub type Answer = [i64; LOOKUP_NUMBERS];
+/// What a lookup returned and filled.
+pub struct Found {
+    pub number: u64,
+    pub place: u64,
+    pub fix: Fix,
+}
 
 pub struct Model {
     pub group: Group,
-    nodes: Vec<i32>,
+    pub nodes: Vec<i32>,
 }
 
 impl Model {
@@ -24,21 +27,22 @@ impl Model {
         if arguments.is_standard_input(0) && arguments.is_standard_input(1) {
             return Err(arguments.usage("HEADER and NODES are both standard input".into()));
         }
-        let group = Group::read(calls, arguments.file(0))?;
+        let group = group::read(calls, arguments.file(0))?;
         let nodes = files::read_words(arguments.file(1), i32::from_le_bytes)?;
         Ok(Model { group, nodes })
     }
 
-    /// Looks a position up: the refusal number and the answer.
-    pub fn look(&self, calls: &dyn Calls, [lon, lat, day]: Position) -> (u64, Answer) {
-        let mut answer = [0; LOOKUP_NUMBERS];
-        let Model { group, nodes } = self;
-        let number = calls.lookup(&group.numbers, &group.names, nodes, lon, lat, day, &mut answer);
-        (number, answer)
+    /// Looks a position up.
+    pub fn look(&self, calls: &dyn Calls, [lon, lat, day]: Position) -> Found {
+        let (mut fix, mut place) = (Fix::default(), 0);
+        let number = calls.lookup(&self.group, &self.nodes, lon, lat, day, &mut fix, &mut place);
+        Found { number, place, fix }
     }
-}
 
-/// LON LAT DAY, the third to fifth argument.
-pub fn position(arguments: &Arguments) -> Result<Position, Stop> {
-    Ok([arguments.number(2, "LON")?, arguments.number(3, "LAT")?, arguments.number(4, "DAY")?])
+    /// The name of the grid that a lookup chose, and a shift of each parameter, parted by tabs.
+    pub fn shifts<T: ToString>(&self, fix: &Fix, shifts: &[T]) -> String {
+        let grid = &self.group.grid[fix.grid as usize - 1];
+        let shown = &shifts[..self.group.parameters as usize];
+        shown.iter().fold(name(grid), |line, shift| line + "\t" + &shift.to_string())
+    }
 }

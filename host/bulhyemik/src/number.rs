@@ -3,7 +3,10 @@
 /// Reads a word, if it is of a form.
 pub type Form<T> = fn(&[u8]) -> Option<T>;
 
-/// A decimal of document 01's form, cut to the least or greatest 64-bit number where it lies beyond.
+/// What a whole number must be.
+pub const WHOLE: &str = "a whole number, as 12, 0 or -5, without plus or leading zero";
+
+/// A decimal as a header has it, cut to the least or greatest 64-bit number where it lies beyond.
 pub fn decimal(word: &[u8]) -> Option<i64> {
     let digits = word.strip_prefix(b"-").unwrap_or(word);
     let of_form = match digits {
@@ -35,7 +38,7 @@ mod tests {
     use super::{decimal, float};
 
     #[test]
-    fn decimals_are_of_document_01s_form() {
+    fn decimals_are_as_in_a_header() {
         let read = |word: &str| decimal(word.as_bytes());
         assert_eq!(read("0"), Some(0));
         assert_eq!(read("-5"), Some(-5));

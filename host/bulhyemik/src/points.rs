@@ -1,24 +1,103 @@
-//! Positions on lines of LON, LAT and DAY, parted by tabs.
+//! Points of the command line or of standard input, each with its line of output as soon as it is known.
 
-use crate::model::Position;
+use crate::arguments::Arguments;
+use crate::files::not_read;
+use crate::model::{Model, Position};
 use crate::number::decimal;
+use crate::output::Output;
+use crate::shown::bytes;
+use crate::stop::{Refusal, Stop};
+use interface::Calls;
+use progress::Progress;
+use std::ffi::OsStr;
+use std::io::{self, BufRead, BufReader, Read};
 
-/// A line that is no position: its number from 1 and its bytes.
-pub struct BadLine<'a> {
-    pub number: usize,
-    pub bytes: &'a [u8],
-}
+/// A longer line of standard input is no point.
+const LONGEST: usize = 1 << 16;
 
-/// The positions of a text, one a line; the last line need not be closed.
-pub fn points(text: &[u8]) -> Result<Vec<Position>, BadLine<'_>> {
-    if text.is_empty() {
-        return Ok(Vec::new());
+/// What a command prints of an accepted point.
+pub type Answer = fn(&dyn Calls, &Model, Position) -> Result<String, Refusal>;
+
+/// Answers LON LAT DAY, the third to fifth argument, or without them each point of standard input.
+pub fn answer(calls: &dyn Calls, arguments: &Arguments, out: &mut Output, answer: Answer) -> Result<(), Stop> {
+    if arguments.count(&[2, 5], "HEADER NODES, or HEADER NODES LON LAT DAY")? == 2 {
+        return answer_all(calls, arguments, out, answer);
     }
-    let lines = text.strip_suffix(b"\n").unwrap_or(text).split(|&c| c == b'\n');
-    lines.enumerate().map(|(k, bytes)| point(bytes).ok_or(BadLine { number: k + 1, bytes })).collect()
+    let at = [arguments.number(2, "LON")?, arguments.number(3, "LAT")?, arguments.number(4, "DAY")?];
+    let model = Model::read(calls, arguments)?;
+    match answer(calls, &model, at) {
+        Ok(line) => out.put(line),
+        Err(refusal) => Err(Stop::Refused { line: refused(refusal, at), words: refusal.words() }),
+    }
 }
 
+/// The line of a refused point.
+fn refused(refusal: Refusal, [lon, lat, day]: Position) -> String {
+    format!("{}\t{lon}\t{lat}\t{day}", refusal.line())
+}
+
+fn answer_all(calls: &dyn Calls, arguments: &Arguments, out: &mut Output, answer: Answer) -> Result<(), Stop> {
+    if arguments.is_standard_input(0) || arguments.is_standard_input(1) {
+        return Err(arguments.usage("standard input holds the points, so HEADER and NODES must be files".into()));
+    }
+    let model = Model::read(calls, arguments)?;
+    let mut progress = Progress::counting("points");
+    let mut lines = Lines::new();
+    let mut all_accepted = true;
+    let mut k = 0;
+    while let Some(line) = lines.next(out)? {
+        k += 1;
+        let at = point(line).ok_or_else(|| bad_line(arguments, k, line))?;
+        match answer(calls, &model, at) {
+            Ok(line) => out.put(line)?,
+            Err(refusal) => {
+                all_accepted = false;
+                out.put(refused(refusal, at) + "\n")?;
+                progress.clear();
+                out.say(&format!("bulhyemik: point {k} refused: {}\n", refusal.words()))?;
+            }
+        }
+        progress.at(k);
+    }
+    if all_accepted { Ok(()) } else { Err(Stop::PointsRefused) }
+}
+
+/// The lines of standard input.
+struct Lines {
+    input: BufReader<io::StdinLock<'static>>,
+    line: Vec<u8>,
+}
+
+impl Lines {
+    fn new() -> Lines {
+        Lines { input: BufReader::with_capacity(LONGEST, io::stdin().lock()), line: Vec::new() }
+    }
+
+    /// The next line without its line feed, which the last one need not have. Before it is waited for, all answers so far go out.
+    fn next(&mut self, out: &mut Output) -> Result<Option<&[u8]>, Stop> {
+        if !self.input.buffer().contains(&b'\n') {
+            out.flush()?;
+        }
+        self.line.clear();
+        let mut within = self.input.by_ref().take(LONGEST as u64);
+        within.read_until(b'\n', &mut self.line).map_err(|error| not_read(OsStr::new("-"), &error))?;
+        if self.line.is_empty() {
+            return Ok(None);
+        }
+        Ok(Some(self.line.strip_suffix(b"\n").unwrap_or(&self.line)))
+    }
+}
+
+/// The position of a line.
 fn point(line: &[u8]) -> Option<Position> {
+    if line.len() >= LONGEST {
+        return None;
+    }
     let numbers: Option<Vec<i64>> = line.split(|&c| c == b'\t').map(decimal).collect();
     numbers?.try_into().ok()
+}
+
+fn bad_line(arguments: &Arguments, number: usize, line: &[u8]) -> Stop {
+    let wanted = "must be LON, LAT and DAY, whole numbers parted by tabs";
+    arguments.usage(format!("line {number} of standard input is '{}', but {wanted}", bytes(line)))
 }

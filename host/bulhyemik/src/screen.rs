@@ -1,19 +1,24 @@
-//! `screen HEADER NODES LON LAT DAY`: the five floats of the screen record.
+//! `screen HEADER NODES [LON LAT DAY]`: what the screen shows of a point, as floats.
 
 use crate::arguments::Arguments;
-use crate::model::{Model, position};
-use crate::stop::{Stop, accepted};
-use interface::Calls;
-use interface::layout::*;
+use crate::model::{Found, Model, Position};
+use crate::output::Output;
+use crate::points;
+use crate::stop::{Refusal, Stop, accepted};
+use interface::{Calls, Screen};
 
-pub fn screen(calls: &dyn Calls, arguments: &Arguments) -> Result<Vec<u8>, Stop> {
-    arguments.count(&[5], "HEADER NODES LON LAT DAY")?;
-    let at = position(arguments)?;
-    let model = Model::read(calls, arguments)?;
-    let (number, found) = model.look(calls, at);
-    let [quantum, parameters] = [QUANTUM, PARAMETERS].map(|k| model.group.numbers[k] as u64);
-    let (mut floats, mut answer) = ([0.0; SCREEN_FLOATS], [0; PLACE_NUMBERS]);
-    let number = calls.screen_record(at[0], at[1], quantum, parameters, number, &found, &mut floats, &mut answer);
-    accepted(number, answer[PLACE])?;
-    Ok((floats.map(|x| x.to_string()).join("\t") + "\n").into_bytes())
+pub fn screen(calls: &dyn Calls, arguments: &Arguments, out: &mut Output) -> Result<(), Stop> {
+    points::answer(calls, arguments, out, shown)
+}
+
+/// The line of an accepted lookup in degrees and units.
+fn shown(calls: &dyn Calls, model: &Model, at: Position) -> Result<String, Refusal> {
+    let Found { number, place, fix } = model.look(calls, at);
+    let [lon, lat, day] = at;
+    let (quantum, parameters) = (model.group.quantum, model.group.parameters);
+    let (mut screen, mut place_shown) = (Screen::default(), 0);
+    let number = calls.screen_record(lon, lat, quantum, parameters, number, place, &fix, &mut screen, &mut place_shown);
+    accepted(number, place_shown)?;
+    let Screen { longitude, latitude, shift } = screen;
+    Ok(format!("shown\t{longitude}\t{latitude}\t{day}\t{}\n", model.shifts(&fix, &shift)))
 }

@@ -1,16 +1,16 @@
 //! Why a command stops short: a refusal of the library, wrong usage, or a file that can't be used.
 
-/// A refusal of the library, by document 01's number and place.
+/// A refusal of the library, by its number and place.
 #[derive(Clone, Copy)]
 pub struct Refusal {
     pub number: u64,
-    pub place: i64,
+    pub place: u64,
 }
 
 impl Refusal {
-    /// The refusal as standard output has it.
+    /// The refusal as standard output has it, without what a command adds and the line feed.
     pub fn line(&self) -> String {
-        format!("refused\t{}\t{}\n", self.number, self.place)
+        format!("refused\t{}\t{}", self.number, self.place)
     }
 
     /// The refusal in words.
@@ -38,39 +38,53 @@ impl Refusal {
 }
 
 pub enum Stop {
-    Refused(Refusal),
+    /// A refusal that is still to be told: its line, and its words.
+    Refused {
+        line: String,
+        words: String,
+    },
+    /// Refusals of points, each told where it came up.
+    PointsRefused,
     Usage(String),
     File(String),
+    /// Nobody reads standard output any more.
+    Gone,
 }
 
 impl Stop {
     /// 1 for a refusal, 2 for wrong usage or a file.
     pub fn status(&self) -> u8 {
         match self {
-            Stop::Refused(_) => 1,
-            Stop::Usage(_) | Stop::File(_) => 2,
+            Stop::Refused { .. } | Stop::PointsRefused => 1,
+            Stop::Usage(_) | Stop::File(_) | Stop::Gone => 2,
         }
     }
 
     /// What standard output gets.
-    pub fn printed(&self) -> Vec<u8> {
+    pub fn printed(&self) -> String {
         match self {
-            Stop::Refused(refusal) => refusal.line().into_bytes(),
-            Stop::Usage(_) | Stop::File(_) => Vec::new(),
+            Stop::Refused { line, .. } => format!("{line}\n"),
+            _ => String::new(),
         }
     }
 
     /// What standard error gets.
     pub fn message(&self) -> String {
-        let why = match self {
-            Stop::Refused(refusal) => format!("refused: {}", refusal.words()),
-            Stop::Usage(why) | Stop::File(why) => why.clone(),
-        };
-        format!("bulhyemik: {}\n", why.trim_end())
+        match self {
+            Stop::Refused { words, .. } => format!("bulhyemik: refused: {words}\n"),
+            Stop::Usage(why) | Stop::File(why) => format!("bulhyemik: {}\n", why.trim_end()),
+            Stop::PointsRefused | Stop::Gone => String::new(),
+        }
     }
 }
 
-/// Accepts a call that returned 0, and stops at a refusal.
-pub fn accepted(number: u64, place: i64) -> Result<(), Stop> {
-    if number == 0 { Ok(()) } else { Err(Stop::Refused(Refusal { number, place })) }
+impl From<Refusal> for Stop {
+    fn from(refusal: Refusal) -> Stop {
+        Stop::Refused { line: refusal.line(), words: refusal.words() }
+    }
+}
+
+/// Accepts a call that returned 0; else its refusal.
+pub fn accepted(number: u64, place: u64) -> Result<(), Refusal> {
+    if number == 0 { Ok(()) } else { Err(Refusal { number, place }) }
 }

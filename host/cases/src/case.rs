@@ -3,7 +3,7 @@
 use crate::file::Definitions;
 use crate::parts::{bits32, bits64, bytes, list, number};
 use crate::record::{functions, record};
-use interface::{Ramp, Record};
+use interface::{Entry, Fix, Group, Part, Ramp};
 
 /// What a case hands to its call. Groups and node lists stand under their ids in the file.
 #[derive(Clone, Debug)]
@@ -14,21 +14,21 @@ pub enum Input {
     Field { line: Vec<u8>, number: u64 },
     Lookup { group: String, nodes: String, lon: i64, lat: i64, day: i64 },
     InForce { group: String, west: i64, east: i64, south: i64, north: i64 },
-    Load { quantum: u64, flag: f32, out_len: usize, floats: Vec<f32> },
-    Screen { lon: i64, lat: i64, quantum: u64, parameters: u64, number: u64, found: [i64; 5] },
+    Load { quantum: i64, flag: f32, out_len: usize, floats: Vec<f32> },
+    Screen { lon: i64, lat: i64, quantum: i64, parameters: i64, number: u64, at: u64, fix: Fix },
     DayFactor { ramps: Vec<Ramp>, day: i64 },
 }
 
 /// What the call must answer.
 #[derive(Clone, Debug)]
 pub enum Expected {
-    Refused { number: u64, place: i64 },
-    Record(Box<Record>),
+    Refused { number: u64, place: u64 },
+    Group(Box<Group>),
     Judged,
-    Written { count: i64, bytes: Vec<u8> },
-    Part { from: i64, to: i64 },
-    Fix([i64; 4]),
-    InForce { count: i64, entries: Vec<[i64; 3]> },
+    Written { count: u64, bytes: Vec<u8> },
+    Part(Part),
+    Fix(Fix),
+    InForce { count: i64, entries: Vec<Entry> },
     Nodes(Vec<i32>),
     Screen([u64; 5]),
     Factor(i64),
@@ -68,7 +68,7 @@ pub fn input(call: &str, words: &[&str], defined: &Definitions) -> Result<Input,
             quantum: number(q)?,
             flag: f32::from_bits(bits32(flag)?),
             out_len: number(len)?,
-            floats: list(&floats.join(" "), |word| bits32(word).map(f32::from_bits))?,
+            floats: some(floats, |word| bits32(word).map(f32::from_bits))?,
         },
         ("screen", &[lon, lat, q, np, number_, place, grid, r1, r2, r3]) => Input::Screen {
             lon: number(lon)?,
@@ -76,7 +76,8 @@ pub fn input(call: &str, words: &[&str], defined: &Definitions) -> Result<Input,
             quantum: number(q)?,
             parameters: number(np)?,
             number: number(number_)?,
-            found: [number(place)?, number(grid)?, number(r1)?, number(r2)?, number(r3)?],
+            at: number(place)?,
+            fix: fix([grid, r1, r2, r3])?,
         },
         ("day_factor", &[ramps, day]) => Input::DayFactor { ramps: functions(ramps)?, day: number(day)? },
         _ => return Err(format!("no inputs of a {call} case")),
@@ -87,15 +88,15 @@ pub fn input(call: &str, words: &[&str], defined: &Definitions) -> Result<Input,
 pub fn expected(call: &str, words: &[&str]) -> Result<Expected, String> {
     Ok(match (call, words) {
         (_, &["refuse", refusal, place]) => Expected::Refused { number: number(refusal)?, place: number(place)? },
-        ("read_header", &["ok", text]) => Expected::Record(Box::new(record(text)?)),
+        ("read_header", &["ok", text]) => Expected::Group(Box::new(record(text)?)),
         ("judge_record", &["ok"]) => Expected::Judged,
         ("write_header", &["ok", count, text]) => Expected::Written { count: number(count)?, bytes: bytes(text)? },
-        ("field", &["ok", from, to]) => Expected::Part { from: number(from)?, to: number(to)? },
-        ("lookup", &["ok", grid, r1, r2, r3]) => Expected::Fix([number(grid)?, number(r1)?, number(r2)?, number(r3)?]),
+        ("field", &["ok", from, to]) => Expected::Part(Part { from: number(from)?, to: number(to)? }),
+        ("lookup", &["ok", grid, r1, r2, r3]) => Expected::Fix(fix([grid, r1, r2, r3])?),
         ("in_force", &["ok", count, ref entries @ ..]) => {
             Expected::InForce { count: number(count)?, entries: list(&entries.join(" "), entry)? }
         }
-        ("load", &["ok", ref nodes @ ..]) => Expected::Nodes(list(&nodes.join(" "), number)?),
+        ("load", &["ok", ref nodes @ ..]) => Expected::Nodes(some(nodes, number)?),
         ("screen", &["ok", floats]) => {
             let bits = list(floats, bits64)?;
             Expected::Screen(bits.try_into().map_err(|_| format!("'{floats}' are not five floats"))?)
@@ -105,8 +106,21 @@ pub fn expected(call: &str, words: &[&str]) -> Result<Expected, String> {
     })
 }
 
+/// What words list, parted by spaces; the one word `-` lists nothing.
+fn some<T>(words: &[&str], one: impl Fn(&str) -> Result<T, String>) -> Result<Vec<T>, String> {
+    if words == ["-"] { Ok(Vec::new()) } else { list(&words.join(" "), one) }
+}
+
+/// A grid's number and three results.
+fn fix([grid, r1, r2, r3]: [&str; 4]) -> Result<Fix, String> {
+    Ok(Fix { grid: number(grid)?, result: [number(r1)?, number(r2)?, number(r3)?] })
+}
+
 /// `grid:lon:lat`
-fn entry(word: &str) -> Result<[i64; 3], String> {
+fn entry(word: &str) -> Result<Entry, String> {
     let numbers: Vec<i64> = word.split(':').map(number).collect::<Result<_, _>>()?;
-    numbers.try_into().map_err(|_| format!("'{word}' is no grid:lon:lat"))
+    match numbers[..] {
+        [grid, lon, lat] => Ok(Entry { grid, lon, lat }),
+        _ => Err(format!("'{word}' is no grid:lon:lat")),
+    }
 }

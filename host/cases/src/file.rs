@@ -3,18 +3,18 @@
 use crate::case::{Case, expected, input};
 use crate::nodes::NodeList;
 use crate::record::record;
-use interface::Record;
+use interface::Group;
 use std::collections::HashMap;
 
 /// Groups and node lists under the ids that a file gives them.
 #[derive(Default)]
 pub struct Definitions {
-    groups: HashMap<String, Record>,
+    groups: HashMap<String, Group>,
     nodes: HashMap<String, NodeList>,
 }
 
 impl Definitions {
-    pub fn group(&self, id: &str) -> Result<&Record, String> {
+    pub fn group(&self, id: &str) -> Result<&Group, String> {
         self.groups.get(id).ok_or_else(|| format!("no group '{id}' is defined before"))
     }
 
@@ -47,7 +47,7 @@ impl CaseFile {
     }
 
     /// The group of an id that a case names.
-    pub fn group(&self, id: &str) -> &Record {
+    pub fn group(&self, id: &str) -> &Group {
         &self.defined.groups[id]
     }
 

@@ -1,23 +1,23 @@
 //! A group record as a case line writes it: head, `F` parts for ramps, `G` parts for grids, all parted by `|`.
 
 use crate::parts::{bytes, number};
-use interface::{Grid, NAME_BYTES, Name, Ramp, Record};
+use interface::{Grid, Group, NAME_BYTES, Name, Ramp};
 
 /// The record that a line writes; entries that it leaves out are zero.
-pub fn record(text: &str) -> Result<Record, String> {
+pub fn record(text: &str) -> Result<Group, String> {
     let mut parts = text.split('|');
     let head: Vec<&str> = parts.next().unwrap_or_default().split(' ').collect();
     let [name_hex, len, unit, q, np, ramps, grids] = head[..] else {
         return Err(format!("'{text}' has no head of seven words"));
     };
-    let mut record = Record {
+    let mut record = Group {
         name: name(name_hex, len)?,
         unit: number(unit)?,
         quantum: number(q)?,
         parameters: number(np)?,
         ramps: number(ramps)?,
         grids: number(grids)?,
-        ..Record::default()
+        ..Group::default()
     };
     for part in parts {
         let words: Vec<&str> = part.split(' ').collect();

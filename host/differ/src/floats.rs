@@ -3,8 +3,8 @@
 use crate::random::Random;
 
 /// A float that loads, if only just, at this quantum.
-fn loads(random: &mut Random, quantum: u64) -> f32 {
-    let step = 0.5f32.powi(quantum.min(20) as i32);
+fn loads(random: &mut Random, quantum: i64) -> f32 {
+    let step = 0.5f32.powi(quantum.clamp(0, 20) as i32);
     match random.below(5) {
         0 => (random.between(-3_999_999, 3_999_999) as f32) * step,
         1 => (random.between(-2_000, 2_000) as f32 + 0.5) * step,
@@ -15,8 +15,8 @@ fn loads(random: &mut Random, quantum: u64) -> f32 {
 }
 
 /// A float of any kind.
-fn any(random: &mut Random, quantum: u64) -> f32 {
-    let step = 0.5f32.powi(quantum.min(20) as i32);
+fn any(random: &mut Random, quantum: i64) -> f32 {
+    let step = 0.5f32.powi(quantum.clamp(0, 20) as i32);
     match random.below(6) {
         0 => f32::from_bits(random.bits() as u32),
         1 => f32::from_bits(random.pick(&[0x7f80_0000, 0xff80_0000, 0x7fc0_0000, 0x7f80_0001, 0xffff_ffff])),
@@ -26,7 +26,7 @@ fn any(random: &mut Random, quantum: u64) -> f32 {
 }
 
 /// Floats, most lists of which load as a whole, and a flag.
-pub fn floats(random: &mut Random, quantum: u64) -> (Vec<f32>, f32) {
+pub fn floats(random: &mut Random, quantum: i64) -> (Vec<f32>, f32) {
     let len = random.pick(&[0, 1, 1, 2, 3, 8, 40]);
     let wild = random.percent(40);
     let mut list: Vec<f32> =

@@ -1,7 +1,7 @@
 //! Random groups: sound ones, and ones damaged so that each of the refusals 2 to 5 comes up.
 
 use crate::random::Random;
-use interface::{Grid, Name, Ramp, Record};
+use interface::{Grid, Group, Name, Ramp};
 
 const LONGITUDE: i64 = 1_296_000_000;
 const LATITUDE: i64 = 324_000_000;
@@ -100,19 +100,19 @@ fn ramp(random: &mut Random) -> Ramp {
 }
 
 /// A group that is accepted.
-pub fn sound(random: &mut Random) -> Record {
+pub fn sound(random: &mut Random) -> Group {
     let world = world(random);
     let grids = random.pick(&[1, 1, 2, 2, 3, 3, 4, 5, 6, 8, 16, 64]);
     let ramps = random.pick(&[0, 0, 1, 2, 3, 8]);
     let parameters = random.between(1, 3);
-    let mut record = Record {
+    let mut record = Group {
         name: name(random, 0),
         unit: random.between(0, 1),
         quantum: random.between(0, 20),
         parameters,
         ramps: ramps as i64,
         grids: grids as i64,
-        ..Record::default()
+        ..Group::default()
     };
     for k in 0..ramps {
         record.ramp[k] = ramp(random);
@@ -128,7 +128,7 @@ pub fn sound(random: &mut Random) -> Record {
 }
 
 /// The counts of ramps and grids, at most their entries.
-fn counts(record: &Record) -> (usize, usize) {
+fn counts(record: &Group) -> (usize, usize) {
     (record.ramps.clamp(0, 8) as usize, record.grids.clamp(1, 64) as usize)
 }
 
@@ -168,7 +168,7 @@ fn break_ramp(random: &mut Random, ramp: &mut Ramp) {
     }
 }
 
-fn break_head(random: &mut Random, record: &mut Record) {
+fn break_head(random: &mut Random, record: &mut Group) {
     let odd = random.odd();
     match random.below(5) {
         0 => record.unit = odd,
@@ -197,7 +197,7 @@ fn push_out(random: &mut Random, grid: &mut Grid, parameters: i64) {
 }
 
 /// Gives grid k the rank of grid j and moves it over the east edge of j, onto it or just past it.
-fn clash(random: &mut Random, record: &mut Record, j: usize, k: usize) {
+fn clash(random: &mut Random, record: &mut Group, j: usize, k: usize) {
     let Grid { lon, dlon, ni, lat, rank, .. } = record.grid[j];
     let (_, east) = reach(lon, dlon, ni);
     let grid = &mut record.grid[k];
@@ -208,7 +208,7 @@ fn clash(random: &mut Random, record: &mut Record, j: usize, k: usize) {
 }
 
 /// Damages a group in one place; now and then the damage is none.
-pub fn damage(random: &mut Random, record: &mut Record) {
+pub fn damage(random: &mut Random, record: &mut Group) {
     let (ramps, grids) = counts(record);
     let (k, later) = (random.below(grids), random.below(grids));
     match random.below(20) {

@@ -15,4 +15,4 @@ pub use command::main;
 pub use groups::{damage, sound};
 pub use places::area;
 pub use random::Random;
-pub use run::{Report, run};
+pub use run::{Inputs, Report, run};

@@ -1,10 +1,10 @@
 //! Random positions, areas and node lists for a group.
 
 use crate::random::Random;
-use interface::{Grid, Record};
+use interface::{Grid, Group};
 
 /// A counted grid of the record.
-fn some_grid(random: &mut Random, record: &Record) -> Grid {
+fn some_grid(random: &mut Random, record: &Group) -> Grid {
     record.grid[random.below(record.grids.clamp(1, 64) as usize)]
 }
 
@@ -26,7 +26,7 @@ fn along(random: &mut Random, from: i64, spacing: i64, count: i64) -> i64 {
 }
 
 /// Longitude, latitude and day of a lookup.
-pub fn position(random: &mut Random, record: &Record) -> [i64; 3] {
+pub fn position(random: &mut Random, record: &Group) -> [i64; 3] {
     let grid = some_grid(random, record);
     let mut lon = along(random, grid.lon, grid.dlon, grid.ni);
     let mut lat = along(random, grid.lat, grid.dlat, grid.nj);
@@ -40,7 +40,7 @@ pub fn position(random: &mut Random, record: &Record) -> [i64; 3] {
     [lon, lat, day(random, record)]
 }
 
-fn day(random: &mut Random, record: &Record) -> i64 {
+fn day(random: &mut Random, record: &Group) -> i64 {
     let ramp = record.ramp[random.below(8)];
     match random.below(24) {
         0 => random.odd(),
@@ -53,7 +53,7 @@ fn day(random: &mut Random, record: &Record) -> i64 {
 }
 
 /// West, east, south and north of an area.
-pub fn area(random: &mut Random, record: &Record) -> [i64; 4] {
+pub fn area(random: &mut Random, record: &Group) -> [i64; 4] {
     if random.percent(5) {
         return [-648_000_000, 648_000_000, -324_000_000, 324_000_000];
     }
@@ -71,7 +71,7 @@ pub fn area(random: &mut Random, record: &Record) -> [i64; 4] {
 }
 
 /// A node list, mostly just long enough for the group.
-pub fn nodes(random: &mut Random, record: &Record) -> Vec<i32> {
+pub fn nodes(random: &mut Random, record: &Group) -> Vec<i32> {
     const MOST: i64 = 12_000;
     let grids = &record.grid[..record.grids.clamp(1, 64) as usize];
     let size = |n: i64| n.clamp(0, MOST);

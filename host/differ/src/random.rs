@@ -6,11 +6,12 @@ pub struct Random {
 }
 
 impl Random {
-    /// The stream of input `index` to the named call: each input can be made again by itself.
-    pub fn new(call: &str, index: usize) -> Random {
+    /// The stream of input `index` of a seed to the named call: each input can be made again by itself.
+    pub fn new(call: &str, seed: u64, index: usize) -> Random {
         let named =
             call.bytes().fold(0xcbf2_9ce4_8422_2325, |h: u64, c| (h ^ u64::from(c)).wrapping_mul(0x100_0000_01b3));
-        let mut random = Random { state: named.wrapping_add((index as u64).wrapping_mul(0x9e37_79b9)) };
+        let seeded = named.wrapping_add(seed.wrapping_mul(0xd134_2543_de82_ef95));
+        let mut random = Random { state: seeded.wrapping_add((index as u64).wrapping_mul(0x9e37_79b9)) };
         random.bits();
         random
     }

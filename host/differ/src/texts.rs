@@ -1,10 +1,10 @@
 //! Header texts of groups, whatever their numbers, and damage to them.
 
 use crate::random::Random;
-use interface::{Name, Record};
+use interface::{Group, Name};
 
 /// The header text of a record, with as many lines as its counts can name.
-pub fn text(record: &Record) -> Vec<u8> {
+pub fn text(record: &Group) -> Vec<u8> {
     let mut text = Vec::new();
     let mut line = |word: &str, name: Option<&Name>, unit: Option<&str>, numbers: &[i64]| {
         text.extend(word.bytes());

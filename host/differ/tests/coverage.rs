@@ -10,7 +10,7 @@ const SMALL: i128 = 5_000;
 fn compression_finds_what_every_coordinate_shows() {
     let (mut compared, mut entries, mut hidden) = (0, 0, 0);
     for index in 0..6_000 {
-        let mut random = Random::new("coverage", index);
+        let mut random = Random::new("coverage", 0, index);
         let record = sound(&mut random);
         assert_eq!(judge(&record), Ok(()));
         let [west, east, south, north] = area(&mut random, &record);

@@ -1,6 +1,8 @@
 //! Lent output for tests: filled with a pattern before a call, and compared bit by bit after it.
 
+use crate::{Fix, Group, InForce, Part, Screen};
 use std::fmt::Debug;
+use std::slice::{from_raw_parts, from_raw_parts_mut};
 
 /// An element that lent output is made of.
 pub trait Element: Copy + Debug {
@@ -18,6 +20,16 @@ impl Element for i64 {
 
     fn bits(self) -> u64 {
         self as u64
+    }
+}
+
+impl Element for u64 {
+    fn pattern(k: usize) -> u64 {
+        7_000_000_000_000_000_001 + k as u64
+    }
+
+    fn bits(self) -> u64 {
+        self
     }
 }
 
@@ -49,6 +61,48 @@ impl Element for f64 {
     fn bits(self) -> u64 {
         self.to_bits()
     }
+}
+
+/// A struct of the header as the 64-bit words that it is made of.
+///
+/// # Safety
+/// The struct is `repr(C)`, is made of whole words alone (a name of 24 bytes is three), and all bits are admitted in each.
+pub unsafe trait Words: Default {
+    type Word: Element;
+
+    /// All words of the struct, in their order.
+    fn words(&self) -> &[Self::Word] {
+        unsafe { from_raw_parts((&raw const *self).cast(), size_of::<Self>() / size_of::<Self::Word>()) }
+    }
+
+    /// The struct with the pattern in every word.
+    fn patterned() -> Self {
+        let mut lent = Self::default();
+        let words: &mut [Self::Word] =
+            unsafe { from_raw_parts_mut((&raw mut lent).cast(), size_of::<Self>() / size_of::<Self::Word>()) };
+        words.iter_mut().enumerate().for_each(|(k, word)| *word = Element::pattern(k));
+        lent
+    }
+}
+
+unsafe impl Words for Group {
+    type Word = i64;
+}
+
+unsafe impl Words for Fix {
+    type Word = i64;
+}
+
+unsafe impl Words for InForce {
+    type Word = i64;
+}
+
+unsafe impl Words for Part {
+    type Word = u64;
+}
+
+unsafe impl Words for Screen {
+    type Word = f64;
 }
 
 /// `len` elements of the pattern.

@@ -1,10 +1,28 @@
-//! What all programs of the host share: the record as plain numbers, the layout of the C interface's arrays, its calls as a
-//! trait, and lent output for tests.
+//! What all programs of the host share: the structs and constants of include/bulhyemik.h, its calls as a trait, the way from
+//! a program written in Rust to these calls, and lent output for tests.
 
+mod adaptor;
+mod answers;
 mod calls;
-pub mod layout;
+mod group;
 pub mod lent;
-mod record;
 
+pub use adaptor::{Answers, Refusal};
+pub use answers::{Entry, Fix, InForce, Part, Screen};
 pub use calls::Calls;
-pub use record::{Grid, NAME_BYTES, Name, Ramp, Record};
+pub use group::{Grid, Group, Name, Ramp};
+
+/// The version of the interface: major * 1,000,000 + minor * 1,000 + patch.
+pub const VERSION: u64 = 1_000_000;
+
+/// Bytes of a name, used or not.
+pub const NAME_BYTES: usize = 24;
+/// Entries of a group for ramps and grids, and results of a lookup.
+pub const MOST_RAMPS: usize = 8;
+pub const MOST_GRIDS: usize = 64;
+pub const MOST_PARAMETERS: usize = 3;
+/// Holds every header text.
+pub const HEADER_BYTES: usize = 16_384;
+
+/// The no-data mark of a node list.
+pub const MARK: i32 = i32::MIN;

@@ -1,160 +1,66 @@
-//! The plain versions behind the calls of the C interface.
+//! The plain versions as a back end; what the benchmark doesn't time is the second program's.
 
-use crate::group::{Group, Sides};
+use crate::group::Sides;
 use crate::in_force::in_force;
-use crate::judge::{Refusal, judge};
+use crate::judge::judge;
 use crate::load::load;
 use crate::lookup::lookup;
 use crate::read::read;
-use crate::screen::{degrees, shifts};
 use crate::write::write;
-use interface::Calls;
-use interface::layout::*;
+use interface::{Answers, Entry, Fix, Group, Part, Refusal, Screen};
+use reference::Reference;
 
 /// Plain Rust as a back end.
 pub struct Plain;
 
-const TOO_SHORT: u64 = 12;
-
-/// Fills the place and the numbers behind it.
-fn fill<const N: usize>(result: Result<[i64; N], Refusal>, answer: &mut [i64]) -> u64 {
-    let (number, place, numbers) = match result {
-        Ok(numbers) => (0, 0, numbers),
-        Err((number, place)) => (number, place, [0; N]),
-    };
-    answer[PLACE] = place;
-    answer[1..=N].copy_from_slice(&numbers);
-    number
-}
-
-impl Calls for Plain {
-    fn judge(&self, group: &[i64], names: &[u8], answer: &mut [i64]) -> u64 {
-        if answer.len() < PLACE_NUMBERS {
-            return TOO_SHORT;
-        }
-        fill(judge(&Group::new(group, names)).map(|_| []), answer)
+impl Answers for Plain {
+    fn judge(&self, group: &Group) -> Result<(), Refusal> {
+        judge(group).map(|_| ())
     }
 
-    fn read_header(&self, text: &[u8], group: &mut [i64], names: &mut [u8], answer: &mut [i64]) -> u64 {
-        if group.len() < GROUP_NUMBERS || names.len() < GROUP_NAMES || answer.len() < PLACE_NUMBERS {
-            return TOO_SHORT;
-        }
-        let (group, names) = (&mut group[..GROUP_NUMBERS], &mut names[..GROUP_NAMES]);
-        let result = read(text).map(|found| {
-            group.copy_from_slice(&found.numbers);
-            names.copy_from_slice(&found.names);
-            []
-        });
-        if result.is_err() {
-            group.fill(0);
-            names.fill(0);
-        }
-        fill(result, answer)
+    fn read_header(&self, text: &[u8]) -> Result<Group, Refusal> {
+        read(text)
     }
 
-    fn write_header(&self, group: &[i64], names: &[u8], out: &mut [u8], answer: &mut [i64]) -> u64 {
-        if answer.len() < WRITE_NUMBERS {
-            return TOO_SHORT;
-        }
-        fill(write(&Group::new(group, names), out).map(|count| [count]), answer)
+    fn write_header(&self, group: &Group, out: &mut [u8]) -> Result<u64, Refusal> {
+        write(group, out)
     }
 
-    fn field(&self, line: &[u8], number: u64, answer: &mut [i64]) -> u64 {
-        if answer.len() < FIELD_NUMBERS {
-            return TOO_SHORT;
-        }
-        let tab = |from: usize| line[from..].iter().position(|&c| c == b'\t').map(|k| from + k);
-        let (mut from, mut left) = (0, number);
-        while left > 0 {
-            match tab(from) {
-                Some(at) => from = at + 1,
-                None => return fill(Ok([line.len() as i64; 2]), answer),
-            }
-            left -= 1;
-        }
-        fill(Ok([from as i64, tab(from).unwrap_or(line.len()) as i64]), answer)
+    fn field(&self, line: &[u8], number: u64) -> Part {
+        Reference.field(line, number)
     }
 
-    fn lookup(
-        &self,
-        group: &[i64],
-        names: &[u8],
-        nodes: &[i32],
-        lon: i64,
-        lat: i64,
-        day: i64,
-        answer: &mut [i64],
-    ) -> u64 {
-        if answer.len() < LOOKUP_NUMBERS {
-            return TOO_SHORT;
-        }
-        fill(lookup(&Group::new(group, names), nodes, [lon, lat, day]), answer)
+    fn lookup(&self, group: &Group, nodes: &[i32], lon: i64, lat: i64, day: i64) -> Result<Fix, Refusal> {
+        lookup(group, nodes, lon, lat, day)
     }
 
     fn grids_in_force(
         &self,
-        group: &[i64],
-        names: &[u8],
+        group: &Group,
         west: i64,
         east: i64,
         south: i64,
         north: i64,
-        answer: &mut [i64],
-    ) -> u64 {
-        if answer.len() < IN_FORCE_NUMBERS {
-            return TOO_SHORT;
-        }
-        let list = in_force(&Group::new(group, names), Sides { west, east, south, north });
-        let flat = list.map(|list| {
-            let mut numbers = [0; IN_FORCE_NUMBERS - 1];
-            numbers[0] = list.len() as i64;
-            numbers[1..=ENTRY_NUMBERS * list.len()].copy_from_slice(list.as_flattened());
-            numbers
-        });
-        fill(flat, answer)
+    ) -> Result<Vec<Entry>, Refusal> {
+        in_force(group, Sides { west, east, south, north })
     }
 
-    fn load_nodes(&self, floats: &[f32], flag: f32, quantum: u64, nodes: &mut [i32], answer: &mut [i64]) -> u64 {
-        if answer.len() < PLACE_NUMBERS {
-            return TOO_SHORT;
-        }
-        fill(load(floats, flag, quantum, nodes).map(|()| []), answer)
+    fn load_nodes(&self, floats: &[f32], flag: f32, quantum: i64, nodes: &mut [i32]) -> Result<(), Refusal> {
+        load(floats, flag, quantum, nodes)
     }
 
-    fn screen_answer(
-        &self,
-        quantum: u64,
-        parameters: u64,
-        number: u64,
-        found: &[i64],
-        out: &mut [f64],
-        answer: &mut [i64],
-    ) -> u64 {
-        if out.len() < SHIFTS || answer.len() < PLACE_NUMBERS {
-            return TOO_SHORT;
-        }
-        let result = shifts(quantum, parameters, number, found);
-        out[..SHIFTS].copy_from_slice(&result.unwrap_or_default());
-        fill(result.map(|_| []), answer)
+    fn screen_answer(&self, quantum: i64, parameters: i64, found: Result<Fix, Refusal>) -> Result<[f64; 3], Refusal> {
+        Reference.screen_answer(quantum, parameters, found)
     }
 
     fn screen_record(
         &self,
         lon: i64,
         lat: i64,
-        quantum: u64,
-        parameters: u64,
-        number: u64,
-        found: &[i64],
-        screen: &mut [f64],
-        answer: &mut [i64],
-    ) -> u64 {
-        if screen.len() < SCREEN_FLOATS || answer.len() < PLACE_NUMBERS {
-            return TOO_SHORT;
-        }
-        let result = shifts(quantum, parameters, number, found);
-        let shown = result.map_or([0.0; SCREEN_FLOATS], |[a, b, c]| [degrees(lon), degrees(lat), a, b, c]);
-        screen[..SCREEN_FLOATS].copy_from_slice(&shown);
-        fill(result.map(|_| []), answer)
+        quantum: i64,
+        parameters: i64,
+        found: Result<Fix, Refusal>,
+    ) -> Result<Screen, Refusal> {
+        Reference.screen_record(lon, lat, quantum, parameters, found)
     }
 }

@@ -1,10 +1,8 @@
 //! Grids in force: for each grid the first of its coordinates in the area that no better grid holds.
 
-use crate::group::{Group, Sides};
-use crate::judge::{LATITUDE, LONGITUDE, Refusal, judge, within};
-
-/// A grid's number, longitude and latitude.
-type Entry = [i64; 3];
+use crate::group::Sides;
+use crate::judge::{LATITUDE, LONGITUDE, judge, refusal, within};
+use interface::{Entry, Group, Refusal};
 
 /// The part of a rectangle in an area, if there is one.
 fn part(sides: &Sides, area: &Sides) -> Option<Sides> {
@@ -46,9 +44,10 @@ pub fn in_force(group: &Group, area: Sides) -> Result<Vec<Entry>, Refusal> {
         && within(area.south, LATITUDE)
         && within(area.north, LATITUDE);
     if !admitted || area.west > area.east || area.south > area.north {
-        return Err((10, 0));
+        return Err(refusal(10, 0));
     }
-    let mut order: Vec<(i64, usize)> = (0..group.grids()).map(|k| (group.grid(k).rank, k)).collect();
+    let grids = &group.grid[..group.grids as usize];
+    let mut order: Vec<(i64, usize)> = grids.iter().enumerate().map(|(k, grid)| (grid.rank, k)).collect();
     order.sort_unstable();
     let mut better: Vec<Sides> = Vec::new();
     let mut list = Vec::new();
@@ -57,7 +56,7 @@ pub fn in_force(group: &Group, area: Sides) -> Result<Vec<Entry>, Refusal> {
         for &(_, k) in same_rank {
             if let Some(rectangle) = part(&sides[k], &area) {
                 if let Some((lon, lat)) = first_free(&rectangle, &better) {
-                    list.push([k as i64 + 1, lon, lat]);
+                    list.push(Entry { grid: k as i64 + 1, lon, lat });
                 }
                 seen.push(rectangle);
             }

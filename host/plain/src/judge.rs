@@ -1,22 +1,23 @@
 //! The judge: limits and refusals 2 to 5.
 
-use crate::group::{Group, Sides};
-use interface::NAME_BYTES;
-use interface::layout::*;
-
-/// A refusal's number and place.
-pub type Refusal = (u64, i64);
+use crate::group::{Sides, end, sides};
+use interface::{Grid, Group, MOST_GRIDS, NAME_BYTES, Name, Ramp, Refusal};
 
 pub const LONGITUDE: i64 = 1_296_000_000;
 pub const LATITUDE: i64 = 324_000_000;
 const NODE_LIST: i64 = 16_777_216;
+
+/// The refusal of this number at this place.
+pub fn refusal(number: u64, place: usize) -> Refusal {
+    Refusal { number, place: place as u64 }
+}
 
 /// Whether x is from -limit to limit.
 pub fn within(x: i64, limit: i64) -> bool {
     -limit <= x && x <= limit
 }
 
-fn between(x: i64, least: i64, greatest: i64) -> bool {
+pub fn between(x: i64, least: i64, greatest: i64) -> bool {
     least <= x && x <= greatest
 }
 
@@ -24,90 +25,84 @@ pub fn name_byte(c: u8) -> bool {
     c.is_ascii_alphanumeric() || c == b'_' || c == b'-'
 }
 
-fn name((bytes, length): (&[u8], i64)) -> bool {
-    between(length, 1, NAME_BYTES as i64) && {
-        let (used, behind) = bytes.split_at(length as usize);
+fn name_within(name: &Name) -> bool {
+    between(name.len, 1, NAME_BYTES as i64) && {
+        let (used, behind) = name.bytes.split_at(name.len as usize);
         used.iter().all(|&c| name_byte(c)) && behind.iter().all(|&c| c == 0)
     }
 }
 
-pub fn head_within([q, np, ramps, grids]: [i64; 4]) -> bool {
-    between(q, 0, 20) && between(np, 1, 3) && between(ramps, 0, 8) && between(grids, 1, 64)
+pub fn head_within(group: &Group) -> bool {
+    between(group.quantum, 0, 20)
+        && between(group.parameters, 1, 3)
+        && between(group.ramps, 0, 8)
+        && between(group.grids, 1, 64)
 }
 
-pub fn ramp_within(&[a, s0, b, s1]: &[i64; 4]) -> bool {
+pub fn ramp_within(&Ramp { a, s0, b, s1 }: &Ramp) -> bool {
     within(a, 1_000_000) && within(b, 1_000_000) && within(s0, 10_000_000) && within(s1, 10_000_000) && a <= b
 }
 
-pub fn grid_within([lon, lat, dlon, dlat, ni, nj, rank, start]: [i64; 8]) -> bool {
-    within(lon, LONGITUDE)
-        && within(lat, LATITUDE)
-        && within(dlon, 1_000_000)
-        && dlon != 0
-        && within(dlat, 1_000_000)
-        && dlat != 0
-        && between(ni, 2, 16_384)
-        && between(nj, 2, 16_384)
-        && between(rank, 1, 1_000)
-        && between(start, 0, NODE_LIST - 1)
+pub fn grid_within(grid: &Grid) -> bool {
+    within(grid.lon, LONGITUDE)
+        && within(grid.lat, LATITUDE)
+        && within(grid.dlon, 1_000_000)
+        && grid.dlon != 0
+        && within(grid.dlat, 1_000_000)
+        && grid.dlat != 0
+        && between(grid.ni, 2, 16_384)
+        && between(grid.nj, 2, 16_384)
+        && between(grid.rank, 1, 1_000)
+        && between(grid.start, 0, NODE_LIST - 1)
 }
 
-/// Refusal 2 of a record.
+/// Refusal 2 of a group.
 fn limits(group: &Group) -> Result<(), Refusal> {
-    let n = &group.numbers;
-    let head = [n[QUANTUM], n[PARAMETERS], n[RAMPS], n[GRIDS]];
-    if !name(group.name(0)) || !between(n[UNIT], 0, 1) || !head_within(head) {
-        return Err((2, 1));
+    if !name_within(&group.name) || !between(group.unit, 0, 1) || !head_within(group) {
+        return Err(refusal(2, 1));
     }
-    let (ramps, grids) = (n[RAMPS] as usize, group.grids());
-    let unused = n[RAMP + ramps * RAMP_NUMBERS..GRID].iter().any(|&x| x != 0)
-        || n[GRID + grids * GRID_NUMBERS..].iter().any(|&x| x != 0)
-        || group.names[(grids + 1) * NAME_BYTES..].iter().any(|&c| c != 0);
-    if unused {
-        return Err((2, 1));
+    let (ramps, unused_ramps) = group.ramp.split_at(group.ramps as usize);
+    let (grids, unused_grids) = group.grid.split_at(group.grids as usize);
+    if unused_ramps.iter().any(|r| *r != Ramp::default()) || unused_grids.iter().any(|g| *g != Grid::default()) {
+        return Err(refusal(2, 1));
     }
-    if let Some(k) = group.ramps().iter().position(|r| !ramp_within(r)) {
-        return Err((2, 2 + k as i64));
+    if let Some(k) = ramps.iter().position(|r| !ramp_within(r)) {
+        return Err(refusal(2, 2 + k));
     }
-    for k in 0..grids {
-        let at = GRID + k * GRID_NUMBERS + 1;
-        let numbers = n[at..at + 8].try_into().expect("eight numbers");
-        if !name(group.name(k + 1)) || !grid_within(numbers) {
-            return Err((2, 2 + (ramps + k) as i64));
-        }
+    match grids.iter().position(|g| !name_within(&g.name) || !grid_within(g)) {
+        Some(k) => Err(refusal(2, 2 + ramps.len() + k)),
+        None => Ok(()),
     }
-    Ok(())
 }
 
 /// Refusals 3 to 5 of a group within its limits; the sides of its grids.
-pub fn sound(group: &Group) -> Result<[Sides; 64], Refusal> {
-    let grids = group.grids();
-    for k in 1..grids {
-        if (0..k).any(|j| group.name(j + 1) == group.name(k + 1)) {
-            return Err((3, k as i64 + 1));
+pub fn sound(group: &Group) -> Result<[Sides; MOST_GRIDS], Refusal> {
+    let grids = &group.grid[..group.grids as usize];
+    for (k, grid) in grids.iter().enumerate() {
+        if grids[..k].iter().any(|earlier| earlier.name == grid.name) {
+            return Err(refusal(3, k + 1));
         }
     }
-    let mut sides = [Sides::default(); 64];
-    let mut ranks = [0; 64];
-    for k in 0..grids {
-        let grid = group.grid(k);
-        let s = grid.sides();
+    let mut all = [Sides::default(); MOST_GRIDS];
+    let mut ranks = [0; MOST_GRIDS];
+    for (k, grid) in grids.iter().enumerate() {
+        let s = sides(grid);
         let inside = -LONGITUDE <= s.west && s.east <= LONGITUDE && -LATITUDE <= s.south && s.north <= LATITUDE;
-        if !inside || grid.end(group.numbers[PARAMETERS]) > NODE_LIST {
-            return Err((4, k as i64 + 1));
+        if !inside || end(grid, group.parameters) > NODE_LIST {
+            return Err(refusal(4, k + 1));
         }
-        (sides[k], ranks[k]) = (s, grid.rank);
+        (all[k], ranks[k]) = (s, grid.rank);
     }
-    for k in 1..grids {
-        if (0..k).any(|j| ranks[j] == ranks[k] && sides[j].meets(&sides[k])) {
-            return Err((5, k as i64 + 1));
+    for k in 1..grids.len() {
+        if (0..k).any(|j| ranks[j] == ranks[k] && all[j].meets(&all[k])) {
+            return Err(refusal(5, k + 1));
         }
     }
-    Ok(sides)
+    Ok(all)
 }
 
 /// Judges a group; the sides of its grids.
-pub fn judge(group: &Group) -> Result<[Sides; 64], Refusal> {
+pub fn judge(group: &Group) -> Result<[Sides; MOST_GRIDS], Refusal> {
     limits(group)?;
     sound(group)
 }

@@ -8,7 +8,6 @@ mod load;
 mod lookup;
 mod read;
 mod round;
-mod screen;
 mod write;
 
 pub use back_end::Plain;

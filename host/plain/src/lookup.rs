@@ -1,11 +1,9 @@
 //! The lookup of a point on a day.
 
-use crate::group::Group;
-use crate::judge::{LATITUDE, LONGITUDE, Refusal, judge, within};
+use crate::group::end;
+use crate::judge::{LATITUDE, LONGITUDE, judge, refusal, within};
 use crate::round::nearest;
-use interface::layout::*;
-
-const MARK: i32 = i32::MIN;
+use interface::{Fix, Group, MARK, Ramp, Refusal};
 
 /// Cell index and distance from its lower node along an axis.
 fn cell(from: i64, spacing: i64, count: i64, at: i64) -> (i64, i64) {
@@ -15,8 +13,8 @@ fn cell(from: i64, spacing: i64, count: i64, at: i64) -> (i64, i64) {
 }
 
 /// The sum of the ramps' factors on a day.
-fn factor(ramps: &[[i64; 4]], day: i64) -> i64 {
-    let of = |&[a, s0, b, s1]: &[i64; 4]| {
+fn factor(ramps: &[Ramp], day: i64) -> i64 {
+    let of = |&Ramp { a, s0, b, s1 }: &Ramp| {
         if day >= b {
             s1
         } else if day <= a {
@@ -29,27 +27,26 @@ fn factor(ramps: &[[i64; 4]], day: i64) -> i64 {
 }
 
 /// The chosen grid's number and three results.
-pub fn lookup(group: &Group, nodes: &[i32], [lon, lat, day]: [i64; 3]) -> Result<[i64; 4], Refusal> {
+pub fn lookup(group: &Group, nodes: &[i32], lon: i64, lat: i64, day: i64) -> Result<Fix, Refusal> {
     let sides = judge(group)?;
     if !within(lon, LONGITUDE) || !within(lat, LATITUDE) {
-        return Err((6, 0));
+        return Err(refusal(6, 0));
     }
     if !within(day, 1_000_000) {
-        return Err((9, 0));
+        return Err(refusal(9, 0));
     }
-    let parameters = group.numbers[PARAMETERS];
+    let parameters = group.parameters;
     let (mut chosen, mut best) = (None, i64::MAX);
-    for (k, side) in sides.iter().enumerate().take(group.grids()) {
-        let grid = group.grid(k);
-        if grid.end(parameters) > nodes.len() as i64 {
-            return Err((13, k as i64 + 1));
+    for (k, grid) in group.grid[..group.grids as usize].iter().enumerate() {
+        if end(grid, parameters) > nodes.len() as i64 {
+            return Err(refusal(13, k + 1));
         }
-        if grid.rank < best && side.holds(lon, lat) {
+        if grid.rank < best && sides[k].holds(lon, lat) {
             (chosen, best) = (Some(k), grid.rank);
         }
     }
-    let k = chosen.ok_or((7, 0))?;
-    let grid = group.grid(k);
+    let k = chosen.ok_or(refusal(7, 0))?;
+    let grid = &group.grid[k];
     let (i, fx) = cell(grid.lon, grid.dlon, grid.ni, lon);
     let (j, fy) = cell(grid.lat, grid.dlat, grid.nj, lat);
     let (sx, sy) = (grid.dlon.abs(), grid.dlat.abs());
@@ -63,17 +60,17 @@ pub fn lookup(group: &Group, nodes: &[i32], [lon, lat, day]: [i64; 3]) -> Result
     ];
     let used = || corners.iter().filter(|&&(_, weight)| weight != 0).flat_map(|&(at, _)| &nodes[at..at + np]);
     if used().any(|&v| v == MARK) {
-        return Err((8, 0));
+        return Err(refusal(8, 0));
     }
     if used().any(|&v| !within(i64::from(v), 4_000_000)) {
-        return Err((11, 0));
+        return Err(refusal(11, 0));
     }
-    let factor = factor(group.ramps(), day);
-    let mut answer = [k as i64 + 1, 0, 0, 0];
+    let factor = factor(&group.ramp[..group.ramps as usize], day);
+    let mut fix = Fix { grid: k as i64 + 1, result: [0; 3] };
     for p in 0..np {
         let sum: i64 =
             corners.iter().map(|&(at, weight)| if weight == 0 { 0 } else { weight * i64::from(nodes[at + p]) }).sum();
-        answer[1 + p] = nearest(nearest(sum, sx * sy) * factor, 1_000_000);
+        fix.result[p] = nearest(nearest(sum, sx * sy) * factor, 1_000_000);
     }
-    Ok(answer)
+    Ok(fix)
 }

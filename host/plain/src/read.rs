@@ -1,9 +1,7 @@
 //! The reader of a header text.
 
-use crate::group::Group;
-use crate::judge::{Refusal, grid_within, head_within, name_byte, ramp_within, sound};
-use interface::NAME_BYTES;
-use interface::layout::*;
+use crate::judge::{grid_within, head_within, name_byte, ramp_within, refusal, sound};
+use interface::{Grid, Group, NAME_BYTES, Name, Ramp, Refusal};
 
 /// Why a line is not taken: its form (1) or a limit (2).
 type Fault = u64;
@@ -44,14 +42,12 @@ impl<'a> Fields<'a> {
         if self.rest.is_none() { Ok(numbers) } else { Err(FORM) }
     }
 
-    /// Copies a name into its bytes and answers its length.
-    fn name(&mut self, bytes: &mut [u8]) -> Result<i64, Fault> {
+    fn name(&mut self) -> Result<Name, Fault> {
         let name = self.next()?;
         if name.is_empty() || name.len() > NAME_BYTES || !name.iter().all(|&c| name_byte(c)) {
             return Err(FORM);
         }
-        bytes[..name.len()].copy_from_slice(name);
-        Ok(name.len() as i64)
+        Ok(Name::new(name))
     }
 }
 
@@ -74,56 +70,65 @@ fn decimal(field: &[u8]) -> Result<i64, Fault> {
     Ok(if below { -size } else { size })
 }
 
-fn group_line(fields: &mut Fields, group: &mut Group) -> Result<(), Fault> {
+/// A line's value, if its numbers are within their limits.
+fn admitted<T>(value: T, within: impl Fn(&T) -> bool) -> Result<T, Fault> {
+    if within(&value) { Ok(value) } else { Err(LIMIT) }
+}
+
+fn group_line(mut fields: Fields) -> Result<Group, Fault> {
     fields.word(b"group")?;
-    group.numbers[NAME_LENGTH] = fields.name(&mut group.names[..NAME_BYTES])?;
-    group.numbers[UNIT] = match fields.next()? {
+    let name = fields.name()?;
+    let unit = match fields.next()? {
         b"arc-second" => 0,
         b"metre" => 1,
         _ => return Err(FORM),
     };
-    let head = fields.numbers()?;
-    group.numbers[QUANTUM..=GRIDS].copy_from_slice(&head);
-    if head_within(head) { Ok(()) } else { Err(LIMIT) }
+    let [quantum, parameters, ramps, grids] = fields.numbers()?;
+    admitted(Group { name, unit, quantum, parameters, ramps, grids, ..Group::default() }, head_within)
 }
 
-fn ramp_line(fields: &mut Fields, group: &mut Group, k: usize) -> Result<(), Fault> {
+fn ramp_line(mut fields: Fields) -> Result<Ramp, Fault> {
     fields.word(b"ramp")?;
-    let ramp = fields.numbers()?;
-    group.numbers[RAMP + k * RAMP_NUMBERS..][..RAMP_NUMBERS].copy_from_slice(&ramp);
-    if ramp_within(&ramp) { Ok(()) } else { Err(LIMIT) }
+    let [a, s0, b, s1] = fields.numbers()?;
+    admitted(Ramp { a, s0, b, s1 }, ramp_within)
 }
 
-fn grid_line(fields: &mut Fields, group: &mut Group, k: usize) -> Result<(), Fault> {
+fn grid_line(mut fields: Fields) -> Result<Grid, Fault> {
     fields.word(b"grid")?;
-    let at = GRID + k * GRID_NUMBERS;
-    group.numbers[at] = fields.name(&mut group.names[(k + 1) * NAME_BYTES..(k + 2) * NAME_BYTES])?;
-    let grid = fields.numbers()?;
-    group.numbers[at + 1..at + GRID_NUMBERS].copy_from_slice(&grid);
-    if grid_within(grid) { Ok(()) } else { Err(LIMIT) }
+    let name = fields.name()?;
+    let [lon, lat, dlon, dlat, ni, nj, rank, start] = fields.numbers()?;
+    admitted(Grid { name, lon, lat, dlon, dlat, ni, nj, rank, start }, grid_within)
+}
+
+/// The lines of a text that are not read yet.
+struct Lines<'a> {
+    rest: &'a [u8],
+    number: usize,
+}
+
+impl<'a> Lines<'a> {
+    /// Reads the next line.
+    fn next<T>(&mut self, line: impl Fn(Fields<'a>) -> Result<T, Fault>) -> Result<T, Refusal> {
+        self.number += 1;
+        let end = self.rest.iter().position(|&c| c == b'\n').ok_or(refusal(FORM, self.number))?;
+        let fields = Fields { rest: Some(&self.rest[..end]) };
+        self.rest = &self.rest[end + 1..];
+        line(fields).map_err(|fault| refusal(fault, self.number))
+    }
 }
 
 /// Reads a header text.
 pub fn read(text: &[u8]) -> Result<Group, Refusal> {
-    let mut group = Group::new(&[], &[]);
-    let (mut rest, mut line, mut lines) = (text, 0, 1);
-    while line < lines {
-        let place = line as i64 + 1;
-        let end = rest.iter().position(|&c| c == b'\n').ok_or((FORM, place))?;
-        let mut fields = Fields { rest: Some(&rest[..end]) };
-        let ramps = group.numbers[RAMPS] as usize;
-        let read = match line {
-            0 => group_line(&mut fields, &mut group),
-            k if k <= ramps => ramp_line(&mut fields, &mut group, k - 1),
-            k => grid_line(&mut fields, &mut group, k - 1 - ramps),
-        };
-        read.map_err(|fault| (fault, place))?;
-        rest = &rest[end + 1..];
-        line += 1;
-        lines = 1 + (group.numbers[RAMPS] + group.numbers[GRIDS]) as usize;
+    let mut lines = Lines { rest: text, number: 0 };
+    let mut group = lines.next(group_line)?;
+    for ramp in &mut group.ramp[..group.ramps as usize] {
+        *ramp = lines.next(ramp_line)?;
     }
-    if !rest.is_empty() {
-        return Err((FORM, line as i64 + 1));
+    for grid in &mut group.grid[..group.grids as usize] {
+        *grid = lines.next(grid_line)?;
+    }
+    if !lines.rest.is_empty() {
+        return Err(refusal(FORM, lines.number + 1));
     }
     sound(&group)?;
     Ok(group)

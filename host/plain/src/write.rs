@@ -1,12 +1,14 @@
 //! The writer of a header text.
 
-use crate::group::Group;
-use crate::judge::{Refusal, judge};
-use interface::layout::*;
+use crate::judge::{judge, refusal};
+use interface::{Group, Name, Refusal};
+
+/// No accepted group has a longer header text.
+const LONGEST: usize = 6_604;
 
 /// Header text in a buffer that holds the longest.
 struct Text {
-    bytes: [u8; HEADER_BYTES],
+    bytes: [u8; LONGEST],
     len: usize,
 }
 
@@ -16,9 +18,9 @@ impl Text {
         self.len += bytes.len();
     }
 
-    fn name(&mut self, (bytes, length): (&[u8], i64)) {
+    fn name(&mut self, name: &Name) {
         self.put(b"\t");
-        self.put(&bytes[..length as usize]);
+        self.put(name.text());
     }
 
     fn numbers(&mut self, numbers: &[i64]) {
@@ -41,26 +43,25 @@ impl Text {
 }
 
 /// Writes the header of a group into `out` and answers the count of bytes.
-pub fn write(group: &Group, out: &mut [u8]) -> Result<i64, Refusal> {
+pub fn write(group: &Group, out: &mut [u8]) -> Result<u64, Refusal> {
     judge(group)?;
-    let mut text = Text { bytes: [0; HEADER_BYTES], len: 0 };
+    let mut text = Text { bytes: [0; LONGEST], len: 0 };
     text.put(b"group");
-    text.name(group.name(0));
-    text.put(if group.numbers[UNIT] == 0 { b"\tarc-second" } else { b"\tmetre" });
-    text.numbers(&group.numbers[QUANTUM..=GRIDS]);
-    for ramp in group.ramps() {
+    text.name(&group.name);
+    text.put(if group.unit == 0 { b"\tarc-second" } else { b"\tmetre" });
+    text.numbers(&[group.quantum, group.parameters, group.ramps, group.grids]);
+    for r in &group.ramp[..group.ramps as usize] {
         text.put(b"ramp");
-        text.numbers(ramp);
+        text.numbers(&[r.a, r.s0, r.b, r.s1]);
     }
-    for k in 0..group.grids() {
-        let at = GRID + k * GRID_NUMBERS;
+    for g in &group.grid[..group.grids as usize] {
         text.put(b"grid");
-        text.name(group.name(k + 1));
-        text.numbers(&group.numbers[at + 1..at + GRID_NUMBERS]);
+        text.name(&g.name);
+        text.numbers(&[g.lon, g.lat, g.dlon, g.dlat, g.ni, g.nj, g.rank, g.start]);
     }
     if out.len() < text.len {
-        return Err((12, 0));
+        return Err(refusal(12, 0));
     }
     out[..text.len].copy_from_slice(&text.bytes[..text.len]);
-    Ok(text.len as i64)
+    Ok(text.len as u64)
 }

@@ -3,8 +3,8 @@
 use crate::geometry::{chosen, extent, grids};
 use crate::judge::judge;
 use crate::limits;
-use crate::refusal::{Refusal, refuse};
-use interface::{Grid, Record};
+use crate::refusal::refuse;
+use interface::{Entry, Grid, Group, Refusal};
 
 /// An area by its sides, in milliarcseconds, sides included.
 #[derive(Clone, Copy, Debug)]
@@ -15,16 +15,8 @@ pub struct Area {
     pub north: i64,
 }
 
-/// A grid in force: its number, from 1, and the southmost, then westmost coordinate at which it is chosen.
-#[derive(Clone, Copy, Debug, PartialEq, Eq)]
-pub struct InForce {
-    pub grid: u64,
-    pub lon: i64,
-    pub lat: i64,
-}
-
 /// The grids in force, by rank and then by number: refusals 2 to 5, then 10.
-pub fn grids_in_force(record: &Record, area: Area) -> Result<Vec<InForce>, Refusal> {
+pub fn grids_in_force(record: &Group, area: Area) -> Result<Vec<Entry>, Refusal> {
     judge(record)?;
     let [west, east, south, north] = [area.west, area.east, area.south, area.north].map(i128::from);
     let sides =
@@ -37,7 +29,7 @@ pub fn grids_in_force(record: &Record, area: Area) -> Result<Vec<InForce>, Refus
 
 /// Looks only at longitudes and latitudes where some grid or the area begins, or just past where a grid ends:
 /// between two neighbours of these the choice is the same all along.
-pub fn by_compression(grids: &[Grid], area: Area) -> Vec<InForce> {
+pub fn by_compression(grids: &[Grid], area: Area) -> Vec<Entry> {
     let extents: Vec<_> = grids.iter().map(extent).collect();
     let cuts = |from: i64, to: i64, edges: Vec<i128>| {
         let mut all: Vec<i64> = edges.into_iter().map(|e| e as i64).filter(|&e| from < e && e <= to).collect();
@@ -52,21 +44,21 @@ pub fn by_compression(grids: &[Grid], area: Area) -> Vec<InForce> {
 }
 
 /// Looks at every coordinate of the area.
-pub fn by_every_coordinate(grids: &[Grid], area: Area) -> Vec<InForce> {
+pub fn by_every_coordinate(grids: &[Grid], area: Area) -> Vec<Entry> {
     listed(grids, area.west..=area.east, area.south..=area.north)
 }
 
 /// The grids chosen at some of these longitudes and latitudes, both rising, each with the first such coordinate.
-fn listed(grids: &[Grid], lons: impl Iterator<Item = i64> + Clone, lats: impl Iterator<Item = i64>) -> Vec<InForce> {
-    let mut first: Vec<Option<InForce>> = vec![None; grids.len()];
+fn listed(grids: &[Grid], lons: impl Iterator<Item = i64> + Clone, lats: impl Iterator<Item = i64>) -> Vec<Entry> {
+    let mut first: Vec<Option<Entry>> = vec![None; grids.len()];
     for lat in lats {
         for lon in lons.clone() {
             if let Some(k) = chosen(grids, i128::from(lon), i128::from(lat)) {
-                first[k].get_or_insert(InForce { grid: k as u64 + 1, lon, lat });
+                first[k].get_or_insert(Entry { grid: k as i64 + 1, lon, lat });
             }
         }
     }
-    let mut list: Vec<InForce> = first.into_iter().flatten().collect();
+    let mut list: Vec<Entry> = first.into_iter().flatten().collect();
     list.sort_by_key(|entry| (grids[entry.grid as usize - 1].rank, entry.grid));
     list
 }

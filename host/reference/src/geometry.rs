@@ -1,6 +1,6 @@
 //! Extents of grids and the ranges of their nodes.
 
-use interface::{Grid, Record};
+use interface::{Grid, Group};
 
 /// A rectangle of whole coordinates, sides included.
 #[derive(Clone, Copy, Debug, PartialEq, Eq)]
@@ -42,7 +42,7 @@ pub fn range_end(g: &Grid, parameters: i64) -> i128 {
 }
 
 /// The counted grids of an accepted group.
-pub fn grids(record: &Record) -> &[Grid] {
+pub fn grids(record: &Group) -> &[Grid] {
     &record.grid[..record.grids as usize]
 }
 

@@ -2,9 +2,9 @@
 
 use crate::judge::{judge, sound};
 use crate::limits;
-use crate::refusal::{Refusal, refuse};
+use crate::refusal::refuse;
 use crate::text::decimal;
-use interface::{Grid, Name, Ramp, Record};
+use interface::{Grid, Group, Name, Ramp, Refusal};
 
 /// Why a line is not taken.
 enum Fault {
@@ -50,7 +50,7 @@ fn within<T>(admitted: bool, value: impl FnOnce() -> T) -> Result<T, Fault> {
 }
 
 /// `group` NAME UNIT Q NP ramps grids.
-fn group_line(fields: &[&[u8]]) -> Result<Record, Fault> {
+fn group_line(fields: &[&[u8]]) -> Result<Group, Fault> {
     let [b"group", text, unit, rest @ ..] = fields else { return Err(Fault::Form) };
     let name = name(text)?;
     let unit = match *unit {
@@ -59,14 +59,14 @@ fn group_line(fields: &[&[u8]]) -> Result<Record, Fault> {
         _ => return Err(Fault::Form),
     };
     let [q, np, ramps, grids] = numbers(rest)?;
-    within(limits::head(q, np, ramps, grids), || Record {
+    within(limits::head(q, np, ramps, grids), || Group {
         name,
         unit,
         quantum: q as i64,
         parameters: np as i64,
         ramps: ramps as i64,
         grids: grids as i64,
-        ..Record::default()
+        ..Group::default()
     })
 }
 
@@ -92,7 +92,7 @@ fn grid_line(fields: &[&[u8]]) -> Result<Grid, Fault> {
 }
 
 /// Reads a whole header: refusals 1 and 2 line by line, then 3, 4, 5.
-pub fn read_header(text: &[u8]) -> Result<Record, Refusal> {
+pub fn read_header(text: &[u8]) -> Result<Group, Refusal> {
     let mut lines = Lines { rest: text, number: 0 };
     let mut record = lines.read(group_line)?;
     for k in 0..record.ramps as usize {
@@ -109,7 +109,7 @@ pub fn read_header(text: &[u8]) -> Result<Record, Refusal> {
 }
 
 /// The header text of an accepted record.
-fn header_text(record: &Record) -> Vec<u8> {
+fn header_text(record: &Group) -> Vec<u8> {
     let shown = |name: &Name| String::from_utf8_lossy(name.text()).into_owned();
     let unit = if record.unit == 0 { "arc-second" } else { "metre" };
     let mut text = format!(
@@ -131,7 +131,7 @@ fn header_text(record: &Record) -> Vec<u8> {
 }
 
 /// Writes the record's header into `out` and answers the count of bytes: refusals 2 to 5, then 12.
-pub fn write_header(record: &Record, out: &mut [u8]) -> Result<usize, Refusal> {
+pub fn write_header(record: &Group, out: &mut [u8]) -> Result<usize, Refusal> {
     judge(record)?;
     let text = header_text(record);
     match out.get_mut(..text.len()) {

@@ -2,17 +2,17 @@
 
 use crate::geometry::{extent, far_edge, range_end};
 use crate::limits;
-use crate::refusal::{Refusal, refuse};
-use interface::{Grid, Ramp, Record};
+use crate::refusal::refuse;
+use interface::{Grid, Group, Ramp, Refusal};
 
 /// Accepts the record, or refuses it as its text would be refused.
-pub fn judge(record: &Record) -> Result<(), Refusal> {
+pub fn judge(record: &Group) -> Result<(), Refusal> {
     limits_of_record(record)?;
     sound(record)
 }
 
 /// Refusal 2: the least place at which the record breaks a limit.
-fn limits_of_record(record: &Record) -> Result<(), Refusal> {
+fn limits_of_record(record: &Group) -> Result<(), Refusal> {
     let (ramps, grids) = (i128::from(record.ramps), i128::from(record.grids));
     let head = limits::name(&record.name)
         && (0..=1).contains(&record.unit)
@@ -36,7 +36,7 @@ fn limits_of_record(record: &Record) -> Result<(), Refusal> {
 }
 
 /// Refusals 3 to 5 of a record within its limits: each over all grids before the next.
-pub fn sound(record: &Record) -> Result<(), Refusal> {
+pub fn sound(record: &Group) -> Result<(), Refusal> {
     let grids = &record.grid[..record.grids as usize];
     let named_earlier = |k: usize| grids[..k].iter().any(|g| g.name.text() == grids[k].name.text());
     let too_far = |k: usize| {

@@ -1,14 +1,15 @@
 //! The admitted ranges of document 01's table 'Numbers', each as a test of one number.
 
 use interface::{Grid, Name, Ramp};
+use std::ops::RangeInclusive;
 
 pub const LONGITUDE: i128 = 1_296_000_000;
 pub const LATITUDE: i128 = 324_000_000;
 pub const DAY: i128 = 1_000_000;
 pub const NODE: i128 = 4_000_000;
-pub const MARK: i32 = -2_147_483_648;
 pub const NODE_LIST: i128 = 16_777_216;
-pub const QUANTUM: i128 = 20;
+/// The numbers of the table of refusals.
+pub const REFUSALS: RangeInclusive<u64> = 1..=13;
 
 const SPACING: i128 = 1_000_000;
 const FACTOR: i128 = 10_000_000;
@@ -25,12 +26,17 @@ pub fn day(t: i128) -> bool {
     (-DAY..=DAY).contains(&t)
 }
 
+pub fn quantum(q: i128) -> bool {
+    (0..=20).contains(&q)
+}
+
+pub fn parameters(np: i128) -> bool {
+    (1..=3).contains(&np)
+}
+
 /// Whether the four numbers of a group line stand in their limits: Q, NP, ramps, grids.
-pub fn head(quantum: i128, parameters: i128, ramps: i128, grids: i128) -> bool {
-    (0..=QUANTUM).contains(&quantum)
-        && (1..=3).contains(&parameters)
-        && (0..=8).contains(&ramps)
-        && (1..=64).contains(&grids)
+pub fn head(q: i128, np: i128, ramps: i128, grids: i128) -> bool {
+    quantum(q) && parameters(np) && (0..=8).contains(&ramps) && (1..=64).contains(&grids)
 }
 
 /// Whether the four numbers of a ramp line stand in their limits, and A not above B.

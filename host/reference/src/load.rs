@@ -1,8 +1,9 @@
 //! Loading: 32-bit floats to nodes in steps, by exact fractions.
 
 use crate::limits;
-use crate::refusal::{Refusal, refuse};
+use crate::refusal::refuse;
 use crate::rounding::nearest_even;
+use interface::{MARK, Refusal};
 
 /// A finite float as an exact product: whole digits times 2 to a power.
 struct Exact {
@@ -19,7 +20,7 @@ fn exact(x: f32) -> Exact {
 }
 
 /// The float times 2 to the power `quantum`, rounded; `None` if that is beyond the limit of a node value.
-fn rounded(x: f32, quantum: u64) -> Option<i32> {
+fn rounded(x: f32, quantum: i64) -> Option<i32> {
     if x.is_infinite() {
         return None;
     }
@@ -34,13 +35,13 @@ fn rounded(x: f32, quantum: u64) -> Option<i32> {
 }
 
 /// The node of one float; `None` if it is refused.
-fn node(x: f32, flag: f32, quantum: u64) -> Option<i32> {
-    if x.is_nan() || x.to_bits() == flag.to_bits() { Some(limits::MARK) } else { rounded(x, quantum) }
+fn node(x: f32, flag: f32, quantum: i64) -> Option<i32> {
+    if x.is_nan() || x.to_bits() == flag.to_bits() { Some(MARK) } else { rounded(x, quantum) }
 }
 
 /// Loads the floats into `nodes`: refusals 2 (Q), 12, 11.
-pub fn load_nodes(floats: &[f32], flag: f32, quantum: u64, nodes: &mut [i32]) -> Result<(), Refusal> {
-    if i128::from(quantum) > limits::QUANTUM {
+pub fn load_nodes(floats: &[f32], flag: f32, quantum: i64, nodes: &mut [i32]) -> Result<(), Refusal> {
+    if !limits::quantum(i128::from(quantum)) {
         return refuse(2, 0);
     }
     if floats.len() != nodes.len() {

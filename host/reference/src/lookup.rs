@@ -3,9 +3,9 @@
 use crate::geometry::{chosen, grids, range_end};
 use crate::judge::judge;
 use crate::limits;
-use crate::refusal::{Refusal, refuse};
+use crate::refusal::refuse;
 use crate::rounding::nearest_even;
-use interface::{Grid, Ramp, Record};
+use interface::{Fix, Grid, Group, MARK, Ramp, Refusal};
 
 /// A point in milliarcseconds and a day.
 #[derive(Clone, Copy, Debug)]
@@ -13,13 +13,6 @@ pub struct Position {
     pub lon: i64,
     pub lat: i64,
     pub day: i64,
-}
-
-/// An accepted lookup: the chosen grid's number, from 1, and the results in steps, 0 for a missing parameter.
-#[derive(Clone, Copy, Debug, PartialEq, Eq)]
-pub struct Fix {
-    pub grid: u64,
-    pub results: [i64; 3],
 }
 
 /// Where a point stands on one axis: the cell's index, the spacing's size, the distance from the cell's lower node.
@@ -73,7 +66,7 @@ pub fn day_factor(ramps: &[Ramp], day: i64) -> i128 {
 }
 
 /// Looks a position up: refusals 2 to 5, then 6, 9, 13, 7, 8, 11.
-pub fn lookup(record: &Record, nodes: &[i32], at: Position) -> Result<Fix, Refusal> {
+pub fn lookup(record: &Group, nodes: &[i32], at: Position) -> Result<Fix, Refusal> {
     judge(record)?;
     let (lon, lat) = (i128::from(at.lon), i128::from(at.lat));
     if !limits::longitude(lon) || !limits::latitude(lat) {
@@ -97,18 +90,18 @@ pub fn lookup(record: &Record, nodes: &[i32], at: Position) -> Result<Fix, Refus
     let any = |test: &dyn Fn(i32) -> bool| {
         corners.iter().any(|&(i, j, _)| (0..record.parameters).any(|p| test(node(i, j, p))))
     };
-    if any(&|v| v == limits::MARK) {
+    if any(&|v| v == MARK) {
         return refuse(8, 0);
     }
     if any(&|v| i128::from(v).abs() > limits::NODE) {
         return refuse(11, 0);
     }
     let factor = day_factor(&record.ramp[..record.ramps as usize], at.day);
-    let mut results = [0; 3];
+    let mut fix = Fix { grid: choice as i64 + 1, result: [0; 3] };
     for p in 0..record.parameters {
         let sum: i128 = corners.iter().map(|&(i, j, w)| w * i128::from(node(i, j, p))).sum();
         let value = nearest_even(sum, x.size * y.size);
-        results[p as usize] = nearest_even(value * factor, 1_000_000) as i64;
+        fix.result[p as usize] = nearest_even(value * factor, 1_000_000) as i64;
     }
-    Ok(Fix { grid: choice as u64 + 1, results })
+    Ok(fix)
 }

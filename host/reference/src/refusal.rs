@@ -1,10 +1,6 @@
-//! A refusal: its number in document 01's table and its place.
+//! A refusal by its number in document 01's table and its place.
 
-#[derive(Clone, Copy, Debug, PartialEq, Eq)]
-pub struct Refusal {
-    pub number: u64,
-    pub place: u64,
-}
+use interface::Refusal;
 
 /// The refusal of this number at this place.
 pub fn refuse<T>(number: u64, place: usize) -> Result<T, Refusal> {

@@ -1,23 +1,22 @@
 //! The marked cases of document 01, M1 to M12 and the others it names.
 
-use interface::{Grid, Name, Ramp, Record};
-use reference::{Area, Fix, InForce, Position, Refusal, day_factor, grids_in_force, judge, load_nodes, lookup};
+use interface::{Entry, Fix, Grid, Group, MARK, Name, Ramp, Refusal};
+use reference::{Area, Position, day_factor, grids_in_force, judge, load_nodes, lookup};
 
-const MARK: i32 = i32::MIN;
 const RAMP: Ramp = Ramp { a: 100, s0: 0, b: 200, s1: 1_000_000 };
 
 fn grid(name: &str, lon: i64, ni: i64, rank: i64) -> Grid {
     Grid { name: Name::new(name.as_bytes()), lon, lat: 0, dlon: 10, dlat: 10, ni, nj: 2, rank, start: 0 }
 }
 
-fn group(grids: &[Grid]) -> Record {
-    let mut record = Record {
+fn group(grids: &[Grid]) -> Group {
+    let mut record = Group {
         name: Name::new(b"dock"),
         unit: 1,
         quantum: 13,
         parameters: 1,
         grids: grids.len() as i64,
-        ..Record::default()
+        ..Group::default()
     };
     record.grid[..grids.len()].copy_from_slice(grids);
     record
@@ -27,7 +26,7 @@ fn group(grids: &[Grid]) -> Record {
 fn basin(nodes: [i32; 6], lon: i64, lat: i64) -> Result<i64, u64> {
     let record = group(&[grid("basin", 0, 3, 1)]);
     match lookup(&record, &nodes, Position { lon, lat, day: 0 }) {
-        Ok(Fix { grid: 1, results: [result, 0, 0] }) => Ok(result),
+        Ok(Fix { grid: 1, result: [result, 0, 0] }) => Ok(result),
         Ok(fix) => panic!("{fix:?}"),
         Err(Refusal { number, place: 0 }) => Err(number),
         Err(refusal) => panic!("{refusal:?}"),
@@ -39,9 +38,9 @@ fn corners(row: [i32; 2]) -> [i32; 6] {
     [row[0], row[1], MARK, row[0], row[1], MARK]
 }
 
-fn in_force(grids: &[Grid], area: Area) -> Vec<(u64, i64, i64)> {
+fn in_force(grids: &[Grid], area: Area) -> Vec<(i64, i64, i64)> {
     let list = grids_in_force(&group(grids), area).expect("an accepted group");
-    list.into_iter().map(|InForce { grid, lon, lat }| (grid, lon, lat)).collect()
+    list.into_iter().map(|Entry { grid, lon, lat }| (grid, lon, lat)).collect()
 }
 
 #[test]

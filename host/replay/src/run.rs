@@ -1,10 +1,9 @@
 //! One case through the calls: the answer, all lent memory, and what differs from the expected.
 
-use crate::lent::{answer, filled, lent};
+use crate::lent::filled;
 use cases::{Case, CaseFile, Expected, Input, NodeList};
-use interface::layout::{self, *};
-use interface::lent::{compare, patterned};
-use interface::{Calls, Grid, Name, Ramp, Record};
+use interface::lent::{Element, Words, compare, patterned};
+use interface::{Calls, Fix, Grid, Group, InForce, MOST_PARAMETERS, Name, Part, Ramp, Screen};
 use std::fmt;
 
 /// A case that was answered otherwise than expected.
@@ -41,26 +40,33 @@ struct Runner<'a> {
     nodes: Option<(String, Vec<i32>)>,
 }
 
-/// Compares a returned refusal number.
-fn returned(got: u64, expected: u64) -> Result<(), String> {
-    if got == expected { Ok(()) } else { Err(format!("returned {got} instead of {expected}")) }
+/// A lent number before the call.
+fn lent() -> u64 {
+    u64::pattern(0)
 }
 
-/// The refusal number, the place and the numbers behind it that an answer of N numbers expects.
-fn expected_answer<const N: usize>(expected: &Expected, accepted: [i64; N]) -> (u64, Vec<i64>) {
-    match *expected {
-        Expected::Refused { number, place } => (number, answer(place, &[0; N])),
-        _ => (0, answer(0, &accepted)),
-    }
+/// Compares one number.
+fn same(what: &str, got: u64, expected: u64) -> Result<(), String> {
+    if got == expected { Ok(()) } else { Err(format!("{what} {got} instead of {expected}")) }
+}
+
+/// Compares a returned number and the place beside it.
+fn returned(got: (u64, u64), expected: &Expected) -> Result<(), String> {
+    let (number, place) = match *expected {
+        Expected::Refused { number, place } => (number, place),
+        _ => (0, 0),
+    };
+    same("returned", got.0, number)?;
+    same("place is", got.1, place)
 }
 
 /// A group of one grid of four nodes, for a lookup that answers the day factor.
-fn factor_group(ramps: &[Ramp]) -> Record {
-    let mut record =
-        Record { name: Name::new(b"factor"), parameters: 1, ramps: ramps.len() as i64, grids: 1, ..Record::default() };
-    record.ramp[..ramps.len()].copy_from_slice(ramps);
-    record.grid[0] = Grid { name: Name::new(b"ones"), dlon: 1, dlat: 1, ni: 2, nj: 2, rank: 1, ..Grid::default() };
-    record
+fn factor_group(ramps: &[Ramp]) -> Group {
+    let mut group =
+        Group { name: Name::new(b"factor"), parameters: 1, ramps: ramps.len() as i64, grids: 1, ..Group::default() };
+    group.ramp[..ramps.len()].copy_from_slice(ramps);
+    group.grid[0] = Grid { name: Name::new(b"ones"), dlon: 1, dlat: 1, ni: 2, nj: 2, rank: 1, ..Grid::default() };
+    group
 }
 
 impl Runner<'_> {
@@ -79,12 +85,12 @@ impl Runner<'_> {
                 self.in_force(self.file.group(group), [*west, *east, *south, *north], expected)
             }
             Input::Load { quantum, flag, out_len, floats } => self.load(floats, *flag, *quantum, *out_len, expected),
-            Input::Screen { lon, lat, quantum, parameters, number, found } => {
-                self.screen([*lon, *lat], [*quantum, *parameters], *number, found, expected)
+            Input::Screen { lon, lat, quantum, parameters, number, at, fix } => {
+                self.screen([*lon, *lat], [*quantum, *parameters], [*number, *at], fix, expected)
             }
             Input::DayFactor { ramps, day } => {
                 let fix = match *expected {
-                    Expected::Factor(factor) => Expected::Fix([1, factor, 0, 0]),
+                    Expected::Factor(factor) => Expected::Fix(Fix { grid: 1, result: [factor, 0, 0] }),
                     _ => expected.clone(),
                 };
                 self.lookup(&factor_group(ramps), &[1_000_000; 4], [0, 0, *day], &fix)
@@ -100,128 +106,104 @@ impl Runner<'_> {
     }
 
     fn read_header(&self, text: &[u8], expected: &Expected) -> Result<(), String> {
-        let (mut group, mut names, mut got) = (lent(GROUP_NUMBERS), lent(GROUP_NAMES), lent(PLACE_NUMBERS));
-        let number = self.calls.read_header(text, &mut group, &mut names, &mut got);
-        let (refusal, place) = expected_answer(expected, []);
-        let empty = Record::default();
-        let record = match expected {
-            Expected::Record(record) => record,
-            _ => &empty,
-        };
-        returned(number, refusal)?;
-        compare("answer", &got, &place)?;
-        compare("group", &group, &filled(group.len(), &layout::numbers(record)))?;
-        compare("names", &names, &filled(names.len(), &layout::names(record)))
+        let (mut group, mut place) = (Group::patterned(), lent());
+        let number = self.calls.read_header(text, &mut group, &mut place);
+        returned((number, place), expected)?;
+        match expected {
+            Expected::Group(read) => compare("group", group.words(), read.words()),
+            _ => compare("group", group.words(), Group::patterned().words()),
+        }
     }
 
-    fn judge(&self, record: &Record, expected: &Expected) -> Result<(), String> {
-        let mut got = lent(PLACE_NUMBERS);
-        let number = self.calls.judge(&layout::numbers(record), &layout::names(record), &mut got);
-        let (refusal, place) = expected_answer(expected, []);
-        returned(number, refusal)?;
-        compare("answer", &got, &place)
+    fn judge(&self, group: &Group, expected: &Expected) -> Result<(), String> {
+        let mut place = lent();
+        let number = self.calls.judge(group, &mut place);
+        returned((number, place), expected)
     }
 
-    fn write_header(&self, record: &Record, out_len: usize, expected: &Expected) -> Result<(), String> {
-        let (mut out, mut got) = (patterned(out_len), lent(WRITE_NUMBERS));
-        let number = self.calls.write_header(&layout::numbers(record), &layout::names(record), &mut out, &mut got);
-        let (count, text): (i64, &[u8]) = match expected {
+    fn write_header(&self, group: &Group, out_len: usize, expected: &Expected) -> Result<(), String> {
+        let (mut out, mut count, mut place) = (patterned(out_len), lent(), lent());
+        let number = self.calls.write_header(group, &mut out, &mut count, &mut place);
+        let (bytes, text): (u64, &[u8]) = match expected {
             Expected::Written { count, bytes } => (*count, bytes),
             _ => (0, &[]),
         };
-        let (refusal, numbers) = expected_answer(expected, [count]);
-        returned(number, refusal)?;
-        compare("answer", &got, &numbers)?;
+        returned((number, place), expected)?;
+        same("count is", count, bytes)?;
         compare("out", &out, &filled(out_len, text))
     }
 
     fn field(&self, line: &[u8], k: u64, expected: &Expected) -> Result<(), String> {
-        let mut got = lent(FIELD_NUMBERS);
-        let number = self.calls.field(line, k, &mut got);
-        let part = match *expected {
-            Expected::Part { from, to } => [from, to],
-            _ => [0, 0],
-        };
-        let (refusal, numbers) = expected_answer(expected, part);
-        returned(number, refusal)?;
-        compare("answer", &got, &numbers)
+        let Expected::Part(expected) = expected else { return Err("a field is never refused".to_string()) };
+        let mut part = Part::patterned();
+        self.calls.field(line, k, &mut part);
+        compare("part", part.words(), expected.words())
     }
 
     fn lookup(
         &self,
-        record: &Record,
+        group: &Group,
         nodes: &[i32],
         [lon, lat, day]: [i64; 3],
         expected: &Expected,
     ) -> Result<(), String> {
-        let mut got = lent(LOOKUP_NUMBERS);
-        let (group, names) = (layout::numbers(record), layout::names(record));
-        let number = self.calls.lookup(&group, &names, nodes, lon, lat, day, &mut got);
-        let fix = match *expected {
+        let (mut fix, mut place) = (Fix::patterned(), lent());
+        let number = self.calls.lookup(group, nodes, lon, lat, day, &mut fix, &mut place);
+        let found = match *expected {
             Expected::Fix(fix) => fix,
-            _ => [0; 4],
+            _ => Fix::default(),
         };
-        let (refusal, numbers) = expected_answer(expected, fix);
-        returned(number, refusal)?;
-        compare("answer", &got, &numbers)
+        returned((number, place), expected)?;
+        compare("fix", fix.words(), found.words())
     }
 
-    fn in_force(
-        &self,
-        record: &Record,
-        [west, east, south, north]: [i64; 4],
-        expected: &Expected,
-    ) -> Result<(), String> {
-        let mut got = lent(IN_FORCE_NUMBERS);
-        let (group, names) = (layout::numbers(record), layout::names(record));
-        let number = self.calls.grids_in_force(&group, &names, west, east, south, north, &mut got);
-        let mut list = [0; IN_FORCE_NUMBERS - 1];
-        if let Expected::InForce { count, entries } = expected {
-            let flat = std::iter::once(count).chain(entries.as_flattened());
-            list.iter_mut().zip(flat).for_each(|(into, number)| *into = *number);
-        }
-        let (refusal, numbers) = expected_answer(expected, list);
-        returned(number, refusal)?;
-        compare("answer", &got, &numbers)
+    fn in_force(&self, group: &Group, [west, east, south, north]: [i64; 4], expected: &Expected) -> Result<(), String> {
+        let (mut list, mut place) = (InForce::patterned(), lent());
+        let number = self.calls.grids_in_force(group, west, east, south, north, &mut list, &mut place);
+        let listed = match expected {
+            Expected::InForce { count, entries } => InForce { count: *count, ..InForce::new(entries) },
+            _ => InForce::default(),
+        };
+        returned((number, place), expected)?;
+        compare("list", list.words(), listed.words())
     }
 
-    fn load(&self, floats: &[f32], flag: f32, quantum: u64, out_len: usize, expected: &Expected) -> Result<(), String> {
-        let (mut nodes, mut got) = (patterned(out_len), lent(PLACE_NUMBERS));
-        let number = self.calls.load_nodes(floats, flag, quantum, &mut nodes, &mut got);
+    fn load(&self, floats: &[f32], flag: f32, quantum: i64, out_len: usize, expected: &Expected) -> Result<(), String> {
+        let (mut nodes, mut place) = (patterned(out_len), lent());
+        let number = self.calls.load_nodes(floats, flag, quantum, &mut nodes, &mut place);
         let loaded: &[i32] = match expected {
             Expected::Nodes(loaded) => loaded,
             _ => &[],
         };
-        let (refusal, place) = expected_answer(expected, []);
-        returned(number, refusal)?;
-        compare("answer", &got, &place)?;
+        returned((number, place), expected)?;
         compare("nodes", &nodes, &filled(out_len, loaded))
     }
 
-    /// A screen case expects five floats, all +0 where the lookup was refused; both screen calls must give them.
+    /// A screen case expects five floats, all +0 where the lookup was refused: both calls must give them, and hand the
+    /// lookup's refusal on.
     fn screen(
         &self,
         [lon, lat]: [i64; 2],
-        [quantum, parameters]: [u64; 2],
-        number: u64,
-        found: &[i64; 5],
+        [quantum, parameters]: [i64; 2],
+        [number, at]: [u64; 2],
+        fix: &Fix,
         expected: &Expected,
     ) -> Result<(), String> {
-        let floats = match expected {
-            Expected::Screen(bits) => bits.map(f64::from_bits),
-            _ => [0.0; 5],
+        let (shown, answer) = match *expected {
+            Expected::Screen([longitude, latitude, ref shift @ ..]) => {
+                let shift: [f64; MOST_PARAMETERS] = shift.map(f64::from_bits);
+                let refused = Expected::Refused { number, place: if number == 0 { 0 } else { at } };
+                (Screen { longitude: f64::from_bits(longitude), latitude: f64::from_bits(latitude), shift }, refused)
+            }
+            _ => (Screen::default(), expected.clone()),
         };
-        let place = answer(if number == 0 { 0 } else { found[PLACE] }, &[]);
-        let (mut screen, mut got) = (lent(SCREEN_FLOATS), lent(PLACE_NUMBERS));
-        returned(
-            self.calls.screen_record(lon, lat, quantum, parameters, number, found, &mut screen, &mut got),
-            number,
-        )?;
-        compare("answer of the record", &got, &place)?;
-        compare("screen", &screen, &filled(screen.len(), &floats))?;
-        let (mut shifts, mut got) = (lent(SHIFTS), lent(PLACE_NUMBERS));
-        returned(self.calls.screen_answer(quantum, parameters, number, found, &mut shifts, &mut got), number)?;
-        compare("answer of the shifts", &got, &place)?;
-        compare("shifts", &shifts, &filled(shifts.len(), &floats[2..]))
+        let (mut screen, mut place) = (Screen::patterned(), lent());
+        let got = self.calls.screen_record(lon, lat, quantum, parameters, number, at, fix, &mut screen, &mut place);
+        returned((got, place), &answer).map_err(|why| format!("record: {why}"))?;
+        compare("screen", screen.words(), shown.words())?;
+        let (mut shifts, mut place) = (Screen::patterned().shift, lent());
+        let got = self.calls.screen_answer(quantum, parameters, number, at, fix, &mut shifts, &mut place);
+        returned((got, place), &answer).map_err(|why| format!("answer: {why}"))?;
+        compare("shifts", &shifts, &shown.shift)
     }
 }

@@ -7,35 +7,42 @@ use std::path::{Path, PathBuf};
 use std::process::{Command, Output};
 
 /// One case for each call whose expected answer is wrong, and where the answer differs from it.
-const WRONG: [(&str, &str, &str); 11] = [
-    ("read_header", "C\t-\t=>\trefuse\t1\t2\n", "answer[0] is 1 instead of 2"),
+const WRONG: [(&str, &str, &str); 14] = [
+    ("read_header", "C\t-\t=>\trefuse\t1\t2\n", "place is 1 instead of 2"),
     ("read_header", "C\t-\t=>\trefuse\t2\t1\n", "returned 1 instead of 2"),
     ("judge_record", "G\tg\t- 0 0 0 0 0 0\nC\tg\t=>\tok\n", "returned 2 instead of 0"),
+    (
+        "write_header",
+        "G\tg\t61 1 0 0 1 0 1|G 0 62 1 0 0 1 1 2 2 1 0 0\nC\tg\t99\t=>\tok\t51\t6767\n",
+        "count is 50 instead of 51",
+    ),
     (
         "write_header",
         "G\tg\t61 1 0 0 1 0 1|G 0 62 1 0 0 1 1 2 2 1 0 0\nC\tg\t99\t=>\tok\t50\t6767\n",
         "out[1] is 114 instead of 103",
     ),
-    ("field", "C\t6109\t1\t=>\tok\t2\t3\n", "answer[2] is 2 instead of 3"),
+    ("field", "C\t6109\t1\t=>\tok\t2\t3\n", "part[1] is 2 instead of 3"),
     (
         "lookup",
         "G\tg\t61 1 0 0 1 0 1|G 0 62 1 0 0 1 1 2 2 1 0 0\nN\tn\t4\tlist 7 8 9 10\nC\tg\tn\t0\t0\t0\t=>\tok\t1\t8\t0\t0\n",
-        "answer[2] is 7 instead of 8",
+        "fix[1] is 7 instead of 8",
     ),
     (
         "in_force",
         "G\tg\t61 1 0 0 1 0 1|G 0 62 1 0 0 1 1 2 2 1 0 0\nC\tg\t0\t9\t0\t9\t=>\tok\t0\t\n",
-        "answer[1] is 1 instead of 0",
+        "list[0] is 1 instead of 0",
     ),
     ("load", "C\t0\t7fc00000\t1\t3f800000\t=>\tok\t2\n", "nodes[0] is 1 instead of 2"),
-    ("load", "C\t0\t7fc00000\t1\t7f800000\t=>\trefuse\t11\t2\n", "answer[0] is 1 instead of 2"),
+    ("load", "C\t0\t7fc00000\t1\t7f800000\t=>\trefuse\t11\t2\n", "place is 1 instead of 2"),
+    ("load", "C\t-1\t7fc00000\t0\t-\t=>\tok\t\n", "returned 2 instead of 0"),
+    ("load", "C\t0\t7fc00000\t1\t-\t=>\tok\t-\n", "returned 12 instead of 0"),
     (
         "screen",
         "C\t0\t0\t0\t1\t0\t0\t1\t1\t0\t0\t=>\tok\t0000000000000000 0000000000000000 3ff0000000000000 8000000000000000 \
          0000000000000000\n",
         "screen[3] is 0.0 instead of -0.0",
     ),
-    ("day_factor", "C\t-\t0\t=>\tok\t1000001\n", "answer[2] is 1000000 instead of 1000001"),
+    ("day_factor", "C\t-\t0\t=>\tok\t1000001\n", "fix[1] is 1000000 instead of 1000001"),
 ];
 
 #[test]
@@ -46,6 +53,14 @@ fn wrong_expectations_are_found_out() {
         let found: Vec<&str> = differences.iter().map(|difference| difference.why.as_str()).collect();
         assert_eq!(found, [why], "{call}");
     }
+}
+
+#[test]
+fn a_load_case_may_have_a_q_below_zero_and_no_floats() {
+    let text = "C\t-1\t00000000\t0\t-\t=>\trefuse\t2\t0\nC\t0\t00000000\t0\t-\t=>\tok\t-\n";
+    let file = CaseFile::parse("load", text).expect("a case file");
+    assert_eq!(file.cases.len(), 2);
+    assert!(replay::run(&Reference, &file, |_| {}).is_empty());
 }
 
 /// A file of this name and text, in a folder of its own.
@@ -75,7 +90,7 @@ fn the_status_says_whether_any_case_differs() {
     let lines: Vec<&str> = out.lines().collect();
     assert_eq!(status, Some(1));
     assert_eq!(lines[0], format!("{}: 2 cases, 1 differ", wrong.display()));
-    assert_eq!(lines[1], "  line 2: answer[2] is 0 instead of 1");
+    assert_eq!(lines[1], "  line 2: part[1] is 0 instead of 1");
     assert_eq!(lines.last().copied(), Some(format!("{}: 1 cases, 0 differ", good.display()).as_str()));
 }
 

@@ -1,93 +1,40 @@
 -- `bulhyemik_read_header` meets its contract.
-use mathlib.Core.Path.{sym, _∙_}
-use Rattle.capi.proofs.AnswerLaws.{answer-short, numbers-short, names-short, all-long}
+use Rattle.capi.proofs.AnswerLaws.{read-accepted, read-refused}
 use borrow.Author.Needs.{needs}
 use Rattle.capi.proofs.bulhyemik_read_header.Statement.{statement}
 use Rattle.capi.proofs.bulhyemik_read_header.Tie as tie
 
+read-header-requires : tie.Need-read-header-requires
+read-header-requires c κs = search needs
+
+enum-told : tie.Need-enum-told
+enum-told c = search needs
+
+numbers-of-requires : tie.Need-numbers-of-requires
+numbers-of-requires c κs = search needs
+
+enum-known-verdict : tie.Need-enum-known-verdict
+enum-known-verdict c = search needs
+
 returns : tie.Need-returns
 returns c =
-    let s = c .before .before .before .args in
-    let h = c .if1 .taken in (
-      sym (answer-short (s .answer .now) (s .group .now) (s .names .now) _ _ h),
-      (
-        sym (answer-short (s .answer .now) (s .group .now) (s .names .now) _ _ h),
-        (
-          sym (answer-short (s .answer .now) (s .group .now) (s .names .now) _ _ h),
-          sym (answer-short (s .answer .now) (s .group .now) (s .names .now) _ _ h),
-        ),
-      ),
-    )
+    let s = c .before .before .before .before .before .before .args in
+    read-accepted (s .text .now) (s .group .now) _ (c .before .before .before .before .read-header .ensures) _ (c .before .enum-told .given .1) (c .numbers-of .ensures)
 
 returns-2 : tie.Need-returns-2
 returns-2 c =
-    let s = c .before .before .before .before .args in
-    let a = c .before .if1 .left in
-    let h = c .if2 .taken in (
-      sym (numbers-short (s .answer .now) (s .group .now) (s .names .now) _ _ a h),
-      (
-        sym (numbers-short (s .answer .now) (s .group .now) (s .names .now) _ _ a h),
-        (
-          sym (numbers-short (s .answer .now) (s .group .now) (s .names .now) _ _ a h),
-          sym (numbers-short (s .answer .now) (s .group .now) (s .names .now) _ _ a h),
-        ),
-      ),
-    )
-
-returns-3 : tie.Need-returns-3
-returns-3 c =
-    let s = c .before .before .before .before .before .args in
-    let a = c .before .before .if1 .left in
-    let b = c .before .if2 .left in
-    let h = c .if3 .taken in (
-      sym (names-short (s .answer .now) (s .group .now) (s .names .now) _ _ a b h),
-      (
-        sym (names-short (s .answer .now) (s .group .now) (s .names .now) _ _ a b h),
-        (
-          sym (names-short (s .answer .now) (s .group .now) (s .names .now) _ _ a b h),
-          sym (names-short (s .answer .now) (s .group .now) (s .names .now) _ _ a b h),
-        ),
-      ),
-    )
-
-read-into-requires : tie.Need-read-into-requires
-read-into-requires c κs = search needs
-
-same-length : tie.Need-same-length
-same-length c = search needs
-
-same-length-2 : tie.Need-same-length-2
-same-length-2 c = search needs
-
-same-length-3 : tie.Need-same-length-3
-same-length-3 c = search needs
-
-returns-4 : tie.Need-returns-4
-returns-4 c =
-    let s = c .before .before .before .before .before .before .before .before .before .before .before .before .before .args in
-    let a = c .before .before .before .before .before .before .before .before .before .before .if1 .left in
-    let b = c .before .before .before .before .before .before .before .before .before .if2 .left in
-    let h = c .before .before .before .before .before .before .before .before .if3 .left in
-    let e = c .before .before .before .before .read-into .ensures in (
-      e .0 ∙ sym (all-long (s .answer .now) (s .group .now) (s .names .now) _ _ a b h),
-      (
-        e .1 .0 ∙ sym (all-long (s .answer .now) (s .group .now) (s .names .now) _ _ a b h),
-        (
-          e .1 .1 .0 ∙ sym (all-long (s .answer .now) (s .group .now) (s .names .now) _ _ a b h),
-          e .1 .1 .1 ∙ sym (all-long (s .answer .now) (s .group .now) (s .names .now) _ _ a b h),
-        ),
-      ),
-    )
+    let known = c .before in
+    let read = known .before .before .before in
+    let a = read .before .before .args in
+    read-refused (a .text .now) (a .group .now) _ (read .read-header .ensures) _ (known .verdict .given .1)
 
 pub bulhyemik-read-header-spec : {M : Type 1} → statement M
 bulhyemik-read-header-spec =
     tie.close
     (tie.spec
+    read-header-requires
+    enum-told
+    numbers-of-requires
+    enum-known-verdict
     returns
-    returns-2
-    returns-3
-    read-into-requires
-    same-length
-    same-length-2
-    same-length-3
-    returns-4)
+    returns-2)

@@ -1,32 +1,17 @@
 -- `bulhyemik_screen_answer` meets its contract.
-use mathlib.Core.Path.{sym, ap, _∙_}
-use mathlib.Core.List.{[], _∷_}
-use lib.Seq.{sets}
-use Rattle.layout.proofs.NumberLaws.{told}
-use Rattle.capi.proofs.AnswerLaws.{first-short, second-short, both-long}
-use Rattle.fix.specs.declared.Lookup.{Lookup}
-use Rattle.screen.specs.Screen.{answerOf}
-use Rattle.capi.specs.Screen.{screenNumber, shiftFloats}
+use mathlib.Core.Path.{ap, _∙_}
+use mir.Facts.{toZ-ofZ}
+use Rattle.layout.specs.Layout.{countOf}
+use Rattle.capi.proofs.AnswerLaws.{shifts-told}
 use borrow.Author.Needs.{needs}
 use Rattle.capi.proofs.bulhyemik_screen_answer.Statement.{statement}
 use Rattle.capi.proofs.bulhyemik_screen_answer.Tie as tie
 
-returns : tie.Need-returns
-returns c =
-    let s = c .before .before .args in
-    let h = c .if1 .taken in (
-      sym (first-short (s .answer .now) (s .shifts .now) 3 _ _ h),
-      (sym (first-short (s .answer .now) (s .shifts .now) 3 _ _ h), sym (first-short (s .answer .now) (s .shifts .now) 3 _ _ h)),
-    )
+count-of-requires : tie.Need-count-of-requires
+count-of-requires c κs = search needs
 
-returns-2 : tie.Need-returns-2
-returns-2 c =
-    let s = c .before .before .before .args in
-    let a = c .before .if1 .left in
-    let h = c .if2 .taken in (
-      sym (second-short (s .answer .now) (s .shifts .now) 3 _ _ a h),
-      (sym (second-short (s .answer .now) (s .shifts .now) 3 _ _ a h), sym (second-short (s .answer .now) (s .shifts .now) 3 _ _ a h)),
-    )
+count-of-requires-2 : tie.Need-count-of-requires-2
+count-of-requires-2 c κs = search needs
 
 lookup-of-requires : tie.Need-lookup-of-requires
 lookup-of-requires c κs = search needs
@@ -34,63 +19,27 @@ lookup-of-requires c κs = search needs
 screen-answer-requires : tie.Need-screen-answer-requires
 screen-answer-requires c κs = search needs
 
-shifts-of-requires : tie.Need-shifts-of-requires
-shifts-of-requires c κs = search needs
+shift-floats-requires : tie.Need-shift-floats-requires
+shift-floats-requires c κs = search needs
 
-slice-aggregate-put-floats : tie.Need-slice-aggregate-put-floats
-slice-aggregate-put-floats c = search needs
+screen-refusal-requires : tie.Need-screen-refusal-requires
+screen-refusal-requires c κs = search needs
 
-put-floats-requires : tie.Need-put-floats-requires
-put-floats-requires c κs = search needs
-
-shown-place-requires : tie.Need-shown-place-requires
-shown-place-requires c κs = search needs
-
-slice-aggregate-put-numbers : tie.Need-slice-aggregate-put-numbers
-slice-aggregate-put-numbers c = search needs
-
-put-numbers-requires : tie.Need-put-numbers-requires
-put-numbers-requires c κs = search needs
-
-shown-number-requires : tie.Need-shown-number-requires
-shown-number-requires c κs = search needs
-
-same-length : tie.Need-same-length
-same-length c = search needs
-
-same-length-2 : tie.Need-same-length-2
-same-length-2 c = search needs
-
-returns-3 : tie.Need-returns-3
-returns-3 c =
-    let s = c .before .before .before .before .before .before .before .before .before .before .before .before .before .before .before .before .before .args in
-    let a = c .before .before .before .before .before .before .before .before .before .before .before .before .before .before .before .if1 .left in
-    let h = c .before .before .before .before .before .before .before .before .before .before .before .before .before .before .if2 .left in
-    let v = c .before .before .before .before .before .before .before .before .before .before .before .before .screen-answer .ensures ∙ ap (λ (f : Lookup). answerOf f (s .quantum) (s .parameters)) (c .before .before .before .before .before .before .before .before .before .before .before .before .before .lookup-of .ensures) in
-    let p = told (c .before .before .before .before .before .shown-place .ok) (c .before .before .before .before .before .shown-place .ensures) in (
-      c .shown-number .ensures ∙ ap screenNumber v ∙ sym (both-long (s .answer .now) (s .shifts .now) 3 _ _ a h),
-      (
-        c .before .before .before .before .before .before .before .before .put-floats .ensures ∙ ap (sets (s .shifts .now) 0) (c .before .before .before .before .before .before .before .before .before .before .before .shifts-of .ensures ∙ ap shiftFloats v)
-            ∙ sym (both-long (s .answer .now) (s .shifts .now) 3 _ _ a h),
-        c .before .before .put-numbers .ensures ∙ ap (sets (s .answer .now) 0) (λ i. p i ∷ []) ∙ sym (both-long (s .answer .now) (s .shifts .now) 3 _ _ a h),
-      ),
-    )
+returns : tie.Need-returns
+returns c =
+    let start = c .before .before .before .before .before .before .before in
+    let s = start .args in
+    shifts-told (s .quantum) (s .parameters) (s .number) (s .at) (s .fix .now) _ _ _ (c .before .before .before .before .before .before .count-of .ensures ∙ ap countOf (toZ-ofZ (start .fits .quantum))) (c .before .before .before .before .before .count-of2 .ensures ∙ ap countOf (toZ-ofZ (start .fits .parameters)))
+    (c .before .before .before .lookup-of .ensures) _ _ _ (c .before .before .screen-answer .ensures) (c .screen-refusal .ensures) (c .before .shift-floats .ensures)
 
 pub bulhyemik-screen-answer-spec : {M : Type 1} → statement M
 bulhyemik-screen-answer-spec =
     tie.close
     (tie.spec
-    returns
-    returns-2
+    count-of-requires
+    count-of-requires-2
     lookup-of-requires
     screen-answer-requires
-    shifts-of-requires
-    slice-aggregate-put-floats
-    put-floats-requires
-    shown-place-requires
-    slice-aggregate-put-numbers
-    put-numbers-requires
-    shown-number-requires
-    same-length
-    same-length-2
-    returns-3)
+    shift-floats-requires
+    screen-refusal-requires
+    returns)

@@ -20,17 +20,14 @@ number-at-requires-3 c κs = search needs
 returns : tie.Need-returns
 returns c =
     let s = c .before .before .before .before .before .args in
-    lookup-fix (s .number) (s .found .now) _ _ _ _ (c .before .before .before .before .if1 .taken) (c .before .before .before .count-at .ensures)
+    lookup-fix (s .number) (s .at) (s .fix .now) _ _ _ _ (c .before .before .before .before .if1 .taken) (c .before .before .before .count-at .ensures)
     (told (c .before .before .number-at .ok) (c .before .before .number-at .ensures)) (told (c .before .number-at2 .ok) (c .before .number-at2 .ensures))
     (told (c .number-at3 .ok) (c .number-at3 .ensures))
 
-count-at-requires-2 : tie.Need-count-at-requires-2
-count-at-requires-2 c κs = search needs
-
 returns-2 : tie.Need-returns-2
 returns-2 c =
-    let s = c .before .before .args in
-    lookup-refused (s .number) (s .found .now) _ (c .before .if1 .left) (c .count-at2 .ensures)
+    let s = c .before .args in
+    lookup-refused (s .number) (s .at) (s .fix .now) (c .if1 .left)
 
 pub lookup-of-spec : {M : Type 1} → statement M
 lookup-of-spec =
@@ -41,5 +38,4 @@ lookup-of-spec =
     number-at-requires-2
     number-at-requires-3
     returns
-    count-at-requires-2
     returns-2)

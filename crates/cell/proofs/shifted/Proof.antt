@@ -1,15 +1,19 @@
 -- `shifted` meets its contract.
-use borrow.Author.Needs.{needs}
-use mathlib.Core.Path.{_≡_, sym, ap, _∙_, subst}
+use Prim.Native.Nat.{ℕ, _+_, _-_, _≤_, _<_}
+use mathlib.Core.Bool.{true, false, _||_}
+use mathlib.Core.Logic.{_⊎_, inl, inr, ⊎-elim}
+use mathlib.Core.Path.{_≡_, sym, _∙_, subst}
 use native.Mathlib.Omega.{arith}
-use lib.IntN.{ℤ, pos}
+use borrow.Author.Tests.{ltb-true, ltb-false}
+use lib.Dec.{ltb}
+use lib.IntN.{ℤ, pos, _+ℤ_, natAbs}
 use mir.Syntax.{w32, w64}
-use mir.Val.{SFits}
+use mir.Val.{SFits, toZ, ofZ}
 use mir.ValLaws.{toZ-ofZ}
-use Rattle.numbers.specs.Order.{raised}
-use Rattle.numbers.proofs.Diff.{diff-self, mag-up}
+use Rattle.numbers.proofs.Bools.{or-cases, or-left, or-right, untrue, true-false}
+use Rattle.numbers.proofs.Diff.{Diff, diff-self, diff-as, diff-of, of-diff, mag-up, natAbs-diff, up-or-dn}
 use Rattle.numbers.proofs.Machine.{diff-fits}
-use Rattle.numbers.proofs.OrderLaws.{raised-is, raised-bound}
+use Rattle.cell.specs.Unsigned.{Shifted}
 use Rattle.cell.proofs.shifted.Statement.{statement}
 use Rattle.cell.proofs.shifted.Tie as tie
 
@@ -17,34 +21,64 @@ use Rattle.cell.proofs.shifted.Tie as tie
 wide : (v : ℤ) → SFits w32 v → SFits w64 v
 wide v h = let m = mag-up v (h .sfits) in diff-fits w64 (diff-self v) (omega arith) (omega arith)
 
--- what `raised` told
-told : (c : tie.After-raised) → c .raised .result ≡ raised 4000000 (c .before .args .v)
+small : (v : ℤ) → SFits w32 v → natAbs v ≤ 2147483648
+small v h =
+    let m = mag-up v (h .sfits) in let n = natAbs-diff v in
+    ⊎-elim (λ e. omega arith) (λ e. omega arith) (up-or-dn v)
+
+-- the number by way of its bits
+same : (v : ℤ) → SFits w32 v → toZ w64 (ofZ w64 (toZ w32 (ofZ w32 v))) ≡ v
+same v h = toZ-ofZ w64 _ (subst (SFits w64) (sym (toZ-ofZ w32 v h)) (wide v h)) ∙ toZ-ofZ w32 v h
+
+-- what a node value's number is
+inner : (v : ℤ) (r : ℕ) → Diff v r 2147483648 → natAbs v ≤ 4000000 → (2143483648 ≤ r) × (r ≤ 2151483648)
+inner v r d h = let e = d .diff in let n = natAbs-diff v in (omega arith, omega arith)
+
+cast-lifted : tie.Need-cast-lifted
+cast-lifted c = subst (SFits w64) (sym (toZ-ofZ w32 (c .args .v) (c .fits .v))) (wide (c .args .v) (c .fits .v))
+
+lifted-requires : tie.Need-lifted-requires
+lifted-requires c κs = (subst (λ (z : ℤ). natAbs z ≤ 2147483648) (sym (same (c .args .v) (c .fits .v))) (small (c .args .v) (c .fits .v)), omega arith)
+
+told : (c : tie.After-lifted) → Diff (c .before .args .v) (c .lifted .result) 2147483648
 told c =
-    let v = c .before .args .v in let h = c .before .fits .v in
-    c .raised .ensures
-    ∙ ap (raised 4000000) (toZ-ofZ w64 _ (subst (SFits w64) (sym (toZ-ofZ w32 v h)) (wide v h)) ∙ toZ-ofZ w32 v h)
+    let v = c .before .args .v in
+    diff-of v (c .lifted .result) 2147483648
+    (subst (λ (z : ℤ). z +ℤ pos 2147483648 ≡ pos (c .lifted .result)) (same v (c .before .fits .v)) (c .lifted .ensures))
 
-cast-raised : tie.Need-cast-raised
-cast-raised c = subst (SFits w64) (sym (toZ-ofZ w32 (c .args .v) (c .fits .v))) (wide (c .args .v) (c .fits .v))
+-- the test of the code
+test-off : (r : ℕ) → (ltb r 2143483648 || ltb 2151483648 r) ≡ true → (r < 2143483648) ⊎ (2151483648 < r)
+test-off r e =
+    ⊎-elim (λ a. inl (ltb-true r 2143483648 a)) (λ a. inr (ltb-true 2151483648 r a))
+    (or-cases (ltb r 2143483648) (ltb 2151483648 r) e)
 
-raised-requires : tie.Need-raised-requires
-raised-requires c κs = search needs
+test-in : (r : ℕ) → (ltb r 2143483648 || ltb 2151483648 r) ≡ false → (2143483648 ≤ r) × (r ≤ 2151483648)
+test-in r e = (
+  ltb-false r 2143483648 (untrue (ltb r 2143483648) (λ a. true-false (or-left (ltb 2151483648 r) a) e)),
+  ltb-false 2151483648 r (untrue (ltb 2151483648 r) (λ a. true-false (or-right (ltb r 2143483648) a) e)),
+)
 
 returns : tie.Need-returns
 returns c =
-    let e = told (c .before) in
+    let t = test-off (c .before .lifted .result) (c .if1 .taken) in
     record {
       small = omega arith;
-      inside = λ h. absurd (let b = raised-bound 4000000 (c .before .before .args .v) h in omega arith);
+      inside = λ h.
+          absurd
+          (let k = inner (c .before .before .args .v) (c .before .lifted .result) (told (c .before)) h in
+          ⊎-elim (λ a. omega arith) (λ a. omega arith) t);
     }
+
+sub-result : tie.Need-sub-result
+sub-result c = test-in (c .before .lifted .result) (c .if1 .left) .0
 
 returns-2 : tie.Need-returns-2
 returns-2 c =
-    let e = told (c .before) in
+    let r = c .before .lifted .result in let t = test-in r (c .if1 .left) in let v = c .before .before .args .v in
     record {
       small = omega arith;
-      inside = λ h. sym (raised-is 4000000 (c .before .before .args .v) h) ∙ ap pos (sym e);
+      inside = λ _. of-diff v (r - 2143483648) 4000000 (diff-as (told (c .before)) (omega arith));
     }
 
 pub shifted-spec : {M : Type 1} → statement M
-shifted-spec = tie.close (tie.spec cast-raised raised-requires returns returns-2)
+shifted-spec = tie.close (tie.spec cast-lifted lifted-requires returns sub-result returns-2)

@@ -5,8 +5,8 @@ use Rattle.fix.proofs.PlaceLaws.{Stands, stands}
 use Rattle.fix.proofs.position.Statement.{statement}
 use Rattle.fix.proofs.position.Tie as tie
 
-known : (c : tie.Start) → Stands (c .pre .0) (c .args .i) (c .args .j) (c .args .p)
-known c = stands (c .pre .0) (c .args .i) (c .args .j) (c .args .p) (c .pre .1) (c .pre .2) (c .pre .3)
+known : (c : tie.Start) → Stands (c .pre .0) (c .args .i) (c .args .j) 0
+known c = stands (c .pre .0) (c .args .i) (c .args .j) 0 (c .pre .1) (c .pre .2) (c .pre .3)
 
 mul-result : tie.Need-mul-result
 mul-result c = omega (arith, known (c .before))
@@ -20,12 +20,8 @@ mul-result-2 c = omega (arith, known (c .before .before))
 add-result-2 : tie.Need-add-result-2
 add-result-2 c = omega (arith, known (c .before .before .before))
 
-add-result-3 : tie.Need-add-result-3
-add-result-3 c = omega (arith, known (c .before .before .before))
-
 returns : tie.Need-returns
 returns c = search needs
 
 pub position-spec : {M : Type 1} → statement M
-position-spec =
-    tie.close (tie.spec mul-result add-result mul-result-2 add-result-2 add-result-3 returns)
+position-spec = tie.close (tie.spec mul-result add-result mul-result-2 add-result-2 returns)

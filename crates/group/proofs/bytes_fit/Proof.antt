@@ -1,27 +1,29 @@
--- `bytes_fit` meets its contract, by the loop of FirstLaws.
-use Prim.Native.Nat.{_-_}
-use mathlib.Core.Bool.{not}
-use mathlib.Core.Path.{_∙_, sym}
+-- `bytes_fit` meets its contract: all 24 bytes are tested, with no early answer.
+use Prim.Native.Nat.{ℕ, _+_, _-_, _≤_}
+use mathlib.Core.Bool.{Bool, true, false, not, _&&_}
+use mathlib.Core.Path.{_≡_, refl, sym, ap, ap₂, _∙_}
 use native.Mathlib.Omega.{arith}
-use Rattle.numbers.proofs.FirstLaws.{Passed, passed-none, passed-more, passed-every, found-every}
+use borrow.Author.Needs.{needs}
+use Rattle.numbers.specs.First.{every}
+use Rattle.numbers.proofs.FirstLaws.{every-none, every-more}
 use Rattle.group.specs.Limits.{byteFits}
 use Rattle.group.proofs.bytes_fit.Statement.{statement}
 use Rattle.group.proofs.bytes_fit.Tie as tie
 
 abbrev Inv-loop : tie.InvT-loop
-Inv-loop name i₀ i = Passed (λ k. not (byteFits name k)) 24 i
+Inv-loop name len fit₀ i₀ fit i = (i ≤ 24) × (fit ≡ every (byteFits name) i)
 
 abbrev μ-loop : tie.MeasureT-loop
-μ-loop name i₀ i = 24 - i
+μ-loop name len fit₀ i₀ fit i = 24 - i
 
 loop-holds : tie.Need-loop-holds Inv-loop μ-loop
-loop-holds c = passed-none _ _
+loop-holds c = (omega arith, sym (every-none (byteFits (c .args .t1))))
+
+element-copy-out-b : tie.Need-element-copy-out-b Inv-loop μ-loop
+element-copy-out-b c = omega arith
 
 byte-bad-requires : tie.Need-byte-bad-requires Inv-loop μ-loop
-byte-bad-requires c κs = omega arith
-
-returns : tie.Need-returns Inv-loop μ-loop
-returns c = found-every (byteFits _) 24 _ (c .before .before .before .loop .inv) (c .before .before .loop-test .taken) (sym (c .before .byte-bad .ensures) ∙ c .if1 .taken)
+byte-bad-requires c κs = search needs
 
 add-i : tie.Need-add-i Inv-loop μ-loop
 add-i c = omega arith
@@ -29,11 +31,20 @@ add-i c = omega arith
 loop-less : tie.Need-loop-less Inv-loop μ-loop
 loop-less c = omega arith
 
-loop-again : tie.Need-loop-again Inv-loop μ-loop
-loop-again c = passed-more _ _ _ (c .before .before .before .loop .inv) (c .before .before .loop-test .taken) (sym (c .before .byte-bad .ensures) ∙ c .if1 .left)
+not-not : (b : Bool) → not (not b) ≡ b
+not-not true = refl
+not-not false = refl
 
-returns-2 : tie.Need-returns-2 Inv-loop μ-loop
-returns-2 c = passed-every (byteFits _) 24 _ (c .before .loop .inv) (c .loop-test .left)
+loop-again : tie.Need-loop-again Inv-loop μ-loop
+unfolding byteFits
+loop-again c =
+    let n = c .before .before .before .before .args .t1 in let l = c .before .before .before .loop in (
+      omega arith,
+      ap₂ (λ (x y : Bool). x && y) (l .inv .1) (ap not (c .byte-bad .ensures) ∙ not-not (byteFits n (l .i))) ∙ sym (every-more (byteFits n) (l .i)),
+    )
+
+returns : tie.Need-returns Inv-loop μ-loop
+returns c = let e : c .before .loop .i ≡ 24 = omega arith in rw e at (c .before .loop .inv .1)
 
 pub bytes-fit-spec : {M : Type 1} → statement M
 bytes-fit-spec =
@@ -42,9 +53,9 @@ bytes-fit-spec =
     Inv-loop
     μ-loop
     loop-holds
+    element-copy-out-b
     byte-bad-requires
-    returns
     add-i
     loop-less
     loop-again
-    returns-2)
+    returns)

@@ -3,7 +3,7 @@ use Prim.Native.Nat.{_-_}
 use native.Mathlib.Omega.{arith}
 use Rattle.text.proofs.PutLaws.{wrote-length}
 use Rattle.group.specs.Record.{noGrid}
-use Rattle.header.specs.Lines.{gridText}
+use Rattle.line.specs.Lines.{gridText}
 use Rattle.header.proofs.WriteLaws.{Writes, writes-none, writes-room, writes-more, writes-all}
 use Rattle.header.proofs.put_grids.Statement.{statement}
 use Rattle.header.proofs.put_grids.Tie as tie

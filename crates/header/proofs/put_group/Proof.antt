@@ -3,7 +3,9 @@ use Prim.Native.Nat.{_+_, _≤_}
 use mathlib.Core.List.{_++_}
 use lib.ListN.{length}
 use Rattle.text.proofs.PutLaws.{room-first, room-next, wrote-both}
-use Rattle.header.proofs.LengthLaws.{name-len, head-parts, ramps-most, grids-wide}
+use Rattle.judge.proofs.Accepted.{accepted-head}
+use Rattle.line.proofs.NameLaws.{name-len}
+use Rattle.header.proofs.LengthLaws.{head-parts, grids-wide}
 use Rattle.header.proofs.HeaderLaws.{headRun, rampRun, gridRun, runs-room, runs-wrote}
 use borrow.Author.Needs.{needs}
 use Rattle.header.proofs.put_group.Statement.{statement}
@@ -33,14 +35,14 @@ put-head-requires : tie.Need-put-head-requires
 put-head-requires c κs =
     let s = c .before .before .before in
     let g = s .args .group in
-    (name-len (g .name) (head-parts g (s .pre .0) .0), room-first 0 (headRun g) (rampRun g ++ gridRun g) (s .args .out .now) (room1 s))
+    (name-len (g .name) (head-parts g (s .pre .0) .0) .1, room-first 0 (headRun g) (rampRun g ++ gridRun g) (s .args .out .now) (room1 s))
 
 put-ramps-requires : tie.Need-put-ramps-requires
 put-ramps-requires c κs =
     let d = c .before .before .before .before in
     let s = start1 d in
     let g = s .args .group in
-    (ramps-most g (s .pre .0), room-first (d .put-head .result) (rampRun g) (gridRun g) (d .put-head .last .1 .0) (room2 d))
+    (accepted-head g (s .pre .0) .ramps, room-first (d .put-head .result) (rampRun g) (gridRun g) (d .put-head .last .1 .0) (room2 d))
 
 put-grids-requires : tie.Need-put-grids-requires
 put-grids-requires c κs =

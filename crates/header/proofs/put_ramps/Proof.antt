@@ -3,7 +3,7 @@ use Prim.Native.Nat.{_-_}
 use native.Mathlib.Omega.{arith}
 use Rattle.text.proofs.PutLaws.{wrote-length}
 use Rattle.group.specs.Record.{noRamp}
-use Rattle.header.specs.Lines.{rampText}
+use Rattle.line.specs.Lines.{rampText}
 use Rattle.header.proofs.WriteLaws.{Writes, writes-none, writes-room, writes-more, writes-all}
 use Rattle.header.proofs.put_ramps.Statement.{statement}
 use Rattle.header.proofs.put_ramps.Tie as tie

@@ -5,9 +5,9 @@ use native.Mathlib.Omega.{arith}
 use borrow.Author.Needs.{needs}
 use Rattle.header.specs.declared.GridsRead.{GridsRead}
 use Rattle.group.specs.Blank.{blankGrid}
-use Rattle.header.specs.Lines.{gridLine}
+use Rattle.line.specs.Lines.{gridLine}
 use Rattle.header.proofs.ItemLaws.{Loop, loop-enters, loop-stops, loop-unclosed, loop-refuses, loop-reads, loop-leaves, end-le}
-use Rattle.header.proofs.ReadLaws.{grid-refused, grid-accepted}
+use Rattle.line.proofs.ReadLaws.{grid-refused, grid-accepted}
 use Rattle.header.proofs.read_grids.Statement.{statement}
 use Rattle.header.proofs.read_grids.Tie as tie
 

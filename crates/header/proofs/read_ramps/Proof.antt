@@ -5,9 +5,9 @@ use native.Mathlib.Omega.{arith}
 use borrow.Author.Needs.{needs}
 use Rattle.header.specs.declared.RampsRead.{RampsRead}
 use Rattle.group.specs.Blank.{blankRamp}
-use Rattle.header.specs.Lines.{rampLine}
+use Rattle.line.specs.Lines.{rampLine}
 use Rattle.header.proofs.ItemLaws.{Loop, loop-enters, loop-stops, loop-unclosed, loop-refuses, loop-reads, loop-leaves, end-le}
-use Rattle.header.proofs.ReadLaws.{ramp-refused, ramp-accepted}
+use Rattle.line.proofs.ReadLaws.{ramp-refused, ramp-accepted}
 use Rattle.header.proofs.read_ramps.Statement.{statement}
 use Rattle.header.proofs.read_ramps.Tie as tie
 

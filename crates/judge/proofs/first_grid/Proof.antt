@@ -2,19 +2,19 @@
 use Prim.Native.Nat.{_-_}
 use mathlib.Core.Path.{_∙_, sym}
 use native.Mathlib.Omega.{arith}
-use Rattle.numbers.proofs.FirstLaws.{Passed, passed-none, passed-more, passed-end, passed-found}
+use Rattle.numbers.proofs.FirstLaws.{Passed, passed-more, passed-end, passed-found}
 use Rattle.judge.specs.Rules.{gridBreaks}
 use Rattle.judge.proofs.first_grid.Statement.{statement}
 use Rattle.judge.proofs.first_grid.Tie as tie
 
 abbrev Inv-loop : tie.InvT-loop
-Inv-loop rule n group used np i₀ i = Passed (gridBreaks rule group) n i
+Inv-loop rule from n group used np i₀ i = Passed (gridBreaks rule group) n i
 
 abbrev μ-loop : tie.MeasureT-loop
-μ-loop rule n group used np i₀ i = n - i
+μ-loop rule from n group used np i₀ i = n - i
 
 loop-holds : tie.Need-loop-holds Inv-loop μ-loop
-loop-holds c = passed-none _ _
+loop-holds c = record { bound = c .pre .0; clear = c .pre .2 }
 
 mul-g : tie.Need-mul-g Inv-loop μ-loop
 mul-g c = omega arith
@@ -23,7 +23,7 @@ element-copy-out-g : tie.Need-element-copy-out-g Inv-loop μ-loop
 element-copy-out-g c = omega arith
 
 grid-breaks-requires : tie.Need-grid-breaks-requires Inv-loop μ-loop
-grid-breaks-requires c κs = c .before .before .before .pre .1 (c .before .before .loop .i) (c .before .loop-test .taken)
+grid-breaks-requires c κs = c .before .before .before .pre .3 (c .before .before .loop .i) (c .before .loop-test .taken)
 
 returns : tie.Need-returns Inv-loop μ-loop
 returns c =

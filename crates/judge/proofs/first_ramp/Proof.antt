@@ -3,25 +3,28 @@ use Prim.Native.Nat.{_-_}
 use mathlib.Core.Path.{_∙_, sym}
 use borrow.Author.Needs.{needs}
 use native.Mathlib.Omega.{arith}
-use Rattle.numbers.proofs.FirstLaws.{Passed, passed-none, passed-more, passed-end, passed-found}
-use Rattle.judge.specs.Rules.{rampBreaks}
+use Rattle.numbers.proofs.FirstLaws.{Passed, passed-more, passed-end, passed-found}
+use lib.Dec.{leb}
+use lib.ListN.{getD}
+use Rattle.group.specs.Record.{noRamp}
+use Rattle.judge.specs.Rules.{rampTest}
 use Rattle.judge.proofs.first_ramp.Statement.{statement}
 use Rattle.judge.proofs.first_ramp.Tie as tie
 
 abbrev Inv-loop : tie.InvT-loop
-Inv-loop rule n group used i₀ i = Passed (rampBreaks rule group) n i
+Inv-loop rule used from n ramps i₀ i = Passed (λ k. rampTest rule (leb used k) (getD ramps k noRamp)) n i
 
 abbrev μ-loop : tie.MeasureT-loop
-μ-loop rule n group used i₀ i = n - i
+μ-loop rule used from n ramps i₀ i = n - i
 
 loop-holds : tie.Need-loop-holds Inv-loop μ-loop
-loop-holds c = passed-none _ _
+loop-holds c = record { bound = c .pre .0; clear = c .pre .2 }
 
 mul-r : tie.Need-mul-r Inv-loop μ-loop
 mul-r c = omega arith
 
-element-copy-out-r : tie.Need-element-copy-out-r Inv-loop μ-loop
-element-copy-out-r c = omega arith
+array-copy-out-r : tie.Need-array-copy-out-r Inv-loop μ-loop
+array-copy-out-r c = omega arith
 
 ramp-breaks-requires : tie.Need-ramp-breaks-requires Inv-loop μ-loop
 ramp-breaks-requires c κs = search needs
@@ -53,7 +56,7 @@ first-ramp-spec =
     μ-loop
     loop-holds
     mul-r
-    element-copy-out-r
+    array-copy-out-r
     ramp-breaks-requires
     returns
     add-i

@@ -1,5 +1,4 @@
 -- `head_fits` meets its contract.
-use Rattle.group.specs.Limits.{headFits}
 use borrow.Author.Needs.{needs}
 use Rattle.judge.proofs.head_fits.Statement.{statement}
 use Rattle.judge.proofs.head_fits.Tie as tie
@@ -11,7 +10,6 @@ head-numbers-fit-requires : tie.Need-head-numbers-fit-requires
 head-numbers-fit-requires c κs = search needs
 
 returns : tie.Need-returns
-unfolding headFits
 returns c = rw (c .before .name-fits .ensures, c .head-numbers-fit .ensures)
 
 pub head-fits-spec : {M : Type 1} → statement M

@@ -1,9 +1,11 @@
 -- `judge` meets its contract, stage by stage.
-use mathlib.Core.Path.{_∙_, sym}
+use mathlib.Core.Path.{_≡_, _∙_, sym}
 use borrow.Author.Tests.{not-false}
+use Rattle.group.specs.Limits.{headFits}
 use Rattle.judge.specs.Judge.{judged}
 use Rattle.judge.proofs.LimitLaws.{head-sized}
-use Rattle.judge.proofs.JudgeLaws.{fixed-here, fixed-past, head-here, head-past}
+use Rattle.judge.proofs.JudgeLaws.{ramp-kept, grid-kept, fixed-here, fixed-past, head-here, head-past}
+use native.Mathlib.Omega.{arith}
 use borrow.Author.Needs.{needs}
 use Rattle.judge.proofs.judge.Statement.{statement}
 use Rattle.judge.proofs.judge.Tie as tie
@@ -11,38 +13,46 @@ use Rattle.judge.proofs.judge.Tie as tie
 head-fits-requires : tie.Need-head-fits-requires
 head-fits-requires c κs = search needs
 
+heads : (c : tie.After-head-fits) → c .head-fits .result ≡ headFits (c .before .args .group)
+unfolding headFits
+heads c = c .head-fits .ensures
+
 returns : tie.Need-returns
 unfolding judged
-returns c = head-here _ _ (c .before .head-fits .ensures) (c .if1 .taken)
+returns c = head-here _ _ (heads (c .before)) (c .if1 .taken)
 
 first-ramp-requires : tie.Need-first-ramp-requires
-first-ramp-requires c κs = search needs
+first-ramp-requires c κs =
+    let h = head-sized _ (sym (heads (c .before .before)) ∙ not-false _ (c .before .if1 .left)) in
+    (h .ramps, omega arith, ramp-kept (c .before .before .before .args .group))
 
 returns-2 : tie.Need-returns-2
 unfolding judged
 returns-2 c =
     fixed-here _ _ _ _ _ _ (c .before .first-ramp .ensures) (c .if2 .taken)
-    ∙ sym (head-past _ _ (c .before .before .before .head-fits .ensures) (c .before .before .if1 .left))
+    ∙ sym (head-past _ _ (heads (c .before .before .before .before)) (c .before .before .before .if1 .left))
 
 first-grid-requires : tie.Need-first-grid-requires
-first-grid-requires c κs = search needs
+first-grid-requires c κs =
+    let h = head-sized _ (sym (heads (c .before .before .before .before)) ∙ not-false _ (c .before .before .before .if1 .left)) in
+    (h .grids, omega arith, grid-kept (c .before .before .before .before .before .args .group), λ k l. tt)
 
 returns-3 : tie.Need-returns-3
 unfolding judged
 returns-3 c =
     fixed-here _ _ _ _ _ _ (c .before .first-grid .ensures) (c .if3 .taken)
-    ∙ sym (head-past _ _ (c .before .before .before .before .before .head-fits .ensures) (c .before .before .before .before .if1 .left)
+    ∙ sym (head-past _ _ (heads (c .before .before .before .before .before .before)) (c .before .before .before .before .before .if1 .left)
     ∙ fixed-past _ _ _ _ _ _ (c .before .before .before .first-ramp .ensures) (c .before .before .if2 .left))
 
 judge-lines-requires : tie.Need-judge-lines-requires
 judge-lines-requires c κs =
-    head-sized _ (sym (c .before .before .before .before .before .head-fits .ensures) ∙ not-false _ (c .before .before .before .before .if1 .left))
+    head-sized _ (sym (heads (c .before .before .before .before .before .before)) ∙ not-false _ (c .before .before .before .before .before .if1 .left))
 
 returns-4 : tie.Need-returns-4
 unfolding judged
 returns-4 c =
     c .judge-lines .ensures
-    ∙ sym (head-past _ _ (c .before .before .before .before .before .before .head-fits .ensures) (c .before .before .before .before .before .if1 .left)
+    ∙ sym (head-past _ _ (heads (c .before .before .before .before .before .before .before)) (c .before .before .before .before .before .before .if1 .left)
     ∙ fixed-past _ _ _ _ _ _ (c .before .before .before .before .first-ramp .ensures) (c .before .before .before .if2 .left)
     ∙ fixed-past _ _ _ _ _ _ (c .before .before .first-grid .ensures) (c .before .if3 .left))
 

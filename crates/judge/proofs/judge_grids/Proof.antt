@@ -3,6 +3,8 @@ use mathlib.Core.Path.{_∙_, sym}
 use Rattle.judge.specs.Judge.{judgedGrids}
 use Rattle.judge.proofs.LimitLaws.{grid-sized}
 use Rattle.judge.proofs.JudgeLaws.{at-here, at-past, comparable}
+use native.Mathlib.Omega.{arith}
+use borrow.Author.Count.{below-none}
 use borrow.Author.Needs.{needs}
 use Rattle.judge.proofs.judge_grids.Statement.{statement}
 use Rattle.judge.proofs.judge_grids.Tie as tie
@@ -20,7 +22,7 @@ returns c = at-here _ _ _ _ _ _ (c .before .first-sharing .ensures) (c .if1 .tak
 first-grid-requires : tie.Need-first-grid-requires
 first-grid-requires c κs =
     let p = c .before .before .pre in
-    (p .0 .grids, λ k l. (p .0 .parameters, grid-sized _ (p .1 .fits k l)))
+    (omega arith, p .0 .grids, below-none _, λ k l. (p .0 .parameters, grid-sized _ (p .1 .fits k l)))
 
 add-t11 : tie.Need-add-t11
 add-t11 c = search needs

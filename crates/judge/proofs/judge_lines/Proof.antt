@@ -2,28 +2,30 @@
 use mathlib.Core.Path.{_∙_, sym}
 use Rattle.judge.specs.Judge.{judgedLines}
 use Rattle.judge.proofs.JudgeLaws.{at-here, at-past, grids-fit}
+use native.Mathlib.Omega.{arith}
+use borrow.Author.Count.{below-none}
 use borrow.Author.Needs.{needs}
 use Rattle.judge.proofs.judge_lines.Statement.{statement}
 use Rattle.judge.proofs.judge_lines.Tie as tie
 
 first-ramp-requires : tie.Need-first-ramp-requires
-first-ramp-requires c κs = search needs
+first-ramp-requires c κs = (omega arith, c .before .pre .ramps, below-none _)
 
-add-t8 : tie.Need-add-t8
-add-t8 c = search needs
+add-t9 : tie.Need-add-t9
+add-t9 c = search needs
 
 returns : tie.Need-returns
 unfolding judgedLines
 returns c = at-here _ _ _ _ _ _ (c .before .first-ramp .ensures) (c .if1 .taken)
 
 first-grid-requires : tie.Need-first-grid-requires
-first-grid-requires c κs = search needs
-
-add-t11 : tie.Need-add-t11
-add-t11 c = search needs
+first-grid-requires c κs = (omega arith, c .before .before .before .pre .grids, below-none _, λ k l. tt)
 
 add-t12 : tie.Need-add-t12
 add-t12 c = search needs
+
+add-t13 : tie.Need-add-t13
+add-t13 c = search needs
 
 returns-2 : tie.Need-returns-2
 unfolding judgedLines
@@ -32,7 +34,7 @@ returns-2 c =
     ∙ sym (at-past _ _ _ _ _ _ (c .before .before .before .first-ramp .ensures) (c .before .before .if1 .left))
 
 judge-grids-requires : tie.Need-judge-grids-requires
-judge-grids-requires c κs = (c .before .before .before .before .pre, grids-fit _ _ (c .before .first-grid .ensures) (c .if2 .left))
+judge-grids-requires c κs = (c .before .before .before .before .before .pre, grids-fit _ _ (c .before .first-grid .ensures) (c .if2 .left))
 
 returns-3 : tie.Need-returns-3
 unfolding judgedLines
@@ -46,11 +48,11 @@ judge-lines-spec =
     tie.close
     (tie.spec
     first-ramp-requires
-    add-t8
+    add-t9
     returns
     first-grid-requires
-    add-t11
     add-t12
+    add-t13
     returns-2
     judge-grids-requires
     returns-3)

@@ -1,10 +1,13 @@
 -- `grid_of` meets its contract.
-use borrow.Author.Needs.{needs}
 use mathlib.Core.Path.{ap, _∙_}
 use Rattle.layout.specs.Layout.{nameOf, gridOf}
 use Rattle.layout.proofs.NumberLaws.{told}
+use borrow.Author.Needs.{needs}
 use Rattle.layout.proofs.grid_of.Statement.{statement}
 use Rattle.layout.proofs.grid_of.Tie as tie
+
+mul-name-of : tie.Need-mul-name-of
+mul-name-of c = search needs
 
 add-name-of : tie.Need-add-name-of
 add-name-of c = search needs
@@ -122,6 +125,7 @@ pub grid-of-spec : {M : Type 1} → statement M
 grid-of-spec =
     tie.close
     (tie.spec
+    mul-name-of
     add-name-of
     mul-count-at
     add-count-at

@@ -9,10 +9,10 @@ use Rattle.layout.proofs.grids_of.Statement.{statement}
 use Rattle.layout.proofs.grids_of.Tie as tie
 
 abbrev Inv-loop : tie.InvT-loop
-Inv-loop numbers names grids₀ i₀ grids i = Filled (gridOf numbers names) noGrid 64 i grids
+Inv-loop numbers grids₀ i₀ grids i = Filled (gridOf numbers) noGrid 64 i grids
 
 abbrev μ-loop : tie.MeasureT-loop
-μ-loop numbers names grids₀ i₀ grids i = 64 - i
+μ-loop numbers grids₀ i₀ grids i = 64 - i
 
 blank-grid-requires : tie.Need-blank-grid-requires Inv-loop μ-loop
 blank-grid-requires c κs = search needs
@@ -41,8 +41,8 @@ loop-again c =
 
 returns : tie.Need-returns Inv-loop μ-loop
 returns c =
-    let s = c .before .before .before .before .args in
-    filled-all (gridOf (s .numbers .now) (s .names .now)) noGrid 64 _ _ (c .before .loop .inv) (c .loop-test .left)
+    let s = c .before .before .before .args in
+    filled-all (gridOf (s .numbers .now)) noGrid 64 _ _ (c .before .loop .inv) (c .loop-test .left)
 
 pub grids-of-spec : {M : Type 1} → statement M
 grids-of-spec =

@@ -19,15 +19,15 @@ returns : tie.Need-returns
 returns c =
     let ns = c .before .before .before .args .numbers .now in
     let u = told (c .before .before .number-at .ok) (c .before .before .number-at .ensures) in
-    let t : between (pos 0) (pos 1) (numberAt ns 1) ≡ true = sym (ap (between (pos 0) (pos 1)) u) ∙ c .before .if1 .taken in
-    c .count-at .ensures ∙ sym (ap (λ (b : Bool). cond b (countAt ns 2) beyond) t)
+    let t : between (pos 0) (pos 1) (numberAt ns 4) ≡ true = sym (ap (between (pos 0) (pos 1)) u) ∙ c .before .if1 .taken in
+    c .count-at .ensures ∙ sym (ap (λ (b : Bool). cond b (countAt ns 5) beyond) t)
 
 returns-2 : tie.Need-returns-2
 returns-2 c =
     let ns = c .before .before .args .numbers .now in
     let u = told (c .before .number-at .ok) (c .before .number-at .ensures) in
-    let t : between (pos 0) (pos 1) (numberAt ns 1) ≡ false = sym (ap (between (pos 0) (pos 1)) u) ∙ c .if1 .left in
-    sym (ap (λ (b : Bool). cond b (countAt ns 2) beyond) t)
+    let t : between (pos 0) (pos 1) (numberAt ns 4) ≡ false = sym (ap (between (pos 0) (pos 1)) u) ∙ c .if1 .left in
+    sym (ap (λ (b : Bool). cond b (countAt ns 5) beyond) t)
 
 pub quantum-of-spec : {M : Type 1} → statement M
 quantum-of-spec = tie.close (tie.spec number-at-requires count-at-requires returns returns-2)

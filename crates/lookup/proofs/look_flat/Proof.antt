@@ -1,7 +1,6 @@
 -- `look_flat` meets its contract: the chosen grid holds the point.
-use borrow.Author.Needs.{needs}
-use Prim.Native.Nat.{ℕ, _-_, _*_, _≤_}
-use mathlib.Core.Path.{_≡_, sym, ap, _∙_, subst}
+use Prim.Native.Nat.{ℕ, _*_, _≤_}
+use mathlib.Core.Path.{_≡_, sym, _∙_, subst}
 use mathlib.Core.List.{List}
 use native.Mathlib.Omega.{arith}
 use lib.IntN.{ℤ, natAbs}
@@ -10,14 +9,11 @@ use mir.Syntax.{w64}
 use mir.ValLaws.{toZ-ofZ}
 use Rattle.choice.specs.Rect.{at, holds}
 use Rattle.choice.specs.Choice.{chosen}
-use Rattle.choice.proofs.ChoiceLaws.{Best, chosen-best}
-use Rattle.fix.specs.declared.Place.{Place}
-use Rattle.fix.specs.Fix.{fixIn}
-use Rattle.lookup.specs.Lookup.{fixAt}
-use Rattle.lookup.specs.declared.Frame.{Frame}
-use Rattle.lookup.specs.Flat.{frameAt, placeIn}
 use Rattle.choice.proofs.PartLaws.{chosen-part}
-use Rattle.lookup.proofs.FixAtLaws.{fix-at-none, fix-at-some}
+use Rattle.lookup.specs.Lookup.{fixAt}
+use Rattle.lookup.specs.Flat.{frameAt, placeIn}
+use Rattle.lookup.proofs.ChosenLaws.{laid-chosen}
+use borrow.Author.Needs.{needs}
 use Rattle.lookup.proofs.look_flat.Statement.{statement}
 use Rattle.lookup.proofs.look_flat.Tie as tie
 
@@ -45,63 +41,25 @@ module _ (c : tie.After-chosen-at) where
   abbrev entry : tie.Start
   entry = c .before .before .before .before .before .before
 
-  abbrev held : ℕ
-  held = chosen (λ i. holds (entry .args .sides .now) i (entry .args .x) (entry .args .y)) (at (entry .args .ranks .now)) (entry .args .grids)
-
-  told : c .chosen-at .result ≡ held
+  told : c .chosen-at .result
+      ≡ chosen (λ i. holds (entry .args .sides .now) i (entry .args .x) (entry .args .y)) (at (entry .args .ranks .now)) (entry .args .grids)
   told =
       let a = entry .args in
       c .chosen-at .ensures
       ∙ chosen-part (a .sides .now) (a .ranks .now) (a .grids) (a .x) (a .y) (entry .pre .0 .sides-room) (entry .pre .0 .ranks-room)
 
-  best : (c .chosen-at .result ≡ 0 → ⊥)
-      → Best (λ i. holds (entry .args .sides .now) i (entry .args .x) (entry .args .y)) (at (entry .args .ranks .now)) (entry .args .grids) (c .chosen-at .result - 1)
-  best h = chosen-best _ _ _ (c .chosen-at .result - 1) (sym told ∙ omega arith)
+fix-chosen-requires : tie.Need-fix-chosen-requires
+fix-chosen-requires c κs =
+    let s = entry c in let a = s .args in (
+      laid-chosen (a .sides .now) (a .ranks .now) (a .frames .now) (a .grids) (a .np) (length (a .nodes .now)) (a .x) (a .y) (s .pre .0) (c .chosen-at .result) (told c),
+      subst (λ (z : ℤ). natAbs z ≤ 80000000) (sym (toZ-ofZ w64 (a .factor) (s .fits .factor))) (s .pre .1),
+    )
 
 returns : tie.Need-returns
 returns c =
-    let q = c .before in let a = entry q .args in
-    sym (fix-at-none (held q) (λ k. placeIn (frameAt (a .frames .now) k) (a .np) (a .x) (a .y)) (a .nodes .now) (a .factor) (sym (told q) ∙ c .if1 .taken))
-
-sub-k : tie.Need-sub-k
-sub-k c = search needs
-
-frame-at-requires : tie.Need-frame-at-requires
-frame-at-requires c κs =
-    let b = best (c .before) (c .if1 .left) .among in let r = entry (c .before) .pre .0 .frames-room in
-    omega arith
-
-place-in-requires : tie.Need-place-in-requires
-place-in-requires c κs = search needs
-
--- where the point lies in the chosen grid
-placed : (c : tie.After-place-in) → c .place-in .result
-    ≡ placeIn (frameAt (entry (c .before .before .before) .args .frames .now) (c .before .before .before .chosen-at .result - 1)) (entry (c .before .before .before) .args .np) (entry (c .before .before .before) .args .x) (entry (c .before .before .before) .args .y)
-placed c =
-    let a = entry (c .before .before .before) .args in
-    c .place-in .ensures ∙ ap (λ (f : Frame). placeIn f (a .np) (a .x) (a .y)) (c .before .frame-at .ensures)
-
-fix-in-requires : tie.Need-fix-in-requires
-fix-in-requires c κs =
-    let q = c .before .before .before in let s = entry q in let k = q .chosen-at .result - 1 in
-    let b = best q (c .before .before .if1 .left) in
-    rw (placed c) (
-      s .pre .0 .placed k (b .among) (b .inside),
-      s .pre .0 .listed k (b .among),
-      subst (λ (z : ℤ). natAbs z ≤ 80000000) (sym (toZ-ofZ w64 (s .args .factor) (s .fits .factor))) (s .pre .1),
-    )
-
--- from the choice as `chosen_at` told it
-whole : (c h : ℕ) (place : ℕ → Place) (nodes : List ℤ) (f : ℤ) → c ≡ h → (c ≡ 0 → ⊥) → fixIn (place (c - 1)) nodes f c ≡ fixAt h place nodes f
-whole c h place nodes f e z =
-    sym (fix-at-some c place nodes f z) ∙ ap (λ (n : ℕ). fixAt n place nodes f) e
-
-returns-2 : tie.Need-returns-2
-returns-2 c =
-    let q = c .before .before .before .before in let a = entry q .args in
-    c .fix-in .ensures
-    ∙ (λ i. fixIn (placed (c .before) i) (a .nodes .now) (toZ-ofZ w64 (a .factor) (entry q .fits .factor) i) (q .chosen-at .result))
-    ∙ whole (q .chosen-at .result) (held q) (λ k. placeIn (frameAt (a .frames .now) k) (a .np) (a .x) (a .y)) (a .nodes .now) (a .factor) (told q) (c .before .before .before .if1 .left)
+    let s = entry (c .before) in let a = s .args in
+    c .fix-chosen .ensures
+    ∙ (λ i. fixAt (told (c .before) i) (λ k. placeIn (frameAt (a .frames .now) k) (a .np) (a .x) (a .y)) (a .nodes .now) (toZ-ofZ w64 (a .factor) (s .fits .factor) i))
 
 pub look-flat-spec : {M : Type 1} → statement M
 look-flat-spec =
@@ -111,9 +69,5 @@ look-flat-spec =
     slice-aggregate-chosen-at
     slice-aggregate-chosen-at-2
     chosen-at-requires
-    returns
-    sub-k
-    frame-at-requires
-    place-in-requires
-    fix-in-requires
-    returns-2)
+    fix-chosen-requires
+    returns)

@@ -12,27 +12,28 @@ use lib.ListN.{length, getD}
 use borrow.Author.Needs.{needs}
 use borrow.Author.Tests.{lt-ltb, le-ltb, eq-eqb, ne-eqb}
 use Rattle.numbers.proofs.FirstLaws.{first-le}
+use Rattle.group.specs.Refusals.{refusal}
 use Rattle.nodes.specs.declared.Loaded.{Loaded}
-use Rattle.nodes.specs.declared.Loaded.the-variants.{Done}
-use Rattle.nodes.specs.Load.{refused, nodeOf, firstRefused, refusal, loaded, numberOf, nodesAfter}
+use Rattle.nodes.specs.declared.Loaded.the-variants.{Done, Refused}
+use Rattle.nodes.specs.Load.{refused, nodeOf, firstRefused, loaded, loadedRefusal, nodesAfter}
 use Rattle.nodes.proofs.load_nodes.Statement.{statement}
 use Rattle.nodes.proofs.load_nodes.Tie as tie
 
 module _ (q : ℕ) (flag : Float) (floats : List Float) (nodes : List ℤ) where
   -- r is the answer, and with it the nodes afterwards
-  answered : (r : Loaded) → r ≡ loaded q flag floats (length nodes) → (r ≡ loaded q flag floats (length nodes)) × (cond (eqb (numberOf r) 0) (map (nodeOf q flag) floats) nodes ≡ nodesAfter q flag floats nodes)
+  answered : (r : Loaded) → r ≡ loaded q flag floats (length nodes) → (r ≡ loaded q flag floats (length nodes)) × (cond (eqb (loadedRefusal r .number) 0) (map (nodeOf q flag) floats) nodes ≡ nodesAfter q flag floats nodes)
   unfolding nodesAfter
-  answered r e = (e, ap (λ (l : Loaded). cond (eqb (numberOf l) 0) (map (nodeOf q flag) floats) nodes) e)
+  answered r e = (e, ap (λ (l : Loaded). cond (eqb (loadedRefusal l .number) 0) (map (nodeOf q flag) floats) nodes) e)
 
-  by-quantum : 20 < q → refusal 2 0 ≡ loaded q flag floats (length nodes)
+  by-quantum : 20 < q → Refused (refusal 2 0) ≡ loaded q flag floats (length nodes)
   unfolding loaded
   by-quantum h = rw (lt-ltb 20 q h)
 
-  by-count : q ≤ 20 → (length floats ≡ length nodes → ⊥) → refusal 12 0 ≡ loaded q flag floats (length nodes)
+  by-count : q ≤ 20 → (length floats ≡ length nodes → ⊥) → Refused (refusal 12 0) ≡ loaded q flag floats (length nodes)
   unfolding loaded
   by-count h n = rw (le-ltb 20 q h, ne-eqb (length floats) (length nodes) n)
 
-  by-float : (i : ℕ) → i ≡ firstRefused q flag floats → q ≤ 20 → length floats ≡ length nodes → i < length floats → refusal 11 (i + 1) ≡ loaded q flag floats (length nodes)
+  by-float : (i : ℕ) → i ≡ firstRefused q flag floats → q ≤ 20 → length floats ≡ length nodes → i < length floats → Refused (refusal 11 (i + 1)) ≡ loaded q flag floats (length nodes)
   unfolding loaded
   by-float i f h e l = rw (le-ltb 20 q h, eq-eqb (length floats) (length nodes) e, ← f, lt-ltb i (length floats) l, add-one)
 
@@ -48,13 +49,13 @@ all-passed q flag floats i f h = omega (arith, first-le (λ k. refused q flag (g
 returns : tie.Need-returns
 returns c =
     let a = c .before .before .args in
-    answered (a .quantum) (a .flag) (a .floats .now) (a .nodes .now) (refusal 2 0)
+    answered (a .quantum) (a .flag) (a .floats .now) (a .nodes .now) (Refused (refusal 2 0))
     (by-quantum (a .quantum) (a .flag) (a .floats .now) (a .nodes .now) (c .if1 .taken))
 
 returns-2 : tie.Need-returns-2
 returns-2 c =
     let a = c .before .before .before .args in
-    answered (a .quantum) (a .flag) (a .floats .now) (a .nodes .now) (refusal 12 0)
+    answered (a .quantum) (a .flag) (a .floats .now) (a .nodes .now) (Refused (refusal 12 0))
     (by-count (a .quantum) (a .flag) (a .floats .now) (a .nodes .now) (c .before .if1 .left) (c .if2 .taken))
 
 first-refused-requires : tie.Need-first-refused-requires
@@ -67,7 +68,7 @@ returns-3 : tie.Need-returns-3
 returns-3 c =
     let f = c .before in
     let a = f .before .before .before .before .args in
-    answered (a .quantum) (a .flag) (a .floats .now) (a .nodes .now) (refusal 11 (f .first-refused .result + 1))
+    answered (a .quantum) (a .flag) (a .floats .now) (a .nodes .now) (Refused (refusal 11 (f .first-refused .result + 1)))
     (by-float (a .quantum) (a .flag) (a .floats .now) (a .nodes .now) (f .first-refused .result) (f .first-refused .ensures) (f .before .before .if1 .left) (f .before .if2 .left) (c .if3 .taken))
 
 fill-requires : tie.Need-fill-requires

@@ -15,7 +15,7 @@ use Rattle.fix.specs.declared.Lookup.{Lookup}
 use Rattle.fix.specs.declared.Lookup.the-variants as lookup
 use Rattle.screen.specs.declared.ScreenAnswer.{ScreenAnswer}
 use Rattle.screen.specs.declared.ScreenAnswer.the-variants as answer
-use Rattle.screen.specs.Screen.{admitted, shownShift, shown, answerOf}
+use Rattle.screen.specs.Screen.{admitted, shownShift, handedOn, shown, answerOf}
 use Rattle.screen.proofs.screen_answer.Statement.{statement}
 use Rattle.screen.proofs.screen_answer.Tie as tie
 
@@ -35,9 +35,9 @@ module _ (q np : ℕ) (found : Lookup) where
   unfolding shown
   is-fix f a b c h e x y z = rw (x, y, z) (is-shown (lookup.Fix f) h e)
 
-  is-refused : (r : Refusal) → admitted q np ≡ true → found ≡ lookup.Refused r → answer.Refused r ≡ answerOf found q np
+  is-refused : (r s : Refusal) → admitted q np ≡ true → found ≡ lookup.Refused r → s ≡ handedOn r → answer.Refused s ≡ answerOf found q np
   unfolding shown
-  is-refused r h e = is-shown (lookup.Refused r) h e
+  is-refused r s h e t = rw t (is-shown (lookup.Refused r) h e)
 
 -- an admitted quantum
 quantum-limit : (q np : ℕ) → admitted q np ≡ true → q ≤ 20
@@ -73,6 +73,9 @@ shown-shift-requires-3 c κs = limit (c .before .before .before .before .before 
 enum-known-found-2 : tie.Need-enum-known-found-2
 enum-known-found-2 c = search needs
 
+handed-on-requires : tie.Need-handed-on-requires
+handed-on-requires c κs = tt
+
 returns-2 : tie.Need-returns-2
 returns-2 c =
     let second = c .before .before in
@@ -88,9 +91,10 @@ returns-2 c =
 
 returns-3 : tie.Need-returns-3
 returns-3 c =
-    let else = c .before .before .before in
+    let known = c .before .before in
+    let else = known .before .before in
     let a = else .before .before .args in
-    is-refused (a .quantum) (a .parameters) (a .found) (c .before .found2 .given .0 .0) (within else) (c .before .found2 .given .1)
+    is-refused (a .quantum) (a .parameters) (a .found) (known .found2 .given .0 .0) (c .handed-on .result) (within else) (known .found2 .given .1) (c .handed-on .ensures)
 
 pub screen-answer-spec : {M : Type 1} → statement M
 screen-answer-spec =
@@ -103,5 +107,6 @@ screen-answer-spec =
     shown-shift-requires-2
     shown-shift-requires-3
     enum-known-found-2
+    handed-on-requires
     returns-2
     returns-3)

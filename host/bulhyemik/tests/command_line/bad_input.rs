@@ -1,6 +1,6 @@
 //! Bad input to the command line: a clear message, status 2, and nothing written.
 
-use crate::program::{Answer, Folder, stopped};
+use crate::program::{Answer, Folder, as_a_plain_user, stopped};
 use std::ffi::OsStr;
 use std::os::unix::ffi::OsStrExt;
 
@@ -12,23 +12,6 @@ fn all_stop(folder: &Folder, cases: &[(&str, String)]) {
     for (arguments, message) in cases {
         assert_eq!(folder.run(arguments), stopped(message), "{arguments}");
         assert_eq!(folder.files(), before, "{arguments}");
-    }
-}
-
-/// The command line must stop with its message for a user who is not root; skipped where root can't become one.
-fn as_a_plain_user(folder: &Folder, before: &str, arguments: &str, message: &str) {
-    const SKIPPED: i32 = 9;
-    let line = format!(
-        "{before}
-        if [ \"$(id -u)\" = 0 ]; then as='setpriv --reuid=65534 --regid=65534 --clear-groups'; fi
-        $as test -x \"$PROGRAM\" -a -x . || exit {SKIPPED}
-        exec $as \"$PROGRAM\" {arguments}"
-    );
-    let answer = folder.shell(&line);
-    if answer.status == SKIPPED {
-        println!("skipped: {arguments}");
-    } else {
-        assert_eq!(answer, stopped(message), "{arguments}");
     }
 }
 
@@ -94,26 +77,6 @@ fn truncated_node_files() {
 }
 
 #[test]
-fn empty_files() {
-    let folder = Folder::new("empty");
-    folder.put("empty", b"");
-    let empty = |file: &str| format!("cannot use {file}: it is empty; check how it was made");
-    all_stop(
-        &folder,
-        &[
-            ("check empty", empty("empty")),
-            ("check -", empty("standard input")),
-            ("format empty", empty("empty")),
-            ("lookup empty dock.nodes 0 0 0", empty("empty")),
-            ("lookup dock.txt empty 0 0 0", empty("empty")),
-            ("screen dock.txt empty 0 0 0", empty("empty")),
-            ("inforce empty 0 0 0 0", empty("empty")),
-            ("load empty new.nodes 0", empty("empty")),
-        ],
-    );
-}
-
-#[test]
 fn unreadable_files() {
     let failed =
         || "cannot read /proc/self/mem: Input/output error (os error 5); check the file and its disk".to_string();
@@ -141,13 +104,19 @@ fn unknown_commands_and_options() {
         &folder,
         &[
             ("chek dock.txt", "there is no command 'chek'; see bulhyemik --help".into()),
-            ("--verbose", "there is no command '--verbose'; see bulhyemik --help".into()),
+            ("help chek", "there is no command 'chek'; see bulhyemik --help".into()),
+            ("--verbose", "there is no option '--verbose'; see bulhyemik --help".into()),
+            ("-v", "there is no option '-v'; see bulhyemik --help".into()),
             ("check --quick dock.txt", "there is no option '--quick'; see bulhyemik check --help".into()),
+            ("check -q dock.txt", "there is no option '-q'; see bulhyemik check --help".into()),
+            ("check --tsv dock.txt", "there is no option '--tsv'; see bulhyemik check --help".into()),
+            ("lookup dock.txt dock.nodes -x 0 0", "there is no option '-x'; see bulhyemik lookup --help".into()),
+            ("check -- -q", "cannot read -q: there is no such file or folder; check the path".into()),
         ],
     );
     let odd = OsStr::from_bytes(b"ch\xffck");
     let answer = folder.run_with(&[odd], b"");
-    assert_eq!(answer, stopped("there is no command 'ch\u{fffd}ck'; see bulhyemik --help"));
+    assert_eq!(answer, stopped("there is no command 'ch\\xffck'; see bulhyemik --help"));
 }
 
 #[test]
@@ -162,18 +131,20 @@ fn too_few_and_too_many_arguments() {
     let takes = |command: &str, named: &str, count: &str| {
         format!("{command} takes {named}, not {count}; see bulhyemik {command} --help")
     };
-    let (points, area) = ("HEADER NODES LON LAT DAY", "HEADER WEST EAST SOUTH NORTH");
-    let (lookup, load) = ("HEADER NODES, or HEADER NODES LON LAT DAY", "FLOATS NODES Q, or FLOATS NODES Q FLAG");
+    let (check, area) = ("HEADER, or HEADER NODES", "HEADER WEST EAST SOUTH NORTH");
+    let (points, load) = ("HEADER NODES, or HEADER NODES LON LAT DAY", "FLOATS NODES Q, or FLOATS NODES Q FLAG");
     all_stop(
         &Folder::new("counts"),
         &[
-            ("check", takes("check", "HEADER", "0 arguments")),
-            ("check dock.txt dock.txt", takes("check", "HEADER", "2 arguments")),
+            ("check", takes("check", check, "0 arguments")),
+            ("check dock.txt dock.nodes 0", takes("check", check, "3 arguments")),
+            ("grids", takes("grids", "HEADER", "0 arguments")),
+            ("help check format", takes("help", "COMMAND, or nothing", "2 arguments")),
             ("format", takes("format", "HEADER", "0 arguments")),
-            ("lookup dock.txt", takes("lookup", lookup, "1 argument")),
-            ("lookup dock.txt dock.nodes 1", takes("lookup", lookup, "3 arguments")),
-            ("lookup dock.txt dock.nodes 1 2", takes("lookup", lookup, "4 arguments")),
-            ("lookup dock.txt dock.nodes 1 2 3 4", takes("lookup", lookup, "6 arguments")),
+            ("lookup dock.txt", takes("lookup", points, "1 argument")),
+            ("lookup dock.txt dock.nodes 1", takes("lookup", points, "3 arguments")),
+            ("lookup dock.txt dock.nodes 1 2", takes("lookup", points, "4 arguments")),
+            ("lookup dock.txt dock.nodes 1 2 3 4", takes("lookup", points, "6 arguments")),
             ("screen dock.txt dock.nodes 1 2", takes("screen", points, "4 arguments")),
             ("inforce dock.txt 1 2 3", takes("inforce", area, "4 arguments")),
             ("inforce dock.txt 1 2 3 4 5", takes("inforce", area, "6 arguments")),
@@ -213,18 +184,22 @@ fn points_not_of_the_form() {
     let folder = Folder::new("points");
     let before = folder.files();
     let wanted = "must be LON, LAT and DAY, whole numbers parted by tabs";
-    let cases: [(&[u8], &str); 6] = [
-        (b"5\t5\t5\n5 5 5\n", "line 2 of standard input is '5 5 5'"),
+    let long = format!("line 1 of standard input is '{}..'", "1".repeat(60));
+    let cases: [(&[u8], &str); 7] = [
+        (&[b'1'; 1 << 20], &long),
+        (b"5 5 5\n", "line 1 of standard input is '5 5 5'"),
         (b"5\t5\n", "line 1 of standard input is '5\\t5'"),
         (b"5\t5\t5\r\n", "line 1 of standard input is '5\\t5\\t5\\r'"),
-        (b"5\t5\t5\n\n", "line 2 of standard input is ''"),
+        (b"\n", "line 1 of standard input is ''"),
         (b"5\t5\t5\t5\n", "line 1 of standard input is '5\\t5\\t5\\t5'"),
         (b"\xff\t5\t05\n", "line 1 of standard input is '\\xff\\t5\\t05'"),
     ];
     for (input, line) in cases {
-        let answer = folder.run_with(&["lookup", "dock.txt", "dock.nodes"], input);
-        assert_eq!(answer, stopped(&format!("{line}, but {wanted}; see bulhyemik lookup --help")));
-        assert_eq!(folder.files(), before);
+        for command in ["lookup", "screen"] {
+            let answer = folder.run_with(&[command, "dock.txt", "dock.nodes"], input);
+            assert_eq!(answer, stopped(&format!("{line}, but {wanted}; see bulhyemik {command} --help")));
+            assert_eq!(folder.files(), before);
+        }
     }
 }
 
@@ -237,41 +212,46 @@ fn standard_input_for_two_things() {
             ("lookup - - 0 0 0", "HEADER and NODES are both standard input; see bulhyemik lookup --help".into()),
             ("lookup - dock.nodes", points.into()),
             ("lookup dock.txt -", points.into()),
+            ("check - -", "HEADER and NODES are both standard input; see bulhyemik check --help".into()),
             ("load dock.floats - 0", "NODES is '-', but must be a file; see bulhyemik load --help".into()),
         ],
     );
 }
 
 #[test]
-fn output_that_cannot_be_written() {
-    let missing = |file: &str| format!("cannot write {file}: there is no such file or folder; check the path");
-    all_stop(
-        &Folder::new("output"),
-        &[
-            ("load dock.floats none/new.nodes 0", missing("none/new.nodes")),
-            ("load dock.floats /proc/new.nodes 0", missing("/proc/new.nodes")),
-            ("load dock.floats /dev/full 0", "cannot write /dev/full: it is no regular file; name another".into()),
-        ],
+fn names_that_a_terminal_would_obey_are_escaped() {
+    let folder = Folder::new("escaped");
+    let name = "no\n\u{1b}[31mfile";
+    let missing = "there is no such file or folder; check the path";
+    assert_eq!(
+        folder.run_with(&["check", name], b""),
+        stopped(&format!("cannot read no\\n\\u{{1b}}[31mfile: {missing}"))
     );
+    assert_eq!(folder.run_with(&["check", ""], b""), stopped(&format!("cannot read '': {missing}")));
+    let answer = folder.run_with(&["load", "dock.floats", "none/\u{7}", "0"], b"");
+    assert_eq!(answer, stopped(&format!("cannot write none/\\u{{7}}: {missing}")));
+    let wrong = folder.run_with(&["inforce", "dock.txt", "\u{1b}c", "0", "0", "0"], b"");
+    assert_eq!(wrong, stopped(&format!("WEST is '\\u{{1b}}c', but must be {WHOLE}; see bulhyemik inforce --help")));
 }
 
 #[test]
-fn read_only_folders() {
-    let folder = Folder::new("readonly");
-    folder.make_folder("locked");
-    let message = "cannot write locked/new.nodes: permission is denied; check who may use it";
-    as_a_plain_user(&folder, "chmod 555 locked", "load dock.floats locked/new.nodes 0", message);
-}
-
-#[test]
-fn output_that_breaks_off() {
-    let folder = Folder::new("full");
-    folder.put("old.nodes", b"kept");
-    let before = folder.files();
-    let answer = folder.shell("trap '' XFSZ; ulimit -f 0; exec \"$PROGRAM\" load dock.floats old.nodes 0");
-    let message = "cannot write old.nodes: File too large (os error 27); check the file and its disk";
-    assert_eq!(answer, stopped(message));
-    assert_eq!(folder.files(), before, "the old file stays and nothing is left beside it");
-    let answer = folder.shell("\"$PROGRAM\" format dock.txt > /dev/full");
-    assert_eq!(answer, stopped("cannot write standard output: the disk is full; make room or write elsewhere"));
+fn no_memory_for_a_file() {
+    let folder = Folder::new("memory");
+    let memory = "there is not enough memory for it; use a smaller file or free memory";
+    let cases = [
+        ("check large", format!("cannot read large: {memory}")),
+        ("check dock.txt large", format!("cannot read large: {memory}")),
+        ("lookup dock.txt large 0 0 0", format!("cannot read large: {memory}")),
+        ("load large new.nodes 0", format!("cannot read large: {memory}")),
+        (
+            "load half new.nodes 0",
+            "there is not enough memory for 20971520 nodes; use a smaller file or free memory".into(),
+        ),
+    ];
+    let make = "truncate -s 1073741824 large && truncate -s 83886080 half";
+    for (arguments, message) in cases {
+        let answer = folder
+            .shell(&format!("{make} && ulimit -v 150000 && \"$PROGRAM\" {arguments}; s=$?; rm large half; exit $s"));
+        assert_eq!(answer, stopped(&message), "{arguments}");
+    }
 }

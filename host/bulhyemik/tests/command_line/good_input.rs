@@ -1,6 +1,6 @@
 //! What the command line prints for accepted and for refused input.
 
-use crate::program::{Answer, Folder, HEADER, accepted, refused, words};
+use crate::program::{Answer, Folder, HEADER, accepted, refused, refused_at, words};
 
 #[test]
 fn check_says_accepted() {
@@ -25,22 +25,12 @@ fn lookup_prints_one_fix() {
 }
 
 #[test]
-fn lookup_answers_each_line_of_standard_input() {
-    let folder = Folder::new("lookups");
-    let answer = folder.run_with(&["lookup", "dock.txt", "dock.nodes"], b"5\t5\t133\n21\t10\t0\n20\t10\t200");
-    assert_eq!(answer.status, 0);
-    assert_eq!(answer.out, "fix\t5\t5\t133\tbasin\t18\nrefused\t7\t0\nfix\t20\t10\t200\tbasin\t120\n");
-    assert_eq!(answer.err, "bulhyemik: point 2 refused: no grid holds the point\n");
-    assert_eq!(folder.run("lookup dock.txt dock.nodes"), accepted(""));
-}
-
-#[test]
-fn screen_prints_five_floats_that_read_back() {
+fn screen_prints_floats_that_read_back() {
     let folder = Folder::new("screen");
-    let line = "0.000001388888888888889\t0.000001388888888888889\t0.0067138671875\t0\t0\n";
+    let line = "shown\t0.000001388888888888889\t0.000001388888888888889\t200\tbasin\t0.0067138671875\n";
     assert_eq!(folder.run("screen dock.txt dock.nodes 5 5 200"), accepted(line));
-    let floats: Vec<f64> = line.trim_end().split('\t').map(|word| word.parse().expect("a float")).collect();
-    assert_eq!(floats, [5.0 / 3_600_000.0, 5.0 / 3_600_000.0, 55.0 / 8192.0, 0.0, 0.0]);
+    let float = |k: usize| line.trim_end().split('\t').nth(k).and_then(|word| word.parse::<f64>().ok());
+    assert_eq!([1, 2, 5].map(float), [5.0 / 3_600_000.0, 5.0 / 3_600_000.0, 55.0 / 8192.0].map(Some));
 }
 
 #[test]
@@ -94,22 +84,34 @@ fn refusals_have_status_1_and_words() {
     folder.put("mark.nodes", &words(&[i32::MIN; 6].map(i32::to_le_bytes)));
     folder.put("far.nodes", &words(&[4_000_001; 6].map(i32::to_le_bytes)));
     let cases: [(&str, Answer); 13] = [
-        ("check early.txt", refused(1, 2, "line 2 is not of a header's form, or the header ends before it")),
-        ("format limit.txt", refused(2, 1, "line 1 has a number outside its limit, or a ramp's A above its B")),
+        (
+            "check early.txt",
+            refused(1, 2, "the header ends before line 2, a ramp line: line 1 counts 1 ramp and 1 grid"),
+        ),
+        ("format limit.txt", refused(2, 1, "line 1: Q is 21, its limit is 0 to 20")),
         (
             "lookup dock.txt dock.nodes 99999999999999999999 0 0",
-            refused(6, 0, "the point is outside longitude ±1296000000 or latitude ±324000000"),
+            refused_at(6, 0, [i64::MAX, 0, 0], "the point is outside longitude ±1296000000 or latitude ±324000000"),
         ),
         (
             "lookup dock.txt dock.nodes 0 -324000001 0",
-            refused(6, 0, "the point is outside longitude ±1296000000 or latitude ±324000000"),
+            refused_at(6, 0, [0, -324_000_001, 0], "the point is outside longitude ±1296000000 or latitude ±324000000"),
         ),
-        ("lookup dock.txt dock.nodes 0 0 1000001", refused(9, 0, "the day is outside ±1000000")),
-        ("lookup dock.txt short.nodes 0 0 0", refused(13, 1, "the node list ends before the nodes of grid 1 do")),
-        ("lookup dock.txt dock.nodes 21 10 0", refused(7, 0, "no grid holds the point")),
-        ("screen dock.txt dock.nodes 21 10 0", refused(7, 0, "no grid holds the point")),
-        ("lookup dock.txt mark.nodes 0 0 0", refused(8, 0, "a node that the point needs is the no-data mark")),
-        ("lookup dock.txt far.nodes 0 0 0", refused(11, 0, "a node that the point needs is beyond ±4000000 steps")),
+        ("lookup dock.txt dock.nodes 0 0 1000001", refused_at(9, 0, [0, 0, 1_000_001], "the day is outside ±1000000")),
+        (
+            "lookup dock.txt short.nodes 0 0 0",
+            refused_at(13, 1, [0, 0, 0], "the node list ends before the nodes of grid 1 do"),
+        ),
+        ("lookup dock.txt dock.nodes 21 10 0", refused_at(7, 0, [21, 10, 0], "no grid holds the point")),
+        ("screen dock.txt dock.nodes 21 10 0", refused_at(7, 0, [21, 10, 0], "no grid holds the point")),
+        (
+            "lookup dock.txt mark.nodes 0 0 0",
+            refused_at(8, 0, [0, 0, 0], "a node that the point needs is the no-data mark"),
+        ),
+        (
+            "lookup dock.txt far.nodes 0 0 0",
+            refused_at(11, 0, [0, 0, 0], "a node that the point needs is beyond ±4000000 steps"),
+        ),
         (
             "inforce dock.txt 1 0 0 0",
             refused(10, 0, "the area has a side outside the limits, west above east or south above north"),
@@ -125,13 +127,17 @@ fn refusals_have_status_1_and_words() {
 }
 
 #[test]
-fn help_and_version_are_accepted() {
-    let folder = Folder::new("help");
-    assert_eq!(folder.run("--version"), accepted(concat!("bulhyemik ", env!("CARGO_PKG_VERSION"), "\n")));
-    assert!(folder.run("--help").out.starts_with("usage: bulhyemik COMMAND"));
-    for command in ["check", "format", "lookup", "screen", "inforce", "load"] {
-        let answer = folder.run_with(&[command, "--help"], b"");
-        assert!(answer.out.starts_with(&format!("usage: bulhyemik {command} ")), "{command}");
-        assert_eq!((answer.status, answer.err), (0, String::new()), "{command}");
+fn empty_files_go_to_the_library() {
+    let folder = Folder::new("empty");
+    folder.put("empty", b"");
+    for arguments in ["check empty", "check -", "format empty", "grids empty", "inforce empty 0 0 0 0"] {
+        assert_eq!(folder.run(arguments), refused(1, 1, "the header is empty"), "{arguments}");
     }
+    let short = "the node list ends before the nodes of grid 1 do";
+    assert_eq!(folder.run("lookup dock.txt empty 0 0 0"), refused_at(13, 1, [0, 0, 0], short));
+    assert_eq!(folder.run("screen dock.txt empty 0 0 0"), refused_at(13, 1, [0, 0, 0], short));
+    assert_eq!(folder.run("check dock.txt empty"), refused(13, 1, short));
+    assert_eq!(folder.run("load empty new.nodes 21"), refused(2, 0, "Q is outside 0 to 20"));
+    assert_eq!(folder.run("load empty new.nodes 0"), accepted("0\n"));
+    assert_eq!(folder.get("new.nodes"), b"");
 }

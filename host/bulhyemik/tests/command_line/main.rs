@@ -2,4 +2,11 @@
 
 mod bad_input;
 mod good_input;
+mod help;
+mod hints;
+mod points;
 mod program;
+mod rules;
+mod tables;
+mod terminal;
+mod writing;

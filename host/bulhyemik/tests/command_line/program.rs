@@ -47,16 +47,27 @@ impl Folder {
         folder
     }
 
+    pub fn path(&self, name: &str) -> PathBuf {
+        self.path.join(name)
+    }
+
+    /// The program with these arguments, not yet started.
+    pub fn command<S: AsRef<OsStr>>(&self, arguments: &[S]) -> Command {
+        let mut command = Command::new(program());
+        command.args(arguments).current_dir(&self.path);
+        command
+    }
+
     pub fn put(&self, name: &str, bytes: &[u8]) {
-        fs::write(self.path.join(name), bytes).expect("the file can be written");
+        fs::write(self.path(name), bytes).expect("the file can be written");
     }
 
     pub fn make_folder(&self, name: &str) {
-        fs::create_dir(self.path.join(name)).expect("the folder can be made");
+        fs::create_dir(self.path(name)).expect("the folder can be made");
     }
 
     pub fn get(&self, name: &str) -> Vec<u8> {
-        fs::read(self.path.join(name)).expect("the file can be read")
+        fs::read(self.path(name)).expect("the file can be read")
     }
 
     /// Every file of the folder with its bytes.
@@ -68,9 +79,7 @@ impl Folder {
 
     /// Runs the program with these arguments and this standard input.
     pub fn run_with<S: AsRef<OsStr>>(&self, arguments: &[S], input: &[u8]) -> Answer {
-        let mut command = Command::new(program());
-        command.args(arguments);
-        self.finish(command, input)
+        self.finish(self.command(arguments), input)
     }
 
     /// Runs the program with arguments parted by spaces and no standard input.
@@ -112,6 +121,30 @@ pub fn refused(number: u64, place: u64, words: &str) -> Answer {
     Answer { status: 1, out: format!("refused\t{number}\t{place}\n"), err: format!("bulhyemik: refused: {words}\n") }
 }
 
+/// A refused point, longitude, latitude and day.
+pub fn refused_at(number: u64, place: u64, [lon, lat, day]: [i64; 3], words: &str) -> Answer {
+    let mut answer = refused(number, place, words);
+    answer.out = format!("refused\t{number}\t{place}\t{lon}\t{lat}\t{day}\n");
+    answer
+}
+
 pub fn stopped(message: &str) -> Answer {
     Answer { status: 2, out: String::new(), err: format!("bulhyemik: {message}\n") }
+}
+
+/// The command line must stop with its message for a user who is not root; skipped where root can't become one.
+pub fn as_a_plain_user(folder: &Folder, before: &str, arguments: &str, message: &str) {
+    const SKIPPED: i32 = 9;
+    let line = format!(
+        "{before}
+        if [ \"$(id -u)\" = 0 ]; then as='setpriv --reuid=65534 --regid=65534 --clear-groups'; fi
+        $as test -x \"$PROGRAM\" -a -x . || exit {SKIPPED}
+        exec $as \"$PROGRAM\" {arguments}"
+    );
+    let answer = folder.shell(&line);
+    if answer.status == SKIPPED {
+        println!("skipped: {arguments}");
+    } else {
+        assert_eq!(answer, stopped(message), "{arguments}");
+    }
 }

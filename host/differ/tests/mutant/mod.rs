@@ -1,79 +1,101 @@
 //! The second program with one fault: what a differential test must find.
 
-use interface::Calls;
-use interface::layout::*;
+use interface::{Calls, Fix, Grid, Group, InForce, MARK, MOST_PARAMETERS, Part, Screen};
 use reference::Reference;
 
 #[derive(Clone, Copy, Debug, PartialEq, Eq)]
 pub enum Fault {
     ClashNamesTheEarlierGrid,
     FarEdgeIsNotJudged,
+    NameIsThatOfTheGridBeside,
     OnlyTheFirstGridLineIsRead,
-    RefusedHeaderLeavesTheGroup,
+    RefusedHeaderZeroesTheGroup,
     OneByteBehindTheText,
     PastTheLastFieldIsZero,
     LookupAlwaysRefuses,
     LookupAlwaysAnswersZero,
     HalvesAwayFromZero,
     WorseGridWhereTheBestLacksData,
+    GridAndFirstResultSwapped,
     EmptyList,
     FullList,
     CornerOfTheGridForItsFirstCoordinate,
     LastNodeIsNotWritten,
     ZeroFlagCatchesBothZeros,
+    NegativeQuantumIsZero,
     MissingShiftIsMinusZero,
+    NumberOutsideTheTableIsHandedOn,
+    PlaceOfTheLookupIsLost,
     DegreesAfterARefusal,
+    NegativeParametersAreThree,
 }
 
 use Fault::*;
 
 impl Fault {
     /// Each fault with the call that it breaks.
-    pub const ALL: [(Fault, &'static str); 17] = [
+    pub const ALL: [(Fault, &'static str); 23] = [
         (ClashNamesTheEarlierGrid, "judge"),
         (FarEdgeIsNotJudged, "judge"),
+        (NameIsThatOfTheGridBeside, "judge"),
         (OnlyTheFirstGridLineIsRead, "read_header"),
-        (RefusedHeaderLeavesTheGroup, "read_header"),
+        (RefusedHeaderZeroesTheGroup, "read_header"),
         (OneByteBehindTheText, "write_header"),
         (PastTheLastFieldIsZero, "field"),
         (LookupAlwaysRefuses, "lookup"),
         (LookupAlwaysAnswersZero, "lookup"),
         (HalvesAwayFromZero, "lookup"),
         (WorseGridWhereTheBestLacksData, "lookup"),
+        (GridAndFirstResultSwapped, "lookup"),
         (EmptyList, "grids_in_force"),
         (FullList, "grids_in_force"),
         (CornerOfTheGridForItsFirstCoordinate, "grids_in_force"),
         (LastNodeIsNotWritten, "load_nodes"),
         (ZeroFlagCatchesBothZeros, "load_nodes"),
+        (NegativeQuantumIsZero, "load_nodes"),
         (MissingShiftIsMinusZero, "screen_answer"),
+        (NumberOutsideTheTableIsHandedOn, "screen_answer"),
+        (PlaceOfTheLookupIsLost, "screen_answer"),
         (DegreesAfterARefusal, "screen_record"),
+        (NegativeParametersAreThree, "screen_record"),
     ];
 }
 
 pub struct Mutant(pub Fault);
 
 /// The group without one of its grids: the last one takes its entry.
-fn without(group: &[i64], names: &[u8], grid: i64) -> (Vec<i64>, Vec<u8>) {
-    let (mut group, mut names) = (group.to_vec(), names.to_vec());
-    group.resize(GROUP_NUMBERS, 0);
-    names.resize(GROUP_NAMES, 0);
-    let (k, last) = (grid as usize - 1, group[GRIDS] as usize - 1);
-    let numbers = |k: usize| GRID + k * GRID_NUMBERS;
-    group.copy_within(numbers(last)..numbers(last + 1), numbers(k));
-    group[numbers(last)..numbers(last + 1)].fill(0);
-    names.copy_within((last + 1) * 24..(last + 2) * 24, (k + 1) * 24);
-    names[(last + 1) * 24..(last + 2) * 24].fill(0);
-    group[GRIDS] -= 1;
-    (group, names)
+fn without(group: &Group, grid: i64) -> Group {
+    let mut group = group.clone();
+    group.grids -= 1;
+    let last = group.grids as usize;
+    group.grid[grid as usize - 1] = group.grid[last];
+    group.grid[last] = Grid::default();
+    group
+}
+
+/// The group with each grid's name where that of the next one should be.
+fn named_beside(group: &Group) -> Group {
+    let mut other = group.clone();
+    for (grid, beside) in other.grid[1..].iter_mut().zip(&group.grid) {
+        grid.name = beside.name;
+    }
+    other
 }
 
 impl Calls for Mutant {
-    fn judge(&self, group: &[i64], names: &[u8], answer: &mut [i64]) -> u64 {
-        let number = Reference.judge(group, names, answer);
+    fn version(&self) -> u64 {
+        Reference.version()
+    }
+
+    fn judge(&self, group: &Group, place: &mut u64) -> u64 {
+        if self.0 == NameIsThatOfTheGridBeside {
+            return Reference.judge(&named_beside(group), place);
+        }
+        let number = Reference.judge(group, place);
         match (self.0, number) {
-            (ClashNamesTheEarlierGrid, 5) => answer[PLACE] -= 1,
+            (ClashNamesTheEarlierGrid, 5) => *place -= 1,
             (FarEdgeIsNotJudged, 4) => {
-                answer[PLACE] = 0;
+                *place = 0;
                 return 0;
             }
             _ => {}
@@ -81,71 +103,65 @@ impl Calls for Mutant {
         number
     }
 
-    fn read_header(&self, text: &[u8], group: &mut [i64], names: &mut [u8], answer: &mut [i64]) -> u64 {
-        let before = group.to_vec();
-        let number = Reference.read_header(text, group, names, answer);
+    fn read_header(&self, text: &[u8], group: &mut Group, place: &mut u64) -> u64 {
+        let number = Reference.read_header(text, group, place);
         match (self.0, number) {
             (OnlyTheFirstGridLineIsRead, 0) => {
-                let (first, rest) = group[GRID..GROUP_NUMBERS].split_at_mut(GRID_NUMBERS);
-                for k in 1..group_grids(rest) {
-                    rest[(k - 1) * GRID_NUMBERS..k * GRID_NUMBERS].copy_from_slice(first);
-                }
+                let first = group.grid[0];
+                group.grid[..group.grids as usize].fill(first);
             }
-            (RefusedHeaderLeavesTheGroup, 1..=5) => group.copy_from_slice(&before),
+            (RefusedHeaderZeroesTheGroup, 1..=5) => *group = Group::default(),
             _ => {}
         }
         number
     }
 
-    fn write_header(&self, group: &[i64], names: &[u8], out: &mut [u8], answer: &mut [i64]) -> u64 {
-        let number = Reference.write_header(group, names, out, answer);
+    fn write_header(&self, group: &Group, out: &mut [u8], count: &mut u64, place: &mut u64) -> u64 {
+        let number = Reference.write_header(group, out, count, place);
         if (self.0, number) == (OneByteBehindTheText, 0) {
-            out.iter_mut().skip(answer[WRITE_COUNT] as usize).take(1).for_each(|byte| *byte = 0);
+            out.iter_mut().skip(*count as usize).take(1).for_each(|byte| *byte = 0);
         }
         number
     }
 
-    fn field(&self, line: &[u8], number: u64, answer: &mut [i64]) -> u64 {
-        let returned = Reference.field(line, number, answer);
-        if self.0 == PastTheLastFieldIsZero && number >= line.split(|&c| c == b'\t').count() as u64 && returned == 0 {
-            answer[FIELD_FROM..FIELD_NUMBERS].fill(0);
+    fn field(&self, line: &[u8], number: u64, part: &mut Part) {
+        Reference.field(line, number, part);
+        if self.0 == PastTheLastFieldIsZero && number >= line.split(|&c| c == b'\t').count() as u64 {
+            *part = Part::default();
         }
-        returned
     }
 
     fn lookup(
         &self,
-        group: &[i64],
-        names: &[u8],
+        group: &Group,
         nodes: &[i32],
         lon: i64,
         lat: i64,
         day: i64,
-        answer: &mut [i64],
+        fix: &mut Fix,
+        place: &mut u64,
     ) -> u64 {
-        let number = Reference.lookup(group, names, nodes, lon, lat, day, answer);
+        let number = Reference.lookup(group, nodes, lon, lat, day, fix, place);
         match (self.0, number) {
             (LookupAlwaysRefuses, 0) => {
-                answer[..LOOKUP_NUMBERS].fill(0);
+                *fix = Fix::default();
                 return 7;
             }
-            (LookupAlwaysAnswersZero, 0) => answer[LOOKUP_RESULT..LOOKUP_NUMBERS].fill(0),
+            (LookupAlwaysAnswersZero, 0) => fix.result.fill(0),
+            (GridAndFirstResultSwapped, 0) => std::mem::swap(&mut fix.grid, &mut fix.result[0]),
             (HalvesAwayFromZero, 0) if nodes.iter().all(|v| (-3..=3).contains(v)) => {
                 let doubled: Vec<i32> = nodes.iter().map(|v| 2 * v).collect();
-                let mut twice = [0; LOOKUP_NUMBERS];
-                Reference.lookup(group, names, &doubled, lon, lat, day, &mut twice);
-                for p in LOOKUP_RESULT..LOOKUP_NUMBERS {
-                    if twice[p] == 2 * answer[p] + 1 {
-                        answer[p] += 1;
-                    }
+                let mut twice = Fix::default();
+                Reference.lookup(group, &doubled, lon, lat, day, &mut twice, place);
+                for (result, double) in fix.result.iter_mut().zip(twice.result) {
+                    *result += i64::from(double == 2 * *result + 1);
                 }
             }
             (WorseGridWhereTheBestLacksData, 8) => {
-                let blank: Vec<i32> = nodes.iter().map(|&v| if v == i32::MIN { 0 } else { v.clamp(-3, 3) }).collect();
-                let mut best = [0; LOOKUP_NUMBERS];
-                Reference.lookup(group, names, &blank, lon, lat, day, &mut best);
-                let (group, names) = without(group, names, best[LOOKUP_GRID]);
-                return Reference.lookup(&group, &names, nodes, lon, lat, day, answer);
+                let blank: Vec<i32> = nodes.iter().map(|&v| if v == MARK { 0 } else { v.clamp(-3, 3) }).collect();
+                let mut best = Fix::default();
+                Reference.lookup(group, &blank, lon, lat, day, &mut best, place);
+                return Reference.lookup(&without(group, best.grid), nodes, lon, lat, day, fix, place);
             }
             _ => {}
         }
@@ -154,25 +170,23 @@ impl Calls for Mutant {
 
     fn grids_in_force(
         &self,
-        group: &[i64],
-        names: &[u8],
+        group: &Group,
         west: i64,
         east: i64,
         south: i64,
         north: i64,
-        answer: &mut [i64],
+        list: &mut InForce,
+        place: &mut u64,
     ) -> u64 {
-        let number = Reference.grids_in_force(group, names, west, east, south, north, answer);
+        let number = Reference.grids_in_force(group, west, east, south, north, list, place);
         match (self.0, number) {
-            (EmptyList, 0) => answer[..IN_FORCE_NUMBERS].fill(0),
-            (FullList, 0) => answer[IN_FORCE_COUNT] = group[GRIDS],
+            (EmptyList, 0) => *list = InForce::default(),
+            (FullList, 0) => list.count = group.grids,
             (CornerOfTheGridForItsFirstCoordinate, 0) => {
-                for entry in answer[IN_FORCE_ENTRY..IN_FORCE_NUMBERS].chunks_mut(ENTRY_NUMBERS) {
-                    if entry[0] > 0 {
-                        let at = GRID + (entry[0] as usize - 1) * GRID_NUMBERS;
-                        let far = group[at + 1] + (group[at + 5] - 1) * group[at + 3];
-                        entry[1] = group[at + 1].min(far).max(west);
-                    }
+                for entry in &mut list.entry[..list.count as usize] {
+                    let grid = &group.grid[entry.grid as usize - 1];
+                    let far = grid.lon + (grid.ni - 1) * grid.dlon;
+                    entry.lon = grid.lon.min(far).max(west);
                 }
             }
             _ => {}
@@ -180,14 +194,15 @@ impl Calls for Mutant {
         number
     }
 
-    fn load_nodes(&self, floats: &[f32], flag: f32, quantum: u64, nodes: &mut [i32], answer: &mut [i64]) -> u64 {
+    fn load_nodes(&self, floats: &[f32], flag: f32, quantum: i64, nodes: &mut [i32], place: &mut u64) -> u64 {
         let last = nodes.last().copied();
-        let number = Reference.load_nodes(floats, flag, quantum, nodes, answer);
+        let quantum = if self.0 == NegativeQuantumIsZero { quantum.max(0) } else { quantum };
+        let number = Reference.load_nodes(floats, flag, quantum, nodes, place);
         match (self.0, number, nodes) {
             (LastNodeIsNotWritten, 0, [_, .., node]) => *node = last.unwrap_or(0),
             (ZeroFlagCatchesBothZeros, 0, nodes) if flag == 0.0 => {
                 for (node, _) in nodes.iter_mut().zip(floats).filter(|(_, x)| **x == 0.0) {
-                    *node = i32::MIN;
+                    *node = MARK;
                 }
             }
             _ => {}
@@ -197,16 +212,23 @@ impl Calls for Mutant {
 
     fn screen_answer(
         &self,
-        quantum: u64,
-        parameters: u64,
+        quantum: i64,
+        parameters: i64,
         number: u64,
-        found: &[i64],
-        shifts: &mut [f64],
-        answer: &mut [i64],
+        at: u64,
+        fix: &Fix,
+        shifts: &mut [f64; MOST_PARAMETERS],
+        place: &mut u64,
     ) -> u64 {
-        let returned = Reference.screen_answer(quantum, parameters, number, found, shifts, answer);
-        if self.0 == MissingShiftIsMinusZero && returned == 0 && shifts[2] == 0.0 {
-            shifts[2] = -0.0;
+        let returned = Reference.screen_answer(quantum, parameters, number, at, fix, shifts, place);
+        match (self.0, returned) {
+            (MissingShiftIsMinusZero, 0) if shifts[2] == 0.0 => shifts[2] = -0.0,
+            (NumberOutsideTheTableIsHandedOn, 2) if number > 13 => {
+                *place = at;
+                return number;
+            }
+            (PlaceOfTheLookupIsLost, 3..) => *place = 0,
+            _ => {}
         }
         returned
     }
@@ -215,22 +237,19 @@ impl Calls for Mutant {
         &self,
         lon: i64,
         lat: i64,
-        quantum: u64,
-        parameters: u64,
+        quantum: i64,
+        parameters: i64,
         number: u64,
-        found: &[i64],
-        screen: &mut [f64],
-        answer: &mut [i64],
+        at: u64,
+        fix: &Fix,
+        screen: &mut Screen,
+        place: &mut u64,
     ) -> u64 {
-        let returned = Reference.screen_record(lon, lat, quantum, parameters, number, found, screen, answer);
+        let np = if self.0 == NegativeParametersAreThree && parameters < 0 { 3 } else { parameters };
+        let returned = Reference.screen_record(lon, lat, quantum, np, number, at, fix, screen, place);
         if self.0 == DegreesAfterARefusal && returned == 7 {
-            screen[0] = lon as f64 / 3_600_000.0;
+            screen.longitude = lon as f64 / 3_600_000.0;
         }
         returned
     }
-}
-
-/// How many grids, the first included, have numbers.
-fn group_grids(rest: &[i64]) -> usize {
-    1 + rest.chunks(GRID_NUMBERS).filter(|grid| grid[0] != 0).count()
 }

@@ -1,0 +1,67 @@
+-- `choice::first_holder` meets its contract, by the loop of FirstLaws.
+use Prim.Native.Nat.{_-_}
+use mathlib.Core.Path.{sym, _∙_}
+use native.Mathlib.Omega.{arith}
+use Rattle.numbers.proofs.FirstLaws.{Passed, passed-none, passed-more, passed-end, passed-found}
+use Rattle.choice.specs.Rect.{at, holds}
+use Rattle.choice.proofs.HolderLaws.{holder-at, holder-none}
+use Rattle.choice.proofs.first_holder.Statement.{statement}
+use Rattle.choice.proofs.first_holder.Tie as tie
+
+abbrev Inv-loop : tie.InvT-loop
+Inv-loop sides owners rows x y i₀ i = Passed (λ k. holds sides k x y) rows i
+
+abbrev μ-loop : tie.MeasureT-loop
+μ-loop sides owners rows x y i₀ i = rows - i
+
+loop-holds : tie.Need-loop-holds Inv-loop μ-loop
+loop-holds c = passed-none _ _
+
+holds-requires : tie.Need-holds-requires Inv-loop μ-loop
+holds-requires c κs = omega arith
+
+mul-result : tie.Need-mul-result Inv-loop μ-loop
+mul-result c = omega arith
+
+shared-slice-read-result : tie.Need-shared-slice-read-result Inv-loop μ-loop
+shared-slice-read-result c = omega arith
+
+returns : tie.Need-returns Inv-loop μ-loop
+returns c =
+    let a = c .before .before .before .before .before .before .before .args in let l = c .before .before .before .before .loop in
+    holder-at (λ k. holds (a .sides .now) k (a .x) (a .y)) (at (a .owners .now)) (a .rows) (l .i)
+    (passed-found (λ k. holds (a .sides .now) k (a .x) (a .y)) (a .rows) (l .i) (l .inv) (c .before .before .before .loop-test .taken) (sym (c .before .before .holds .ensures) ∙ c .before .if1 .taken))
+    (c .before .before .before .loop-test .taken)
+
+add-i : tie.Need-add-i Inv-loop μ-loop
+add-i c = omega arith
+
+loop-less : tie.Need-loop-less Inv-loop μ-loop
+loop-less c = omega arith
+
+loop-again : tie.Need-loop-again Inv-loop μ-loop
+loop-again c =
+    passed-more _ _ _ (c .before .before .before .loop .inv) (c .before .before .loop-test .taken) (sym (c .before .holds .ensures) ∙ c .if1 .left)
+
+returns-2 : tie.Need-returns-2 Inv-loop μ-loop
+returns-2 c =
+    let a = c .before .before .before .before .args in let l = c .before .loop in
+    holder-none (λ k. holds (a .sides .now) k (a .x) (a .y)) (at (a .owners .now)) (a .rows) (l .i)
+    (passed-end (λ k. holds (a .sides .now) k (a .x) (a .y)) (a .rows) (l .i) (l .inv) (c .loop-test .left))
+    (c .loop-test .left)
+
+pub first-holder-spec : {M : Type 1} → statement M
+first-holder-spec =
+    tie.close
+    (tie.spec
+    Inv-loop
+    μ-loop
+    loop-holds
+    holds-requires
+    mul-result
+    shared-slice-read-result
+    returns
+    add-i
+    loop-less
+    loop-again
+    returns-2)

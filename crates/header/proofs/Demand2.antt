@@ -1,0 +1,135 @@
+-- Demand 2 of the header text, proved of what reading and writing answer; and a group as a record beside its text.
+use Prim.Native.Nat.{ℕ, _+_, _≤_}
+use mathlib.Core.Path.{_≡_, refl, sym, ap, subst, _∙_}
+use mathlib.Core.Bool.{Bool, true, false, cond}
+use mathlib.Core.List.{List}
+use native.Mathlib.Omega.{arith}
+use borrow.Author.Tests.{leb-true}
+use lib.Dec.{leb}
+use lib.ListN.{length, take, drop}
+use lib.Seq.{take-append-seam, drop-at}
+use Rattle.text.specs.Put.{put}
+use Rattle.group.specs.Refusals.{refusal}
+use Rattle.group.specs.Blank.{blankGroup}
+use Rattle.group.specs.declared.Ramp.{Ramp}
+use Rattle.group.specs.declared.Grid.{Grid}
+use Rattle.group.specs.declared.Group.{Group}
+use Rattle.group.specs.declared.Refusal.{Refusal}
+use Rattle.group.specs.declared.Verdict.{Verdict}
+use Rattle.group.specs.declared.Verdict.the-variants.{Accepted, Refused}
+use Rattle.judge.specs.Judge.{judged}
+use Rattle.header.specs.declared.Reading.{Reading}
+use Rattle.header.specs.declared.Written.the-variants as W
+use Rattle.header.specs.Whole.{Header, stopped, header, readLines, groupOf, acceptedReading, headerText}
+use Rattle.header.specs.Header.{verdictReading, judgedReading, readHeader, writtenIf, written, bytesIf, bytesAfter}
+use Rattle.header.specs.Demand2.{InFront, TextRead, TextWritten, Shaped, Formed, JudgedAsText}
+use Rattle.header.proofs.HeaderLaws.{count-answer}
+use Rattle.header.proofs.TripLaws.{same-bytes}
+use Rattle.header.proofs.FormedLaws.{as-text, same-group}
+
+put-front : (t out : List ℕ) → InFront t out (put 0 t out)
+unfolding put
+put-front t out =
+    let z : 0 + length t ≡ length t = omega arith in
+    record { front = take-append-seam t (drop (0 + length t) out); behind = drop-at t (drop (0 + length t) out) (length t) refl ∙ ap (λ (n : ℕ). drop n out) z }
+
+-- ---- reading
+
+judged-read : (t : List ℕ) (g : Group) → readHeader t ≡ acceptedReading g → judged g ≡ Accepted
+unfolding readHeader
+judged-read t g e = in-lines (readLines t) e
+  where
+    in-verdict : (h : Group) (v : Verdict) → judged h ≡ v → verdictReading h v ≡ acceptedReading g → judged g ≡ Accepted
+    in-verdict h (Refused r) p f = let y : Refused r ≡ Accepted = ap (λ (a : Reading). a .verdict) f in absurd (let z : _≡_ {A = ℕ} 0 1 = cc in omega arith)
+    in-verdict h Accepted p f = ap judged (sym (ap (λ (a : Reading). a .group) f)) ∙ p
+
+    in-lines : (x : Header Ramp Grid) → judgedReading x ≡ acceptedReading g → judged g ≡ Accepted
+    in-lines (stopped r) f = let y : Refused r ≡ Accepted = ap (λ (a : Reading). a .verdict) f in absurd (let z : _≡_ {A = ℕ} 0 1 = cc in omega arith)
+    in-lines (header h rs ds) f = in-verdict (groupOf h rs ds) (judged (groupOf h rs ds)) refl f
+
+blank-read : (t : List ℕ) (q : Refusal) → readHeader t .verdict ≡ Refused q → readHeader t .group ≡ blankGroup
+unfolding readHeader
+blank-read t q e = in-lines (readLines t) e
+  where
+    in-verdict : (h : Group) (v : Verdict) → verdictReading h v .verdict ≡ Refused q → verdictReading h v .group ≡ blankGroup
+    in-verdict h (Refused r) f = refl
+    in-verdict h Accepted f = absurd (let z : _≡_ {A = ℕ} 0 1 = cc in omega arith)
+
+    in-lines : (x : Header Ramp Grid) → judgedReading x .verdict ≡ Refused q → judgedReading x .group ≡ blankGroup
+    in-lines (stopped r) f = refl
+    in-lines (header h rs ds) f = in-verdict (groupOf h rs ds) (judged (groupOf h rs ds)) f
+
+module _ (t : List ℕ) (e : readHeader t .verdict ≡ Accepted) where
+  abbrev group : Group
+  group = readHeader t .group
+
+  whole : readHeader t ≡ acceptedReading group
+  whole = λ i. record { verdict = e i; group = group }
+
+  written-back : (out : List ℕ) → length t ≤ length out → (W.Count (length t) ≡ written group (length out)) × (put 0 t out ≡ bytesAfter group out)
+  written-back out l =
+      let s = same-bytes t group whole in
+      count-answer group out (judged-read t group whole) (length t) (put 0 t out) (ap length (sym s)) (subst (λ (x : List ℕ). length x ≤ length out) (sym s) l) (ap (λ (x : List ℕ). put 0 x out) (sym s))
+
+pub text-read : (t : List ℕ) → TextRead t (readHeader t)
+text-read t =
+    record {
+      accepted = λ e. judged-read t (group t e) (whole t e);
+      count = λ e out l. sym (written-back t e out l .0);
+      bytes = λ e out l. subst (InFront t out) (written-back t e out l .1) (put-front t out);
+      blank = blank-read t;
+    }
+
+-- ---- writing
+
+module _ (g : Group) (out : List ℕ) where
+  counted : (n : ℕ) → written g (length out) ≡ W.Count n → (judged g ≡ Accepted) × (n ≡ length (headerText g)) × (length (headerText g) ≤ length out)
+  unfolding written
+  counted n e = in-verdict (judged g) refl e
+    where
+      in-room : (b : Bool) → judged g ≡ Accepted → leb (length (headerText g)) (length out) ≡ b → cond b (W.Count (length (headerText g))) (W.Refused (refusal 12 0)) ≡ W.Count n
+          → (judged g ≡ Accepted) × (n ≡ length (headerText g)) × (length (headerText g) ≤ length out)
+      in-room true p l f = let z : n ≡ length (headerText g) = cc in (p, z, leb-true (length (headerText g)) (length out) l)
+      in-room false p l f = absurd (let z : _≡_ {A = ℕ} 0 1 = cc in omega arith)
+
+      in-verdict : (v : Verdict) → judged g ≡ v → writtenIf v (length (headerText g)) (length out) ≡ W.Count n
+          → (judged g ≡ Accepted) × (n ≡ length (headerText g)) × (length (headerText g) ≤ length out)
+      in-verdict (Refused r) p f = absurd (let z : _≡_ {A = ℕ} 0 1 = cc in omega arith)
+      in-verdict Accepted p f = in-room (leb (length (headerText g)) (length out)) p refl f
+
+  after-count : (n : ℕ) → written g (length out) ≡ W.Count n → bytesAfter g out ≡ put 0 (headerText g) out
+  after-count n e = let c = counted n e in sym (count-answer g out (c .0) (length (headerText g)) (put 0 (headerText g) out) refl (c .2) refl .1)
+
+  unchanged : (q : Refusal) → written g (length out) ≡ W.Refused q → bytesAfter g out ≡ out
+  unfolding written bytesAfter
+  unchanged q e = in-verdict (judged g) e
+    where
+      in-room : (b : Bool) → cond b (W.Count (length (headerText g))) (W.Refused (refusal 12 0)) ≡ W.Refused q → cond b (put 0 (headerText g) out) out ≡ out
+      in-room true f = absurd (let z : _≡_ {A = ℕ} 0 1 = cc in omega arith)
+      in-room false f = refl
+
+      in-verdict : (v : Verdict) → writtenIf v (length (headerText g)) (length out) ≡ W.Refused q → bytesIf v (headerText g) out ≡ out
+      in-verdict (Refused r) f = refl
+      in-verdict Accepted f = in-room (leb (length (headerText g)) (length out)) f
+
+pub text-written : (g : Group) → Shaped g → (out : List ℕ) → TextWritten g out (written g (length out)) (bytesAfter g out)
+text-written g s out =
+    let p = put-front (headerText g) out in
+    record {
+      back = λ n e. let c = counted g out n e in ap readHeader ((λ i. take (c .1 i) (after-count g out n e i)) ∙ p .front) ∙ same-group g s (c .0);
+      behind = λ n e. let c = counted g out n e in (λ i. drop (c .1 i) (after-count g out n e i)) ∙ p .behind ∙ ap (λ (k : ℕ). drop k out) (sym (c .1));
+      unchanged = unchanged g out;
+    }
+
+-- ---- a record and its text
+
+pub judged-as-text : (g : Group) → Formed g → JudgedAsText g
+judged-as-text g f =
+    record {
+      verdict = ap (λ (a : Reading). a .verdict) (as-text g f) ∙ same (judged g);
+      group = λ e. ap (λ (a : Reading). a .group) (as-text g f ∙ ap (verdictReading g) e);
+    }
+  where
+    same : (v : Verdict) → verdictReading g v .verdict ≡ v
+    same Accepted = refl
+    same (Refused r) = refl

@@ -1,0 +1,132 @@
+-- Every number by which reading or writing refuses stands in the table of refusals.
+use Prim.Native.Nat.{ℕ, zero, suc, _+_}
+use mathlib.Core.Path.{_≡_, refl, ap, subst, _∙_}
+use mathlib.Core.Bool.{Bool, true, false, cond}
+use mathlib.Core.List.{List, [], _∷_}
+use mathlib.Core.Option.{Option, none, some}
+use native.Mathlib.Omega.{arith}
+use lib.Dec.{eqb, leb}
+use lib.ListN.{length, drop}
+use lib.IntN.{ℤ}
+use Rattle.text.specs.Parts.{split}
+use Rattle.text.specs.Fields.{same, readInts}
+use Rattle.group.specs.Refusals.{refusal, inTable}
+use Rattle.group.specs.declared.Refusal.{Refusal}
+use Rattle.group.specs.declared.Verdict.{Verdict}
+use Rattle.group.specs.declared.Verdict.the-variants.{Accepted, Refused}
+use Rattle.group.specs.declared.Ramp.{Ramp}
+use Rattle.group.specs.declared.Grid.{Grid}
+use Rattle.group.specs.declared.Group.{Group}
+use Rattle.judge.specs.Judge.{judged}
+use Rattle.judge.proofs.TableLaws.{judged-table}
+use Rattle.line.specs.declared.Head.{Head}
+use Rattle.line.specs.Line.{Line, bad, good}
+use Rattle.line.specs.Lines.{keyed, formed, fields, groupWord, headTexts, headFit, headOf, headLine, rampWord, rampTexts, rampFit, rampOf, rampLine, gridWord, gridTexts, gridFit, gridOf}
+use Rattle.header.specs.declared.Written.the-variants as W
+use Rattle.header.specs.Items.{Items, refused, items, onLine, readItems}
+use Rattle.header.specs.Whole.{Header, stopped, header, ending, afterGrids, afterRampsOf, afterHeadOf, readLinesOf, gridLines, readLines, groupOf, headerText}
+use Rattle.header.specs.Header.{verdictReading, judgedReading, readHeader, writtenIf, written}
+
+abbrev InTable : Refusal → Type 0
+InTable r = inTable (r .number) ≡ true
+
+-- ---- one line
+
+abbrev LineIn : {A : Type 0} → Line Refusal A → Type 0
+LineIn (bad r) = InTable r
+LineIn (good a) = Unit {0}
+
+if-in : {A : Type 0} (b : Bool) (x y : Line Refusal A) → LineIn x → LineIn y → LineIn (cond b x y)
+if-in true x y p q = p
+if-in false x y p q = q
+
+module _ {B A : Type 0} (texts numbers : ℕ) (read : List (List ℕ) → Option B) (fits : List ℤ → Bool) (make : B → List ℤ → A) (form limit : Refusal) (p : InTable form) (q : InTable limit) where
+  formed-in : (o : Option B) (zs : Option (List ℤ)) → LineIn (formed texts numbers read fits make form limit o zs)
+  formed-in none zs = p
+  formed-in (some b) none = p
+  formed-in (some b) (some zs) = if-in (fits zs) (good (make b zs)) (bad limit) tt q
+
+  keyed-in : (word : List ℕ) (ps : List (List ℕ)) → LineIn (keyed word (fields texts numbers read fits make form limit) (λ fs. bad form) ps)
+  keyed-in word [] = p
+  keyed-in word (k ∷ fs) =
+      if-in (same k word) (fields texts numbers read fits make form limit fs) (bad form)
+      (if-in (eqb (length fs) (texts + numbers)) (formed texts numbers read fits make form limit (read fs) (readInts (drop texts fs))) (bad form) (formed-in (read fs) (readInts (drop texts fs))) p) p
+
+-- ---- several lines
+
+abbrev ItemsIn : {A : Type 0} → Items A → Type 0
+ItemsIn (refused r) = InTable r
+ItemsIn (items xs ls) = Unit {0}
+
+module _ {A : Type 0} (read : ℕ → List ℕ → Line Refusal A) (read-in : (n : ℕ) (l : List ℕ) → LineIn (read n l)) where
+  on-line : (x : Line Refusal A) (is : Items A) → LineIn x → ItemsIn is → ItemsIn (onLine x is)
+  on-line (bad r) is p q = p
+  on-line (good a) (refused r) p q = q
+  on-line (good a) (items xs ls) p q = tt
+
+  items-in : (k n : ℕ) (ls : List (List ℕ)) → ItemsIn (readItems read k n ls)
+  items-in zero n ls = tt
+  items-in (suc k) n [] = refl
+  items-in (suc k) n (l ∷ []) = refl
+  items-in (suc k) n (l ∷ m ∷ ls) = on-line (read n l) (readItems read k (suc n) (m ∷ ls)) (read-in n l) (items-in k (suc n) (m ∷ ls))
+
+-- ---- a whole header, over any two kinds of line
+
+abbrev HeaderIn : {R D : Type 0} → Header R D → Type 0
+HeaderIn (stopped r) = InTable r
+HeaderIn (header h rs ds) = Unit {0}
+
+module _ {R D : Type 0} (ramp : ℕ → List ℕ → Line Refusal R) (grid : Head → List (List ℕ) → ℕ → List ℕ → Line Refusal D)
+    (ramp-in : (n : ℕ) (l : List ℕ) → LineIn (ramp n l)) (grid-in : (h : Head) (ls : List (List ℕ)) (n : ℕ) (l : List ℕ) → LineIn (grid h ls n l)) where
+  ending-in : (n : ℕ) (ls : List (List ℕ)) (x : Header R D) → HeaderIn x → HeaderIn (ending n ls x)
+  ending-in n [] x p = refl
+  ending-in n ([] ∷ []) x p = p
+  ending-in n ([] ∷ l ∷ ls) x p = refl
+  ending-in n ((y ∷ ys) ∷ ls) x p = refl
+
+  after-grids : (n : ℕ) (h : Head) (rs : List R) (is : Items D) → ItemsIn is → HeaderIn (afterGrids n h rs is)
+  after-grids n h rs (refused r) p = p
+  after-grids n h rs (items ds ls) p = ending-in n ls (header h rs ds) tt
+
+  after-ramps : (h : Head) (is : Items R) → ItemsIn is → HeaderIn (afterRampsOf ramp grid h is)
+  after-ramps h (refused r) p = p
+  after-ramps h (items rs ls) p =
+      after-grids (2 + h .ramps + h .grids) h rs (readItems (grid h ls) (h .grids) (2 + h .ramps) ls) (items-in (grid h ls) (grid-in h ls) (h .grids) (2 + h .ramps) ls)
+
+  after-head : (is : Items Head) → ItemsIn is → HeaderIn (afterHeadOf ramp grid is)
+  after-head (refused r) p = p
+  after-head (items [] ls) p = refl
+  after-head (items (h ∷ hs) ls) p = after-ramps h (readItems ramp (h .ramps) 2 ls) (items-in ramp ramp-in (h .ramps) 2 ls)
+
+  lines-in : (t : List ℕ) → HeaderIn (readLinesOf ramp grid t)
+  lines-in t = after-head (readItems headLine 1 1 (split 10 t)) (items-in headLine (λ n l. keyed-in 2 4 headTexts headFit headOf (refusal 1 n) (refusal 2 n) refl refl groupWord (split 9 l)) 1 1 (split 10 t))
+
+-- ---- reading and writing
+
+pub read-table : (t : List ℕ) (r : Refusal) → readHeader t .verdict ≡ Refused r → inTable (r .number) ≡ true
+unfolding readHeader
+read-table t r e =
+    in-lines (readLines t)
+    (lines-in rampLine gridLines (λ n l. keyed-in 0 4 rampTexts rampFit rampOf (refusal 1 n) (refusal 2 n) refl refl rampWord (split 9 l))
+    (λ h ls n l. keyed-in 1 8 gridTexts gridFit gridOf (refusal 1 n) (refusal 2 n) refl refl gridWord (split 9 l)) t)
+    e
+  where
+    in-verdict : (g : Group) (v : Verdict) → judged g ≡ v → verdictReading g v .verdict ≡ Refused r → InTable r
+    in-verdict g Accepted p f = let z : _≡_ {A = ℕ} 0 1 = cc in absurd (omega arith)
+    in-verdict g (Refused q) p f = judged-table g r (p ∙ f)
+
+    in-lines : (x : Header Ramp Grid) → HeaderIn x → judgedReading x .verdict ≡ Refused r → InTable r
+    in-lines (stopped q) p f = let z : q ≡ r = cc in subst InTable z p
+    in-lines (header h rs ds) p f = in-verdict (groupOf h rs ds) (judged (groupOf h rs ds)) refl f
+
+pub written-table : (g : Group) (room : ℕ) (r : Refusal) → written g room ≡ W.Refused r → inTable (r .number) ≡ true
+unfolding written
+written-table g room r e = in-verdict (judged g) refl e
+  where
+    in-room : (b : Bool) (n : ℕ) → cond b (W.Count n) (W.Refused (refusal 12 0)) ≡ W.Refused r → InTable r
+    in-room true n f = let z : _≡_ {A = ℕ} 0 1 = cc in absurd (omega arith)
+    in-room false n f = let z : refusal 12 0 ≡ r = cc in subst InTable z refl
+
+    in-verdict : (v : Verdict) → judged g ≡ v → writtenIf v (length (headerText g)) room ≡ W.Refused r → InTable r
+    in-verdict (Refused q) p f = let z : q ≡ r = cc in judged-table g r (p ∙ ap Refused z)
+    in-verdict Accepted p f = in-room (leb (length (headerText g)) room) (length (headerText g)) f

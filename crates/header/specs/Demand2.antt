@@ -1,0 +1,62 @@
+-- Demand 2 of the header text in its own words, of what reading and writing answer; and a group as a record beside its text.
+use Prim.Native.Nat.{ℕ, _≤_, _<_}
+use mathlib.Core.Path.{_≡_}
+use mathlib.Core.Bool.{true}
+use mathlib.Core.List.{List}
+use lib.ListN.{length, take, drop}
+use Rattle.group.specs.Record.{rampAt, gridAt}
+use Rattle.group.specs.Limits.{nameFits, rampBlank, gridBlank}
+use Rattle.group.specs.Blank.{blankGroup}
+use Rattle.group.specs.declared.Group.{Group}
+use Rattle.group.specs.declared.Refusal.{Refusal}
+use Rattle.group.specs.declared.Verdict.the-variants.{Accepted, Refused}
+use Rattle.judge.specs.Judge.{judged}
+use Rattle.header.specs.declared.Reading.{Reading}
+use Rattle.header.specs.declared.Written.{Written}
+use Rattle.header.specs.declared.Written.the-variants as W
+use Rattle.header.specs.Whole.{acceptedReading, headerText}
+use Rattle.header.specs.Header.{readHeader, written, bytesAfter}
+
+-- the text stands in front, and every byte behind it is as it was
+pub record InFront (text before after : List ℕ) : Type 0 where
+  pub front : take (length text) after ≡ text
+  pub behind : drop (length text) after ≡ drop (length text) before
+
+-- r answers the reading of t
+pub record TextRead (t : List ℕ) (r : Reading) : Type 0 where
+  -- the group of an accepted text is accepted by the judge
+  pub accepted : r .verdict ≡ Accepted → judged (r .group) ≡ Accepted
+  -- and written back as the same bytes into any output that is long enough: the text's length is answered, and the rest stays
+  pub count : r .verdict ≡ Accepted → (out : List ℕ) → length t ≤ length out → written (r .group) (length out) ≡ W.Count (length t)
+  pub bytes : r .verdict ≡ Accepted → (out : List ℕ) → length t ≤ length out → InFront t out (bytesAfter (r .group) out)
+  -- beside a refusal all numbers are 0, names empty, the unit arc-second
+  pub blank : (q : Refusal) → r .verdict ≡ Refused q → r .group ≡ blankGroup
+
+-- w answers the writing of g into `out`, which is `after` then
+pub record TextWritten (g : Group) (out : List ℕ) (w : Written) (after : List ℕ) : Type 0 where
+  -- the bytes written, as many as the count, read back as that group; all behind them stays
+  pub back : (n : ℕ) → w ≡ W.Count n → readHeader (take n after) ≡ acceptedReading g
+  pub behind : (n : ℕ) → w ≡ W.Count n → drop n after ≡ drop n out
+  -- after a refusal the output is unchanged
+  pub unchanged : (q : Refusal) → w ≡ W.Refused q → after ≡ out
+
+-- the arrays have their lengths, as in every record of the code
+pub record Shaped (g : Group) : Type 0 where
+  pub name : length (g .name .bytes) ≡ 24
+  pub ramp : length (g .ramp) ≡ 8
+  pub grid : length (g .grid) ≡ 64
+  pub names : (k : ℕ) → k < 64 → length (gridAt g k .name .bytes) ≡ 24
+
+-- names are well formed with zeros behind them, and unused entries are zero; all numbers may be any, the counts among them
+pub record Formed (g : Group) : Type 0 where
+  pub shape : Shaped g
+  pub name : nameFits (g .name) ≡ true
+  pub names : (k : ℕ) → k < 64 → k < g .grids → nameFits (gridAt g k .name) ≡ true
+  pub no-ramp : (k : ℕ) → k < 8 → g .ramps ≤ k → rampBlank (rampAt g k) ≡ true
+  pub no-grid : (k : ℕ) → k < 64 → g .grids ≤ k → gridBlank (gridAt g k) ≡ true
+
+-- a group handed over as a record is judged as its text would be: the same verdict, and where accepted that group. A count beyond
+-- its limit stands in the text as it is, before the lines of all entries
+pub record JudgedAsText (g : Group) : Type 0 where
+  pub verdict : readHeader (headerText g) .verdict ≡ judged g
+  pub group : judged g ≡ Accepted → readHeader (headerText g) .group ≡ g

@@ -1,0 +1,143 @@
+-- What the code meets on the three kinds of line, in terms of what its callees answer.
+use Prim.Native.Nat.{ℕ}
+use mathlib.Core.Path.{_≡_, refl, sym, ap, _∙_}
+use mathlib.Core.Bool.{Bool, true, false, cond}
+use mathlib.Core.List.{List, []}
+use mathlib.Core.Option.{Option, none, some}
+use native.Mathlib.Omega.{arith}
+use mir.Syntax.{w64}
+use mir.Val.{toZ, ofZ, SFits}
+use mir.Facts.{toZ-ofZ}
+use lib.ListN.{getD, drop}
+use lib.Seq.{getD-drop}
+use lib.IntN.{ℤ}
+use Rattle.text.specs.Parts.{split, fieldOf}
+use Rattle.text.specs.Fields.{same}
+use Rattle.text.specs.Decimal.{readInt}
+use Rattle.text.specs.Number.{numberOf}
+use Rattle.text.specs.declared.Number.{Number}
+use Rattle.text.specs.declared.Number.the-variants as N
+use Rattle.text.proofs.PartLaws.{field-split}
+use Rattle.text.proofs.FieldLaws.{answer}
+use Rattle.group.specs.declared.Name.{Name}
+use Rattle.group.specs.declared.Unit as U
+use Rattle.group.specs.declared.Ramp.{Ramp}
+use Rattle.group.specs.declared.Grid.{Grid}
+use Rattle.group.specs.declared.Refusal.{Refusal}
+use Rattle.group.specs.declared.Verdict.the-variants.{Accepted, Refused}
+use Rattle.line.specs.declared.Head.{Head}
+use Rattle.line.specs.declared.HeadRead.{HeadRead}
+use Rattle.line.specs.declared.RampRead.{RampRead}
+use Rattle.line.specs.declared.GridRead.{GridRead}
+use Rattle.line.specs.Line.{Line, bad, good}
+use Rattle.line.specs.declared.Form.{Form}
+use Rattle.line.specs.declared.Form.the-variants.{Malformed, Named}
+use Rattle.line.specs.declared.UnitRead.{UnitRead}
+use Rattle.line.specs.declared.UnitRead.the-variants.{Unknown, Known}
+use Rattle.line.specs.Names.{isName, nameOf, readName, readUnit}
+use Rattle.line.specs.Lines.{headTexts, gridTexts, paired}
+use Rattle.line.specs.Answers.{formOf, unitAnswer, headAnswer, rampAnswer, gridAnswer}
+
+-- the test of a line's keyword
+pub opens-split : (line word : List ℕ) (r : Bool) → r ≡ same (fieldOf line 0) word → same (getD (split 9 line) 0 []) word ≡ r
+opens-split line word r e = sym (e ∙ ap (λ (l : List ℕ). same l word) (field-split line 0))
+
+pub form-bad : (f g : List ℕ) (q : Form) → f ≡ g → q ≡ formOf (isName f) → q ≡ Malformed → isName g ≡ false
+form-bad f g q e p t = ap isName (sym e) ∙ go (isName f) (sym p ∙ t)
+  where
+    go : (b : Bool) → formOf b ≡ Malformed → b ≡ false
+    go true h = let z : _≡_ {A = ℕ} 0 1 = cc in absurd (omega arith)
+    go false h = refl
+
+pub form-good : (f g : List ℕ) (q : Form) → f ≡ g → q ≡ formOf (isName f) → q ≡ Named → isName g ≡ true
+form-good f g q e p t = ap isName (sym e) ∙ go (isName f) (sym p ∙ t)
+  where
+    go : (b : Bool) → formOf b ≡ Named → b ≡ true
+    go true h = refl
+    go false h = let z : _≡_ {A = ℕ} 0 1 = cc in absurd (omega arith)
+
+pub unit-bad : (f g : List ℕ) (q : UnitRead) → f ≡ g → q ≡ unitAnswer (readUnit f) → q ≡ Unknown → readUnit g ≡ none
+unit-bad f g q e p t = ap readUnit (sym e) ∙ go (readUnit f) (sym p ∙ t)
+  where
+    go : (o : Option U.Unit) → unitAnswer o ≡ Unknown → o ≡ none
+    go none h = refl
+    go (some u) h = let z : _≡_ {A = ℕ} 0 1 = cc in absurd (omega arith)
+
+pub unit-good : (f g : List ℕ) (q : UnitRead) (u : U.Unit) → f ≡ g → q ≡ unitAnswer (readUnit f) → q ≡ Known u → readUnit g ≡ some u
+unit-good f g q u e p t = ap readUnit (sym e) ∙ go (readUnit f) (sym p ∙ t)
+  where
+    go : (o : Option U.Unit) → unitAnswer o ≡ Known u → o ≡ some u
+    go none h = let z : _≡_ {A = ℕ} 0 1 = cc in absurd (omega arith)
+    go (some v) h = let z : v ≡ u = cc in ap some z
+
+-- ---- the texts of a line
+
+module _ (line : List ℕ) where
+  text-0 : getD (drop 1 (split 9 line)) 0 [] ≡ fieldOf line 1
+  text-0 = getD-drop 1 (split 9 line) 0 [] ∙ sym (field-split line 1)
+
+  text-1 : getD (drop 1 (split 9 line)) 1 [] ≡ fieldOf line 2
+  text-1 = getD-drop 1 (split 9 line) 1 [] ∙ sym (field-split line 2)
+
+  name-is : (b : Bool) → isName (fieldOf line 1) ≡ b → readName (getD (drop 1 (split 9 line)) 0 []) ≡ cond b (some (nameOf (fieldOf line 1))) none
+  name-is b e = ap readName text-0 ∙ ap (λ (t : Bool). cond t (some (nameOf (fieldOf line 1))) none) e
+
+  unit-is : (o : Option U.Unit) → readUnit (fieldOf line 2) ≡ o → readUnit (getD (drop 1 (split 9 line)) 1 []) ≡ o
+  unit-is o e = ap readUnit text-1 ∙ e
+
+  pub grid-unnamed : isName (fieldOf line 1) ≡ false → gridTexts (drop 1 (split 9 line)) ≡ none
+  grid-unnamed e = name-is false e
+
+  pub grid-named : isName (fieldOf line 1) ≡ true → gridTexts (drop 1 (split 9 line)) ≡ some (nameOf (fieldOf line 1))
+  grid-named e = name-is true e
+
+  pub head-unnamed : isName (fieldOf line 1) ≡ false → headTexts (drop 1 (split 9 line)) ≡ none
+  head-unnamed e = ap (λ (o : Option Name). paired o (readUnit (getD (drop 1 (split 9 line)) 1 []))) (name-is false e)
+
+  pub head-unitless : readUnit (fieldOf line 2) ≡ none → headTexts (drop 1 (split 9 line)) ≡ none
+  head-unitless e = ap (paired (readName (getD (drop 1 (split 9 line)) 0 []))) (unit-is none e) ∙ go (readName (getD (drop 1 (split 9 line)) 0 []))
+    where
+      go : (o : Option Name) → paired o none ≡ none
+      go none = refl
+      go (some m) = refl
+
+  pub head-named : (u : U.Unit) → isName (fieldOf line 1) ≡ true → readUnit (fieldOf line 2) ≡ some u → headTexts (drop 1 (split 9 line)) ≡ some (nameOf (fieldOf line 1), u)
+  head-named u e f = λ i. paired (name-is true e i) (unit-is (some u) f i)
+
+-- ---- what the reading of field k tells: no number, or one that comes by way of its bits
+
+abbrev pub bits : ℤ → ℤ
+bits z = toZ w64 (ofZ w64 z)
+
+module _ (line : List ℕ) (k : ℕ) (f : List ℕ) (r : Number) (e : r ≡ numberOf (readInt f)) (g : f ≡ fieldOf line k) where
+  pub field-bad : r ≡ N.Malformed → numberOf (readInt (getD (split 9 line) k [])) ≡ N.Malformed
+  field-bad h = answer line k f r e g ∙ h
+
+  pub field-number : (z : ℤ) → r ≡ N.Whole z → SFits w64 z → numberOf (readInt (getD (split 9 line) k [])) ≡ N.Whole (bits z)
+  field-number z h s = answer line k f r e g ∙ h ∙ ap N.Whole (sym (toZ-ofZ s))
+
+-- ---- the answer of a line, by its verdict
+
+pub head-refused : (q : HeadRead) (l : Line Refusal Head) (r : Refusal) → q ≡ headAnswer l → q .verdict ≡ Refused r → l ≡ bad r
+head-refused q (bad s) r e v = let x : Refused s ≡ Refused r = sym (ap (λ (a : HeadRead). a .verdict) e) ∙ v in let y : s ≡ r = cc in ap bad y
+head-refused q (good a) r e v = let x : Accepted ≡ Refused r = sym (ap (λ (b : HeadRead). b .verdict) e) ∙ v in absurd (let y : _≡_ {A = ℕ} 0 1 = cc in omega arith)
+
+pub head-accepted : (q : HeadRead) (l : Line Refusal Head) → q ≡ headAnswer l → q .verdict ≡ Accepted → l ≡ good (q .head)
+head-accepted q (bad s) e v = let x : Refused s ≡ Accepted = sym (ap (λ (a : HeadRead). a .verdict) e) ∙ v in absurd (let y : _≡_ {A = ℕ} 0 1 = cc in omega arith)
+head-accepted q (good a) e v = ap good (sym (ap (λ (b : HeadRead). b .head) e))
+
+pub ramp-refused : (q : RampRead) (l : Line Refusal Ramp) (r : Refusal) → q ≡ rampAnswer l → q .verdict ≡ Refused r → l ≡ bad r
+ramp-refused q (bad s) r e v = let x : Refused s ≡ Refused r = sym (ap (λ (a : RampRead). a .verdict) e) ∙ v in let y : s ≡ r = cc in ap bad y
+ramp-refused q (good a) r e v = let x : Accepted ≡ Refused r = sym (ap (λ (b : RampRead). b .verdict) e) ∙ v in absurd (let y : _≡_ {A = ℕ} 0 1 = cc in omega arith)
+
+pub ramp-accepted : (q : RampRead) (l : Line Refusal Ramp) → q ≡ rampAnswer l → q .verdict ≡ Accepted → l ≡ good (q .ramp)
+ramp-accepted q (bad s) e v = let x : Refused s ≡ Accepted = sym (ap (λ (a : RampRead). a .verdict) e) ∙ v in absurd (let y : _≡_ {A = ℕ} 0 1 = cc in omega arith)
+ramp-accepted q (good a) e v = ap good (sym (ap (λ (b : RampRead). b .ramp) e))
+
+pub grid-refused : (q : GridRead) (l : Line Refusal Grid) (r : Refusal) → q ≡ gridAnswer l → q .verdict ≡ Refused r → l ≡ bad r
+grid-refused q (bad s) r e v = let x : Refused s ≡ Refused r = sym (ap (λ (a : GridRead). a .verdict) e) ∙ v in let y : s ≡ r = cc in ap bad y
+grid-refused q (good a) r e v = let x : Accepted ≡ Refused r = sym (ap (λ (b : GridRead). b .verdict) e) ∙ v in absurd (let y : _≡_ {A = ℕ} 0 1 = cc in omega arith)
+
+pub grid-accepted : (q : GridRead) (l : Line Refusal Grid) → q ≡ gridAnswer l → q .verdict ≡ Accepted → l ≡ good (q .grid)
+grid-accepted q (bad s) e v = let x : Refused s ≡ Accepted = sym (ap (λ (a : GridRead). a .verdict) e) ∙ v in absurd (let y : _≡_ {A = ℕ} 0 1 = cc in omega arith)
+grid-accepted q (good a) e v = ap good (sym (ap (λ (b : GridRead). b .grid) e))

@@ -1,0 +1,39 @@
+-- What the functions that read a line answer: the verdict beside the record, which is blank after a refusal.
+use mathlib.Core.Bool.{Bool, true, false}
+use mathlib.Core.Option.{Option, none, some}
+use Rattle.group.specs.declared.Unit as U
+use Rattle.group.specs.declared.Ramp.{Ramp}
+use Rattle.group.specs.declared.Grid.{Grid}
+use Rattle.group.specs.declared.Verdict.the-variants.{Accepted, Refused}
+use Rattle.line.specs.declared.Head.{Head}
+use Rattle.line.specs.declared.Form.{Form}
+use Rattle.line.specs.declared.Form.the-variants.{Malformed, Named}
+use Rattle.line.specs.declared.UnitRead.{UnitRead}
+use Rattle.line.specs.declared.UnitRead.the-variants.{Unknown, Known}
+use Rattle.line.specs.declared.HeadRead.{HeadRead}
+use Rattle.line.specs.declared.RampRead.{RampRead}
+use Rattle.line.specs.declared.GridRead.{GridRead}
+use Rattle.group.specs.Blank.{blankRamp, blankGrid}
+use Rattle.line.specs.Blank.{blankHead}
+use Rattle.group.specs.declared.Refusal.{Refusal}
+use Rattle.line.specs.Line.{Line, bad, good}
+
+abbrev pub formOf : Bool → Form
+formOf true = Named
+formOf false = Malformed
+
+abbrev pub unitAnswer : Option U.Unit → UnitRead
+unitAnswer none = Unknown
+unitAnswer (some u) = Known u
+
+abbrev pub headAnswer : Line Refusal Head → HeadRead
+headAnswer (bad r) = record { verdict = Refused r; head = blankHead }
+headAnswer (good h) = record { verdict = Accepted; head = h }
+
+abbrev pub rampAnswer : Line Refusal Ramp → RampRead
+rampAnswer (bad r) = record { verdict = Refused r; ramp = blankRamp }
+rampAnswer (good r) = record { verdict = Accepted; ramp = r }
+
+abbrev pub gridAnswer : Line Refusal Grid → GridRead
+gridAnswer (bad r) = record { verdict = Refused r; grid = blankGrid }
+gridAnswer (good g) = record { verdict = Accepted; grid = g }

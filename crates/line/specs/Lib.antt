@@ -1,0 +1,6 @@
+-- The definitions of the lines of a header.
+pub mod Names
+pub mod Line
+pub mod Lines
+pub mod Blank
+pub mod Answers

@@ -1,0 +1,168 @@
+-- The three kinds of line: a keyword, some texts, and numbers.
+use Prim.Native.Nat.{ℕ, _+_}
+use mathlib.Core.Bool.{Bool, cond, _&&_}
+use mathlib.Core.List.{List, [], _∷_, map}
+use mathlib.Core.Option.{Option, none, some}
+use lib.Dec.{eqb}
+use lib.ListN.{length, getD, drop}
+use lib.IntN.{ℤ, pos, negsuc, natAbs}
+use Rattle.text.specs.Parts.{split, join}
+use Rattle.text.specs.Decimal.{intText}
+use Rattle.text.specs.Fields.{same, readInts}
+use Rattle.group.specs.Limits.{headNumbersFit, rampNumbersFit, originFits, countsFit}
+use Rattle.group.specs.declared.Refusal.{Refusal}
+use Rattle.group.specs.declared.Name.{Name}
+use Rattle.group.specs.declared.Unit as U
+use Rattle.group.specs.declared.Ramp.{Ramp}
+use Rattle.group.specs.declared.Grid.{Grid}
+use Rattle.line.specs.declared.Head.{Head}
+use Rattle.line.specs.Names.{readName, nameText, readUnit, unitText}
+use Rattle.group.specs.Refusals.{refusal}
+use Rattle.line.specs.Line.{Line, bad, good}
+
+-- fields with a keyword in front of them: those of this kind, or else of the others
+module _ {E A : Type 0} where
+  abbrev pub keyed : List ℕ → (List (List ℕ) → Line E A) → (List (List ℕ) → Line E A) → List (List ℕ) → Line E A
+  keyed word these others [] = others []
+  keyed word these others (k ∷ fs) = cond (same k word) (these fs) (others (k ∷ fs))
+
+-- the fields behind a keyword: how many texts and numbers they are, how the texts are read, the limits of the numbers, the record
+-- that is made of them, and the faults: fields that aren't of this form, then a number outside its limit
+module _ {B A E : Type 0} (texts numbers : ℕ) (read : List (List ℕ) → Option B) (fits : List ℤ → Bool) (make : B → List ℤ → A) (form limit : E) where
+  abbrev pub judged : B → List ℤ → Line E A
+  judged b zs = cond (fits zs) (good (make b zs)) (bad limit)
+
+  abbrev pub formed : Option B → Option (List ℤ) → Line E A
+  formed none zs = bad form
+  formed (some b) none = bad form
+  formed (some b) (some zs) = judged b zs
+
+  abbrev pub fields : List (List ℕ) → Line E A
+  fields fs = cond (eqb (length fs) (texts + numbers)) (formed (read fs) (readInts (drop texts fs))) (bad form)
+
+  -- a line of one kind
+  abbrev pub lineOf : List ℕ → List ℕ → Line E A
+  lineOf word line = keyed word fields (λ fs. bad form) (split 9 line)
+
+abbrev pub at : List ℤ → ℕ → ℤ
+at zs k = getD zs k (pos 0)
+
+-- ---- `group` NAME UNIT Q NP ramps grids
+
+abbrev pub groupWord : List ℕ
+groupWord = 103 ∷ 114 ∷ 111 ∷ 117 ∷ 112 ∷ []
+
+abbrev pub paired : Option Name → Option U.Unit → Option (Name × U.Unit)
+paired none u = none
+paired (some n) none = none
+paired (some n) (some u) = some (n, u)
+
+abbrev pub headTexts : List (List ℕ) → Option (Name × U.Unit)
+headTexts fs = paired (readName (getD fs 0 [])) (readUnit (getD fs 1 []))
+
+abbrev pub headFit : List ℤ → Bool
+headFit zs = headNumbersFit (at zs 0) (at zs 1) (at zs 2) (at zs 3)
+
+abbrev pub headOf : Name × U.Unit → List ℤ → Head
+headOf t zs =
+    record {
+      name = t .0;
+      unit = t .1;
+      quantum = natAbs (at zs 0);
+      parameters = natAbs (at zs 1);
+      ramps = natAbs (at zs 2);
+      grids = natAbs (at zs 3);
+    }
+
+abbrev pub headLine : ℕ → List ℕ → Line Refusal Head
+headLine n = lineOf 2 4 headTexts headFit headOf (refusal 1 n) (refusal 2 n) groupWord
+
+abbrev pub headInts : Head → List ℤ
+headInts h = pos (h .quantum) ∷ pos (h .parameters) ∷ pos (h .ramps) ∷ pos (h .grids) ∷ []
+
+-- a group line, without the line feed
+abbrev pub headText : Head → List ℕ
+headText h = join 9 (groupWord ∷ nameText (h .name) ∷ unitText (h .unit) ∷ map intText (headInts h))
+
+-- ---- `ramp` A S0 B S1
+
+abbrev pub rampWord : List ℕ
+rampWord = 114 ∷ 97 ∷ 109 ∷ 112 ∷ []
+
+abbrev pub rampTexts : List (List ℕ) → Option (Unit {0})
+rampTexts fs = some tt
+
+abbrev pub rampFit : List ℤ → Bool
+rampFit zs = rampNumbersFit (at zs 0) (at zs 1) (at zs 2) (at zs 3)
+
+abbrev pub rampOf : Unit {0} → List ℤ → Ramp
+rampOf t zs = record { a = at zs 0; s0 = at zs 1; b = at zs 2; s1 = at zs 3 }
+
+abbrev pub rampLine : ℕ → List ℕ → Line Refusal Ramp
+rampLine n = lineOf 0 4 rampTexts rampFit rampOf (refusal 1 n) (refusal 2 n) rampWord
+
+abbrev pub rampInts : Ramp → List ℤ
+rampInts r = r .a ∷ r .s0 ∷ r .b ∷ r .s1 ∷ []
+
+-- a ramp line, without the line feed
+abbrev pub rampText : Ramp → List ℕ
+rampText r = join 9 (rampWord ∷ map intText (rampInts r))
+
+-- ---- `grid` NAME LON LAT DLON DLAT NI NJ RANK START
+
+abbrev pub gridWord : List ℕ
+gridWord = 103 ∷ 114 ∷ 105 ∷ 100 ∷ []
+
+abbrev pub gridTexts : List (List ℕ) → Option Name
+gridTexts fs = readName (getD fs 0 [])
+
+abbrev pub gridFit : List ℤ → Bool
+gridFit zs = originFits (at zs 0) (at zs 1) (at zs 2) (at zs 3) && countsFit (at zs 4) (at zs 5) (at zs 6) (at zs 7)
+
+abbrev pub gridOf : Name → List ℤ → Grid
+gridOf n zs =
+    record {
+      name = n;
+      lon = record { 0 = at zs 0 };
+      lat = record { 0 = at zs 1 };
+      dlon = at zs 2;
+      dlat = at zs 3;
+      ni = natAbs (at zs 4);
+      nj = natAbs (at zs 5);
+      rank = natAbs (at zs 6);
+      start = natAbs (at zs 7);
+    }
+
+abbrev pub gridLine : ℕ → List ℕ → Line Refusal Grid
+gridLine n = lineOf 1 8 gridTexts gridFit gridOf (refusal 1 n) (refusal 2 n) gridWord
+
+abbrev pub gridInts : Grid → List ℤ
+gridInts g = g .lon .0 ∷ g .lat .0 ∷ g .dlon ∷ g .dlat ∷ pos (g .ni) ∷ pos (g .nj) ∷ pos (g .rank) ∷ pos (g .start) ∷ []
+
+-- a grid line, without the line feed
+abbrev pub gridText : Grid → List ℕ
+gridText g = join 9 (gridWord ∷ nameText (g .name) ∷ map intText (gridInts g))
+
+-- ---- as a record's unsigned number, a number below zero is beyond every limit
+
+abbrev pub counted : ℤ → ℕ
+counted (pos n) = n
+counted (negsuc n) = 18446744073709551615
+
+abbrev pub countedHead : Name → U.Unit → ℤ → ℤ → ℤ → ℤ → Head
+countedHead n u a b c d =
+    record { name = n; unit = u; quantum = counted a; parameters = counted b; ramps = counted c; grids = counted d }
+
+abbrev pub countedGrid : Name → ℤ → ℤ → ℤ → ℤ → ℤ → ℤ → ℤ → ℤ → Grid
+countedGrid n a b c d e f g h =
+    record {
+      name = n;
+      lon = record { 0 = a };
+      lat = record { 0 = b };
+      dlon = c;
+      dlat = d;
+      ni = counted e;
+      nj = counted f;
+      rank = counted g;
+      start = counted h;
+    }

@@ -1,0 +1,426 @@
+// The lines of a header: reading one and writing one.
+ghost use mathlib.Core.Path.{_≡_};
+ghost use mathlib.Core.List.{_∷_, [], _++_};
+ghost use Prim.Native.Nat.{_+_, _≤_};
+ghost use lib.ListN.{length, take};
+ghost use Rattle.text.specs.Parts.{fieldOf};
+ghost use Rattle.text.specs.Fields.{same};
+ghost use Rattle.text.specs.Put.{Wrote};
+ghost use Rattle.line.specs.Names.{isName, nameOf, nameText, readUnit, unitText};
+ghost use Rattle.group.specs.Refusals.{refusal};
+ghost use Rattle.line.specs.Line.{bad};
+ghost use Rattle.line.specs.Lines.{headLine, headText, rampLine, rampText, gridLine, gridText, counted, countedHead, countedGrid};
+ghost use Rattle.line.specs.Blank.{blankHead};
+ghost use Rattle.line.specs.Answers.{formOf, unitAnswer, headAnswer, rampAnswer, gridAnswer};
+use group::Grid;
+use group::Latitude;
+use group::Longitude;
+use group::Name;
+use group::Ramp;
+use group::Refusal;
+use group::Unit;
+use group::Verdict;
+use group::blank_grid;
+use group::blank_name;
+use group::blank_ramp;
+use text::Number;
+
+// A group line: all of a group but its ramps and grids.
+pub struct Head {
+    pub name: Name,
+    pub unit: Unit,
+    pub quantum: u64,
+    pub parameters: u64,
+    pub ramps: u64,
+    pub grids: u64,
+}
+
+// Whether a field is a name.
+pub enum Form {
+    Malformed,
+    Named,
+}
+
+// A field as a unit.
+pub enum UnitRead {
+    Unknown,
+    Known(Unit),
+}
+
+// A line read as a group line: the verdict beside the record, which is blank after a refusal.
+pub struct HeadRead {
+    pub verdict: Verdict,
+    pub head: Head,
+}
+
+// A line read as a ramp.
+pub struct RampRead {
+    pub verdict: Verdict,
+    pub ramp: Ramp,
+}
+
+// A line read as a grid.
+pub struct GridRead {
+    pub verdict: Verdict,
+    pub grid: Grid,
+}
+
+// A group line of zeros, its name empty and its unit arc-second.
+fn blank_head() -> Head
+    ensures { λ r. ⌜ r ≡ blankHead ⌝ }
+{
+    let name = blank_name();
+    Head {
+        name,
+        unit: Unit::ArcSecond,
+        quantum: 0,
+        parameters: 0,
+        ramps: 0,
+        grids: 0,
+    }
+}
+
+// Whether a field is a name.
+fn name_form(s: &[u8]) -> Form
+    ensures { λ r. ⌜ r ≡ formOf (isName (now (s .entry))) ⌝ }
+{
+    if s.len() < 1 {
+        return Form::Malformed;
+    }
+    if 24 < s.len() {
+        return Form::Malformed;
+    }
+    let mut i = 0;
+    while i < s.len() {
+        if !group::name_byte(s[i]) {
+            return Form::Malformed;
+        }
+        i += 1;
+    }
+    Form::Named
+}
+
+// A field as a name, with zeros behind it.
+fn read_name(s: &[u8]) -> Name
+    requires { ⌜ length (now s) ≤ 24 ⌝ }
+    ensures { λ r. ⌜ r ≡ nameOf (now (s .entry)) ⌝ }
+{
+    let mut bytes = [0u8; 24];
+    let mut i = 0;
+    while i < s.len() {
+        bytes[i] = s[i];
+        i += 1;
+    }
+    Name {
+        bytes,
+        len: i as u64,
+    }
+}
+
+// A field as a unit.
+fn read_unit(s: &[u8]) -> UnitRead
+    ensures { λ r. ⌜ r ≡ unitAnswer (readUnit (now (s .entry))) ⌝ }
+{
+    if text::same_bytes(s, b"arc-second") {
+        return UnitRead::Known(Unit::ArcSecond);
+    }
+    if text::same_bytes(s, b"metre") {
+        return UnitRead::Known(Unit::Metre);
+    }
+    UnitRead::Unknown
+}
+
+// Whether a line begins with the word.
+fn opens(line: &[u8], word: &[u8]) -> bool
+    ensures { λ r. ⌜ r ≡ same (fieldOf (now (line .entry)) 0) (now (word .entry)) ⌝ }
+{
+    text::same_bytes(text::field(line, 0), word)
+}
+
+// A number as a record's unsigned number; one below zero is beyond every limit.
+fn count_of(z: i64) -> u64
+    ensures { λ r. ⌜ r ≡ counted z ⌝ }
+{
+    if numbers::negative(z) {
+        return 18446744073709551615;
+    }
+    numbers::magnitude(z)
+}
+
+// The group line of a name, a unit and four numbers.
+fn head_made(name: Name, unit: Unit, a: i64, b: i64, c: i64, d: i64) -> Head
+    ensures { λ r. ⌜ r ≡ countedHead name unit a b c d ⌝ }
+{
+    let quantum = count_of(a);
+    let parameters = count_of(b);
+    let ramps = count_of(c);
+    let grids = count_of(d);
+    Head {
+        name,
+        unit,
+        quantum,
+        parameters,
+        ramps,
+        grids,
+    }
+}
+
+// The grid of a name and eight numbers.
+fn grid_made(name: Name, a: i64, b: i64, c: i64, d: i64, e: i64, f: i64, g: i64, h: i64) -> Grid
+    ensures { λ r. ⌜ r ≡ countedGrid name a b c d e f g h ⌝ }
+{
+    let ni = count_of(e);
+    let nj = count_of(f);
+    let rank = count_of(g);
+    let start = count_of(h);
+    Grid {
+        name,
+        lon: Longitude(a),
+        lat: Latitude(b),
+        dlon: c,
+        dlat: d,
+        ni,
+        nj,
+        rank,
+        start,
+    }
+}
+
+// A group line that is refused.
+fn refused_head(number: u64, place: u64) -> HeadRead
+    ensures { λ r. ⌜ r ≡ headAnswer (bad (refusal number place)) ⌝ }
+{
+    let head = blank_head();
+    HeadRead {
+        verdict: Verdict::Refused(Refusal { number, place }),
+        head,
+    }
+}
+
+// A ramp line that is refused.
+fn refused_ramp(number: u64, place: u64) -> RampRead
+    ensures { λ r. ⌜ r ≡ rampAnswer (bad (refusal number place)) ⌝ }
+{
+    let ramp = blank_ramp();
+    RampRead {
+        verdict: Verdict::Refused(Refusal { number, place }),
+        ramp,
+    }
+}
+
+// A grid line that is refused.
+fn refused_grid(number: u64, place: u64) -> GridRead
+    ensures { λ r. ⌜ r ≡ gridAnswer (bad (refusal number place)) ⌝ }
+{
+    let grid = blank_grid();
+    GridRead {
+        verdict: Verdict::Refused(Refusal { number, place }),
+        grid,
+    }
+}
+
+// Line 1 as a group line.
+pub fn group_line(line: &[u8]) -> HeadRead
+    ensures { λ r. ⌜ r ≡ headAnswer (headLine 1 (now (line .entry))) ⌝ }
+{
+    if !opens(line, b"group") {
+        return refused_head(1, 1);
+    }
+    if text::part_count(line, 9) != 7 {
+        return refused_head(1, 1);
+    }
+    let Form::Named = name_form(text::field(line, 1)) else {
+        return refused_head(1, 1);
+    };
+    let UnitRead::Known(unit) = read_unit(text::field(line, 2)) else {
+        return refused_head(1, 1);
+    };
+    let Number::Whole(q) = text::read_number(text::field(line, 3)) else {
+        return refused_head(1, 1);
+    };
+    let Number::Whole(np) = text::read_number(text::field(line, 4)) else {
+        return refused_head(1, 1);
+    };
+    let Number::Whole(ramps) = text::read_number(text::field(line, 5)) else {
+        return refused_head(1, 1);
+    };
+    let Number::Whole(grids) = text::read_number(text::field(line, 6)) else {
+        return refused_head(1, 1);
+    };
+    let name = read_name(text::field(line, 1));
+    let head = head_made(name, unit, q, np, ramps, grids);
+    if !group::head_numbers_fit(head.quantum, head.parameters, head.ramps, head.grids) {
+        return refused_head(2, 1);
+    }
+    HeadRead {
+        verdict: Verdict::Accepted,
+        head,
+    }
+}
+
+// Line n as a ramp.
+pub fn ramp_line(line: &[u8], n: u64) -> RampRead
+    ensures { λ r. ⌜ r ≡ rampAnswer (rampLine n (now (line .entry))) ⌝ }
+{
+    if !opens(line, b"ramp") {
+        return refused_ramp(1, n);
+    }
+    if text::part_count(line, 9) != 5 {
+        return refused_ramp(1, n);
+    }
+    let Number::Whole(a) = text::read_number(text::field(line, 1)) else {
+        return refused_ramp(1, n);
+    };
+    let Number::Whole(s0) = text::read_number(text::field(line, 2)) else {
+        return refused_ramp(1, n);
+    };
+    let Number::Whole(b) = text::read_number(text::field(line, 3)) else {
+        return refused_ramp(1, n);
+    };
+    let Number::Whole(s1) = text::read_number(text::field(line, 4)) else {
+        return refused_ramp(1, n);
+    };
+    let ramp = Ramp { a, s0, b, s1 };
+    if !group::ramp_fits(ramp) {
+        return refused_ramp(2, n);
+    }
+    RampRead {
+        verdict: Verdict::Accepted,
+        ramp,
+    }
+}
+
+// Line n as a grid.
+pub fn grid_line(line: &[u8], n: u64) -> GridRead
+    ensures { λ r. ⌜ r ≡ gridAnswer (gridLine n (now (line .entry))) ⌝ }
+{
+    if !opens(line, b"grid") {
+        return refused_grid(1, n);
+    }
+    if text::part_count(line, 9) != 10 {
+        return refused_grid(1, n);
+    }
+    let Form::Named = name_form(text::field(line, 1)) else {
+        return refused_grid(1, n);
+    };
+    let Number::Whole(lon) = text::read_number(text::field(line, 2)) else {
+        return refused_grid(1, n);
+    };
+    let Number::Whole(lat) = text::read_number(text::field(line, 3)) else {
+        return refused_grid(1, n);
+    };
+    let Number::Whole(dlon) = text::read_number(text::field(line, 4)) else {
+        return refused_grid(1, n);
+    };
+    let Number::Whole(dlat) = text::read_number(text::field(line, 5)) else {
+        return refused_grid(1, n);
+    };
+    let Number::Whole(ni) = text::read_number(text::field(line, 6)) else {
+        return refused_grid(1, n);
+    };
+    let Number::Whole(nj) = text::read_number(text::field(line, 7)) else {
+        return refused_grid(1, n);
+    };
+    let Number::Whole(rank) = text::read_number(text::field(line, 8)) else {
+        return refused_grid(1, n);
+    };
+    let Number::Whole(start) = text::read_number(text::field(line, 9)) else {
+        return refused_grid(1, n);
+    };
+    let name = read_name(text::field(line, 1));
+    let grid = grid_made(name, lon, lat, dlon, dlat, ni, nj, rank, start);
+    if !group::grid_fits(grid) {
+        return refused_grid(2, n);
+    }
+    GridRead {
+        verdict: Verdict::Accepted,
+        grid,
+    }
+}
+
+// Writes the first n bytes of s.
+pub fn put_front(s: &[u8], n: usize, out: &mut [u8], at: usize) -> usize
+    requires { ⌜ (n ≤ length (now s)) × (at + length (take n (now s)) ≤ length (now out)) ⌝ }
+    ensures { λ r. ⌜ Wrote at (take n (now (s .entry))) (now (out .entry)) r (now (out .exit)) ⌝ }
+{
+    text::put_bytes(&s[0..n], out, at)
+}
+
+// Writes the first n bytes of a name.
+fn put_letters(bytes: &[u8; 24], n: usize, out: &mut [u8], at: usize) -> usize
+    requires { ⌜ (n ≤ 24) × (at + length (take n (now bytes)) ≤ length (now out)) ⌝ }
+    ensures { λ r. ⌜ Wrote at (take n (now (bytes .entry))) (now (out .entry)) r (now (out .exit)) ⌝ }
+{
+    put_front(bytes, n, out, at)
+}
+
+// Writes a tab and a name.
+fn put_name(name: Name, out: &mut [u8], at: usize) -> usize
+    requires { ⌜ (name .len ≤ 24) × (at + length (9 ∷ nameText name) ≤ length (now out)) ⌝ }
+    ensures { λ r. ⌜ Wrote at (9 ∷ nameText name) (now (out .entry)) r (now (out .exit)) ⌝ }
+{
+    let p = text::put_byte(9, out, at);
+    let n = name.len as usize;
+    let bytes = name.bytes;
+    put_letters(&bytes, n, out, p)
+}
+
+// Writes a tab and a unit.
+fn put_unit(unit: Unit, out: &mut [u8], at: usize) -> usize
+    requires { ⌜ at + length (9 ∷ unitText unit) ≤ length (now out) ⌝ }
+    ensures { λ r. ⌜ Wrote at (9 ∷ unitText unit) (now (out .entry)) r (now (out .exit)) ⌝ }
+{
+    match unit {
+        Unit::ArcSecond => text::put_bytes(b"\tarc-second", out, at),
+        Unit::Metre => text::put_bytes(b"\tmetre", out, at),
+    }
+}
+
+// Writes a group line with its line feed.
+pub fn put_head(head: Head, out: &mut [u8], at: usize) -> usize
+    requires { ⌜ (head .name .len ≤ 24) × (at + length (headText head ++ (10 ∷ [])) ≤ length (now out)) ⌝ }
+    ensures { λ r. ⌜ Wrote at (headText head ++ (10 ∷ [])) (now (out .entry)) r (now (out .exit)) ⌝ }
+{
+    let p = text::put_bytes(b"group", out, at);
+    let name = head.name;
+    let q = put_name(name, out, p);
+    let unit = head.unit;
+    let r = put_unit(unit, out, q);
+    let s = text::put_count(head.quantum, out, r);
+    let t = text::put_count(head.parameters, out, s);
+    let u = text::put_count(head.ramps, out, t);
+    let v = text::put_count(head.grids, out, u);
+    text::put_byte(10, out, v)
+}
+
+// Writes a ramp line with its line feed.
+pub fn put_ramp(ramp: Ramp, out: &mut [u8], at: usize) -> usize
+    requires { ⌜ at + length (rampText ramp ++ (10 ∷ [])) ≤ length (now out) ⌝ }
+    ensures { λ r. ⌜ Wrote at (rampText ramp ++ (10 ∷ [])) (now (out .entry)) r (now (out .exit)) ⌝ }
+{
+    let p = text::put_bytes(b"ramp", out, at);
+    let q = text::put_number(ramp.a, out, p);
+    let r = text::put_number(ramp.s0, out, q);
+    let s = text::put_number(ramp.b, out, r);
+    let t = text::put_number(ramp.s1, out, s);
+    text::put_byte(10, out, t)
+}
+
+// Writes a grid line with its line feed.
+pub fn put_grid(grid: Grid, out: &mut [u8], at: usize) -> usize
+    requires { ⌜ (grid .name .len ≤ 24) × (at + length (gridText grid ++ (10 ∷ [])) ≤ length (now out)) ⌝ }
+    ensures { λ r. ⌜ Wrote at (gridText grid ++ (10 ∷ [])) (now (out .entry)) r (now (out .exit)) ⌝ }
+{
+    let p = text::put_bytes(b"grid", out, at);
+    let name = grid.name;
+    let q = put_name(name, out, p);
+    let r = text::put_number(grid.lon.0, out, q);
+    let s = text::put_number(grid.lat.0, out, r);
+    let t = text::put_number(grid.dlon, out, s);
+    let u = text::put_number(grid.dlat, out, t);
+    let v = text::put_count(grid.ni, out, u);
+    let w = text::put_count(grid.nj, out, v);
+    let x = text::put_count(grid.rank, out, w);
+    let y = text::put_count(grid.start, out, x);
+    text::put_byte(10, out, y)
+}

@@ -1,0 +1,89 @@
+-- An accepted lookup answers the fix in the chosen grid: no stage before it refuses.
+use Prim.Native.Nat.{ℕ, zero, suc, _<_}
+use mathlib.Core.Path.{_≡_, refl, sym, ap}
+use mathlib.Core.Bool.{Bool, true, false, not}
+use mathlib.Core.List.{List}
+use native.Mathlib.Omega.{arith}
+use borrow.Author.Tests.{not-false}
+use lib.IntN.{ℤ}
+use lib.ListN.{length}
+use Rattle.numbers.specs.First.{some}
+use Rattle.group.specs.declared.Group.{Group}
+use Rattle.group.specs.declared.Point.{Point}
+use Rattle.group.specs.declared.Verdict.{Verdict}
+use Rattle.group.specs.declared.Verdict.the-variants.{Accepted, Refused}
+use Rattle.group.specs.Record.{gridAt}
+use Rattle.judge.specs.Judge.{judged}
+use Rattle.choice.specs.InGroup.{chosenIn}
+use Rattle.cell.specs.Cell.{isMark, isBeyond}
+use Rattle.day.specs.Day.{factorOf}
+use Rattle.fix.specs.declared.Place.{Place}
+use Rattle.fix.specs.declared.Fix.{Fix}
+use Rattle.fix.specs.declared.Lookup.{Lookup}
+use Rattle.fix.specs.declared.Lookup.the-variants as L
+use Rattle.fix.specs.Answers.{resultIn}
+use Rattle.fix.specs.Fix.{cornerSome, resultAt, refuseIf, fixIn}
+use Rattle.lookup.specs.Lookup.{pointFits, dayFits, endsEarly, placeOf, fixAt, unlessRefused, lookedIn, looked, Ready}
+
+-- a stage that leads to a fix did not refuse
+stage : (b : Bool) (n q : ℕ) (next : Lookup) (f : Fix) → refuseIf b n q next ≡ L.Fix f → (b ≡ false) × (next ≡ L.Fix f)
+unfolding refuseIf
+stage true n q next f e = absurd (let z : _≡_ {A = ℕ} 0 1 = cc in omega arith)
+stage false n q next f e = (refl, e)
+
+judge-stage : (v : Verdict) (next : Lookup) (f : Fix) → unlessRefused v next ≡ L.Fix f → (v ≡ Accepted) × (next ≡ L.Fix f)
+judge-stage Accepted next f e = (refl, e)
+judge-stage (Refused r) next f e = absurd (let z : _≡_ {A = ℕ} 0 1 = cc in omega arith)
+
+choice-stage : (c : ℕ) (place : ℕ → Place) (nodes : List ℤ) (factor : ℤ) (f : Fix) → fixAt c place nodes factor ≡ L.Fix f
+    → (k : ℕ) × ((c ≡ suc k) × (fixIn (place k) nodes factor (suc k) ≡ L.Fix f))
+unfolding fixAt
+choice-stage zero place nodes factor f e = absurd (let z : _≡_ {A = ℕ} 0 1 = cc in omega arith)
+choice-stage (suc k) place nodes factor f e = (k, (refl, e))
+
+-- what is known of an accepted lookup: grid k, from 0, is chosen, and no used corner is the mark or beyond the limits
+pub record Found (g : Group) (nodes : List ℤ) (p : Point) (t : ℤ) (f : Fix) : Type 0 where
+  pub k : ℕ
+  pub ready : Ready g (length nodes) p t
+  pub chosen : chosenIn g (p .lon .0) (p .lat .0) ≡ suc k
+  pub no-mark : cornerSome isMark (placeOf (gridAt g k) (g .parameters) p) nodes ≡ false
+  pub no-beyond : cornerSome isBeyond (placeOf (gridAt g k) (g .parameters) p) nodes ≡ false
+  pub number : f .grid ≡ suc k
+  pub results : (q : ℕ) → q < 3 → resultIn f q ≡ resultAt (placeOf (gridAt g k) (g .parameters) p) nodes (factorOf (g .ramp) (g .ramps) t) q
+
+same-fix : (e f : Fix) → L.Fix e ≡ L.Fix f → e ≡ f
+same-fix e f h = cc
+
+each : (f : Fix) (r : ℕ → ℤ) (n : ℕ) → _≡_ {A = Fix} (record { grid = n; first = r 0; second = r 1; third = r 2 }) f → (q : ℕ) → q < 3 → resultIn f q ≡ r q
+each f r n w zero h = ap (λ (x : Fix). x .first) (sym w)
+each f r n w (suc zero) h = ap (λ (x : Fix). x .second) (sym w)
+each f r n w (suc (suc zero)) h = ap (λ (x : Fix). x .third) (sym w)
+each f r n w (suc (suc (suc q))) h = absurd (omega arith)
+
+pub found : (g : Group) (nodes : List ℤ) (p : Point) (t : ℤ) (f : Fix) → looked g nodes p t ≡ L.Fix f → Found g nodes p t f
+unfolding looked lookedIn fixIn
+found g nodes p t f e =
+    let a = judge-stage (judged g) (lookedIn g nodes p t) f e in
+    let b = stage (not (pointFits p)) 6 0 _ f (a .1) in
+    let c = stage (not (dayFits t)) 9 0 _ f (b .1) in
+    let d = stage (some (endsEarly g (length nodes)) (g .grids)) 13 _ _ f (c .1) in
+    let s = choice-stage (chosenIn g (p .lon .0) (p .lat .0)) (λ k. placeOf (gridAt g k) (g .parameters) p) nodes (factorOf (g .ramp) (g .ramps) t) f (d .1) in
+    let k = s .0 in let l = placeOf (gridAt g k) (g .parameters) p in
+    let m = stage (cornerSome isMark l nodes) 8 0 _ f (s .1 .1) in
+    let n = stage (cornerSome isBeyond l nodes) 11 0 _ f (m .1) in
+    let w = same-fix _ f (n .1) in
+    record {
+      k = k;
+      ready =
+          record {
+            accepted = a .0;
+            point = not-false (pointFits p) (b .0);
+            day = not-false (dayFits t) (c .0);
+            ends = d .0;
+          };
+      chosen = s .1 .0;
+      no-mark = m .0;
+      no-beyond = n .0;
+      number = ap (λ (x : Fix). x .grid) (sym w);
+      results = each f (resultAt l nodes (factorOf (g .ramp) (g .ramps) t)) (suc k) w;
+    }

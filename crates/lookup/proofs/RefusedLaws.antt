@@ -1,0 +1,195 @@
+-- A lookup refuses exactly when the table says, in document 01's order.
+use Prim.Native.Nat.{ℕ, zero, suc, _+_, _<_}
+use mathlib.Core.Path.{_≡_, refl, sym, ap, _∙_, subst}
+use mathlib.Core.Bool.{Bool, true, false, not, _&&_}
+use mathlib.Core.List.{List}
+use mathlib.Core.Logic.{_⊎_, inl, inr, ⊎-elim, _↔_}
+use native.Mathlib.Omega.{arith}
+use native.Mathlib.Decide.{decLt}
+use borrow.Author.Tests.{ltb-true, ltb-false, lt-ltb, leb-false, lt-leb, not-true, not-false}
+use lib.IntN.{ℤ, natAbs}
+use lib.ListN.{length}
+use Rattle.numbers.specs.First.{first, some}
+use Rattle.numbers.specs.Order.{within}
+use Rattle.numbers.proofs.Bools.{true-false, and-left, and-right}
+use Rattle.numbers.proofs.FirstLaws.{first-before, first-hit, none-at}
+use Rattle.numbers.proofs.OrderLaws.{within-test}
+use Rattle.group.specs.declared.Group.{Group}
+use Rattle.group.specs.declared.Point.{Point}
+use Rattle.group.specs.declared.Refusal.{Refusal}
+use Rattle.group.specs.declared.Verdict.{Verdict}
+use Rattle.group.specs.declared.Verdict.the-variants.{Accepted, Refused}
+use Rattle.group.specs.Refusals.{refusal, verdictRefusal}
+use Rattle.judge.specs.Judge.{judged}
+use Rattle.choice.specs.InGroup.{chosenIn}
+use Rattle.cell.specs.Cell.{mark, isMark, isBeyond}
+use Rattle.cell.proofs.ValueLaws.{is-mark, is-beyond}
+use Rattle.day.specs.Day.{factorOf}
+use Rattle.fix.specs.declared.Lookup.{Lookup}
+use Rattle.fix.specs.declared.Lookup.the-variants as L
+use Rattle.fix.specs.Answers.{lookupRefusal}
+use Rattle.fix.specs.Fix.{cornerSome, resultAt, refuseIf, fixIn}
+use Rattle.fix.proofs.FixLaws.{corner-some, some-corner}
+use Rattle.lookup.specs.Lookup.{pointFits, dayFits, endsEarly, placeOf, fixAt, fixOf, unlessRefused, lookedIn, looked}
+use Rattle.lookup.specs.Demand2.{seenFrom, BestGrid, PointOutside, NoneHolds, UsedCorner, DayOutside, EndsBefore, Judged, Row, ShortList, Nothing, _then_, Refuses}
+use Rattle.lookup.proofs.BestLaws.{chosen-is-best, none-chosen-holds, one-best}
+
+-- ---- rows in their order refuse in one way
+
+abbrev Single : (Refusal → Type 0) → Type 0
+Single R = (r s : Refusal) → R r → R s → r ≡ s
+
+single-then : (First Next : Refusal → Type 0) → Single First → Single Next → Single (First then Next)
+single-then First Next a b r s (inl h) (inl k) = a r s h k
+single-then First Next a b r s (inl h) (inr k) = absurd (k .0 r h)
+single-then First Next a b r s (inr h) (inl k) = absurd (h .0 s k)
+single-then First Next a b r s (inr h) (inr k) = b r s (h .1) (k .1)
+
+single-row : (n : ℕ) (When : Type 0) → Single (Row n When)
+single-row n When r s h k = h .0 ∙ sym (k .0)
+
+-- a stage of the definition and the row that it stands for
+stage : (Now Next : Refusal → Type 0) (b : Bool) (n q : ℕ) (next : Lookup) → (b ≡ true → Now (refusal n q)) → (b ≡ false → (r : Refusal) → Now r → ⊥)
+    → (b ≡ false → Next (lookupRefusal next)) → (Now then Next) (lookupRefusal (refuseIf b n q next))
+unfolding refuseIf
+stage Now Next true n q next yea nay on = inl (yea refl)
+stage Now Next false n q next yea nay on = inr (nay refl, on refl)
+
+row-stage : (When : Type 0) (Next : Refusal → Type 0) (b : Bool) (n : ℕ) (next : Lookup) → (b ≡ true → When) → (b ≡ false → When → ⊥)
+    → (b ≡ false → Next (lookupRefusal next)) → (Row n When then Next) (lookupRefusal (refuseIf b n 0 next))
+row-stage When Next b n next yea nay on = stage (Row n When) Next b n 0 next (λ e. (refl, yea e)) (λ e r h. nay e (h .1)) on
+
+-- ---- what each test says
+
+outside : (m : ℕ) (z : ℤ) → within m z ≡ false → m < natAbs z
+outside m z e = leb-false (natAbs z) m (sym (within-test m z) ∙ e)
+
+inside : (m : ℕ) (z : ℤ) → within m z ≡ true → m < natAbs z → ⊥
+inside m z e h = true-false e (within-test m z ∙ lt-leb (natAbs z) m h)
+
+point-outside : (p : Point) → pointFits p ≡ false → PointOutside p
+point-outside p e = pick (within 1296000000 (p .lon .0)) refl e
+  where
+    pick : (b : Bool) → within 1296000000 (p .lon .0) ≡ b → (b && within 324000000 (p .lat .0)) ≡ false → PointOutside p
+    pick true w e = inr (outside 324000000 (p .lat .0) e)
+    pick false w e = inl (outside 1296000000 (p .lon .0) w)
+
+point-inside : (p : Point) → pointFits p ≡ true → PointOutside p → ⊥
+point-inside p e =
+    let x = within 1296000000 (p .lon .0) in let y = within 324000000 (p .lat .0) in
+    ⊎-elim (inside 1296000000 (p .lon .0) (and-left x y e)) (inside 324000000 (p .lat .0) (and-right x y e))
+
+module _ (g : Group) (nodes : List ℤ) where
+  abbrev early : ℕ → Bool
+  early = endsEarly g (length nodes)
+
+  first-ends : some early (g .grids) ≡ true → EndsBefore g nodes (first early (g .grids))
+  first-ends e =
+      let l = ltb-true (first early (g .grids)) (g .grids) e in
+      record {
+        among = l;
+        early = ltb-true _ _ (first-hit early (g .grids) l);
+        lowest = λ j h. ltb-false _ _ (first-before early (g .grids) j h);
+      }
+
+  none-ends : some early (g .grids) ≡ false → (k : ℕ) → EndsBefore g nodes k → ⊥
+  none-ends e k b =
+      true-false (lt-ltb _ _ (b .early)) (none-at early (g .grids) k (ltb-false (first early (g .grids)) (g .grids) e) (b .among))
+
+  one-ends : (j k : ℕ) → EndsBefore g nodes j → EndsBefore g nodes k → j ≡ k
+  one-ends j k a b =
+      elim (decLt j k) [
+        | yes lt ↦ absurd (omega (arith, a .early, b .lowest j lt))
+        | no ge ↦ elim (decLt k j) [ yes lt ↦ absurd (omega (arith, b .early, a .lowest k lt)) | no ge₂ ↦ omega arith ]
+      ]
+
+  module _ (p : Point) (test : ℤ → Bool) (P : ℤ → Type 0) (tests : (z : ℤ) → (test z ≡ true) ↔ P z) (k : ℕ) (b : BestGrid g p k) where
+    corner-used : cornerSome test (seenFrom g p k) nodes ≡ true → UsedCorner P g nodes p
+    unfolding placeOf
+    corner-used e =
+        let s = corner-some test P tests (seenFrom g p k) nodes e in
+        record { k = k; grid = b; q = s .0; parameter = s .1; corner = s .2 }
+
+    corner-unused : cornerSome test (seenFrom g p k) nodes ≡ false → UsedCorner P g nodes p → ⊥
+    unfolding placeOf
+    corner-unused e u =
+        true-false
+        (some-corner test P tests (seenFrom g p (u .k)) nodes (u .q) (u .parameter) (u .corner))
+        (subst (λ (j : ℕ). cornerSome test (seenFrom g p j) nodes ≡ false) (one-best g p k (u .k) b (u .grid)) e)
+
+-- ---- what is answered is what the rows say
+
+module _ (g : Group) (nodes : List ℤ) (p : Point) (t : ℤ) where
+  abbrev From11 : Refusal → Type 0
+  From11 = Row 11 (UsedCorner (λ v. 4000000 < natAbs v) g nodes p) then Nothing
+
+  abbrev From8 : Refusal → Type 0
+  From8 = Row 8 (UsedCorner (λ v. v ≡ mark) g nodes p) then From11
+
+  abbrev From7 : Refusal → Type 0
+  From7 = Row 7 (NoneHolds g p) then From8
+
+  abbrev From13 : Refusal → Type 0
+  From13 = ShortList g nodes then From7
+
+  abbrev From9 : Refusal → Type 0
+  From9 = Row 9 (DayOutside t) then From13
+
+  in-grid : (k : ℕ) (factor : ℤ) → BestGrid g p k → From8 (lookupRefusal (fixIn (seenFrom g p k) nodes factor (suc k)))
+  unfolding fixIn
+  in-grid k factor b =
+      row-stage _ From11 (cornerSome isMark (seenFrom g p k) nodes) 8 _
+      (corner-used g nodes p isMark (λ v. v ≡ mark) is-mark k b)
+      (corner-unused g nodes p isMark (λ v. v ≡ mark) is-mark k b)
+      (λ e.
+      row-stage _ Nothing (cornerSome isBeyond (seenFrom g p k) nodes) 11
+      (L.Fix
+      (record {
+        grid = suc k;
+        first = resultAt (seenFrom g p k) nodes factor 0;
+        second = resultAt (seenFrom g p k) nodes factor 1;
+        third = resultAt (seenFrom g p k) nodes factor 2;
+      }))
+      (corner-used g nodes p isBeyond (λ v. 4000000 < natAbs v) is-beyond k b)
+      (corner-unused g nodes p isBeyond (λ v. 4000000 < natAbs v) is-beyond k b)
+      (λ f. refl))
+
+  in-choice : judged g ≡ Accepted → (c : ℕ) → chosenIn g (p .lon .0) (p .lat .0) ≡ c → (factor : ℤ)
+      → From7 (lookupRefusal (fixAt c (seenFrom g p) nodes factor))
+  unfolding fixAt
+  in-choice a zero e factor = inl (refl, none-chosen-holds g p e)
+  in-choice a (suc k) e factor = let b = chosen-is-best g p a k e in inr (λ r h. h .1 k (b .among) (b .held), in-grid k factor b)
+
+  judge-stage : (Next : Refusal → Type 0) (v : Verdict) (next : Lookup) → judged g ≡ v → (judged g ≡ Accepted → Next (lookupRefusal next))
+      → (Judged g then Next) (lookupRefusal (unlessRefused v next))
+  judge-stage Next Accepted next e on =
+      inr (λ r h. let k : _≡_ {A = Verdict} Accepted (Refused r) = sym e ∙ h in absurd (let z : _≡_ {A = ℕ} 0 1 = cc in omega arith), on e)
+  judge-stage Next (Refused r) next e on = inl e
+
+  stands : Refuses g nodes p t (lookupRefusal (looked g nodes p t))
+  unfolding Refuses looked lookedIn
+  stands =
+      judge-stage (Row 6 (PointOutside p) then From9) (judged g) (lookedIn g nodes p t) refl
+      (λ a.
+      row-stage _ From9 (not (pointFits p)) 6 _ (λ e. point-outside p (not-true _ e)) (λ e. point-inside p (not-false _ e))
+      (λ b.
+      row-stage _ From13 (not (dayFits t)) 9 _ (λ e. outside 1000000 t (not-true _ e)) (λ e. inside 1000000 t (not-false _ e))
+      (λ c.
+      stage (ShortList g nodes) From7 (some (early g nodes) (g .grids)) 13 (first (early g nodes) (g .grids) + 1) (fixOf g nodes p t)
+      (λ e. (first (early g nodes) (g .grids), ap (refusal 13) (omega arith), first-ends g nodes e))
+      (λ e r h. none-ends g nodes e (h .0) (h .2))
+      (λ d. in-choice a (chosenIn g (p .lon .0) (p .lat .0)) refl (factorOf (g .ramp) (g .ramps) t)))))
+
+  single : Single (Refuses g nodes p t)
+  unfolding Refuses
+  single =
+      single-then _ _ (λ r s h k. ap verdictRefusal (sym h ∙ k))
+      (single-then _ _ (single-row 6 _)
+      (single-then _ _ (single-row 9 _)
+      (single-then _ _ (λ r s h k. h .1 ∙ ap (λ (m : ℕ). refusal 13 (suc m)) (one-ends g nodes (h .0) (k .0) (h .2) (k .2)) ∙ sym (k .1))
+      (single-then _ _ (single-row 7 _)
+      (single-then _ _ (single-row 8 _)
+      (single-then _ _ (single-row 11 _) (λ r s h k. h ∙ sym k)))))))
+
+  pub refused-exactly : (r : Refusal) → (lookupRefusal (looked g nodes p t) ≡ r) ↔ Refuses g nodes p t r
+  refused-exactly r = (λ e. subst (Refuses g nodes p t) e stands, λ h. single _ r stands h)

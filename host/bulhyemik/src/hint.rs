@@ -1,0 +1,145 @@
+//! What can be seen on the line of a header that the library refused by 1 or 2. Number and place are the library's.
+
+use crate::kinds::{GRID, GROUP, Kind, RAMP};
+use crate::number::decimal;
+use crate::shown::bytes;
+use crate::stop::Refusal;
+
+/// What is to be seen at the place of a refusal, in words.
+pub fn hint(text: &[u8], refusal: &Refusal) -> Option<String> {
+    let text = Text(text);
+    let place = usize::try_from(refusal.place).ok()?;
+    match refusal.number {
+        1 => text.form(place),
+        2 => text.limit(place),
+        _ => None,
+    }
+}
+
+/// The first fields of a line, more than any line has.
+fn fields(line: &[u8]) -> Vec<&[u8]> {
+    line.split(|&c| c == b'\t').take(GRID.fields() + 1).collect()
+}
+
+/// A header text.
+struct Text<'a>(&'a [u8]);
+
+impl<'a> Text<'a> {
+    /// The line of a number from 1, if there is one that a line feed closes; else what stands behind the last line feed.
+    fn line(&self, place: usize) -> Result<&'a [u8], &'a [u8]> {
+        let mut rest = self.0;
+        let mut line = None;
+        for _ in 0..place {
+            let end = rest.iter().position(|&c| c == b'\n').ok_or(rest)?;
+            line = Some(&rest[..end]);
+            rest = &rest[end + 1..];
+        }
+        line.ok_or(rest)
+    }
+
+    /// The counts of ramps and grids, if the group line has them.
+    fn counts(&self) -> Option<(usize, usize)> {
+        let fields = fields(self.line(1).ok()?);
+        let count = |k: usize| usize::try_from(decimal(fields.get(k)?)?).ok();
+        Some((count(5)?, count(6)?))
+    }
+
+    /// The same in words.
+    fn counted(&self) -> String {
+        let plural = |count: usize, word: &str| format!("{count} {word}{}", if count == 1 { "" } else { "s" });
+        let (ramps, grids) = self.counts().unwrap_or_default();
+        format!("line 1 counts {} and {}", plural(ramps, "ramp"), plural(grids, "grid"))
+    }
+
+    /// The kind of a line, as the group line counts them, if it is within the header.
+    fn kind(&self, place: usize) -> Option<&'static Kind> {
+        let (ramps, grids) = if place == 1 { (0, 0) } else { self.counts()? };
+        match place.checked_sub(1)? {
+            0 => Some(&GROUP),
+            behind if behind <= ramps => Some(&RAMP),
+            behind if behind - ramps <= grids => Some(&GRID),
+            _ => None,
+        }
+    }
+
+    /// What is not of the form at a place.
+    fn form(&self, place: usize) -> Option<String> {
+        if let (1, Some(mark)) = (place, byte_order_mark(self.0)) {
+            return Some(format!("the file begins with {mark}; save it as plain ASCII"));
+        }
+        let Some(kind) = self.kind(place) else {
+            return Some(format!("bytes stand behind the last grid line: {}", self.counted()));
+        };
+        match self.line(place) {
+            Ok(line) => Some(format!("line {place}{}", form_of(line, kind)?)),
+            Err(_) if self.0.is_empty() => Some("the header is empty".into()),
+            Err([]) => Some(format!("the header ends before line {place}, a {} line: {}", kind.word, self.counted())),
+            Err(_) => Some(format!("line {place} is not closed by a line feed")),
+        }
+    }
+
+    /// The first number of a line that is outside its limit.
+    fn limit(&self, place: usize) -> Option<String> {
+        let fields = fields(self.line(place).ok()?);
+        Some(format!("line {place}: {}", self.kind(place)?.beyond(&fields[1..])?))
+    }
+}
+
+/// What is not of the form on a line of a kind, as it goes on behind the line's number.
+fn form_of(line: &[u8], kind: &Kind) -> Option<String> {
+    let Kind { word, .. } = kind;
+    let first_fields = fields(line);
+    let count = line.iter().filter(|&&c| c == b'\t').count() + 1;
+    if line.ends_with(b"\r") {
+        Some(" ends in CR: lines are closed by a line feed alone".into())
+    } else if line.is_empty() {
+        Some(format!(" is empty, but must be a {word} line"))
+    } else if first_fields[0] != word.as_bytes() {
+        let tabs = if count == 1 { "; fields are parted by tabs" } else { "" };
+        Some(format!(" begins with '{}', but must begin with '{word}'{tabs}", bytes(first_fields[0])))
+    } else if count != kind.fields() {
+        Some(format!(" has {count} fields parted by tabs, but a {word} line has {}", kind.fields()))
+    } else {
+        Some(format!(": {}", kind.malformed(&first_fields[1..])?))
+    }
+}
+
+/// A byte order mark at the beginning of a text.
+fn byte_order_mark(text: &[u8]) -> Option<&'static str> {
+    match text {
+        [0xef, 0xbb, 0xbf, ..] => Some("a byte order mark"),
+        [0xfe, 0xff, ..] | [0xff, 0xfe, ..] => Some("a byte order mark of UTF-16"),
+        _ => None,
+    }
+}
+
+#[cfg(test)]
+mod tests {
+    use super::{Refusal, hint};
+
+    #[test]
+    fn of_any_damaged_text_something_short_and_plain_is_said() {
+        let plain = |words: String| words.len() < 200 && !words.contains(char::is_control);
+        let whole = b"group\tdock\tmetre\t13\t1\t1\t1\nramp\t1\t0\t2\t3\ngrid\tbasin\t0\t0\t10\t10\t3\t2\t1\t0\n";
+        for k in 0..whole.len() {
+            for byte in [b'\t', b'\n', b'\r', b'9', 0, 0xff] {
+                let mut text = whole.to_vec();
+                text[k] = byte;
+                for number in 0..4 {
+                    for place in (0..6).chain([u64::MAX]) {
+                        assert!(hint(&text, &Refusal { number, place }).is_none_or(plain));
+                        assert!(hint(&text[..k], &Refusal { number, place }).is_none_or(plain));
+                    }
+                }
+            }
+        }
+    }
+
+    #[test]
+    fn nothing_is_said_where_nothing_is_seen() {
+        let sound = b"group\tdock\tmetre\t13\t1\t0\t1\ngrid\tbasin\t0\t0\t10\t10\t3\t2\t1\t0\n";
+        for (number, place) in [(1, 1), (1, 2), (2, 1), (2, 2), (3, 1), (5, 1)] {
+            assert_eq!(hint(sound, &Refusal { number, place }), None);
+        }
+    }
+}

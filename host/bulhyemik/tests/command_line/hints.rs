@@ -1,0 +1,78 @@
+//! What is said of a header that is refused by 1 or 2: the words tell what stands on the line; number and place are the library's.
+
+use crate::program::{Folder, HEADER, refused};
+
+/// The header with one part replaced must be refused so.
+fn refuses(folder: &Folder, part: &str, by: &str, number: u64, place: u64, words: &str) {
+    assert!(HEADER.contains(part), "{part:?}");
+    let text = HEADER.replacen(part, by, 1);
+    assert_eq!(folder.run_with(&["check", "-"], text.as_bytes()), refused(number, place, words), "{text:?}");
+}
+
+#[test]
+fn refusal_1_says_what_is_not_of_the_form() {
+    let folder = Folder::new("hints-1");
+    let whole = "a whole number, as 12, 0 or -5, without plus or leading zero";
+    let name = "1 to 24 of A to Z, a to z, 0 to 9, _ and -";
+    for (part, by, place, words) in [
+        ("group", "\u{feff}group", 1, "the file begins with a byte order mark; save it as plain ASCII".to_string()),
+        ("000000\n", "000000\r\n", 2, "line 2 ends in CR: lines are closed by a line feed alone".into()),
+        ("1\t0\n", "1\t0\r\n", 3, "line 3 ends in CR: lines are closed by a line feed alone".into()),
+        ("1\t0\n", "1\t0", 3, "line 3 is not closed by a line feed".into()),
+        ("1\t0\n", "1\t0\n\n", 4, "bytes stand behind the last grid line: line 1 counts 1 ramp and 1 grid".into()),
+        ("1\t0\n", "1\t0\n#", 4, "bytes stand behind the last grid line: line 1 counts 1 ramp and 1 grid".into()),
+        (
+            "1\t1\t1",
+            "1\t1\t2",
+            4,
+            "the header ends before line 4, a grid line: line 1 counts 1 ramp and 2 grids".into(),
+        ),
+        ("ramp", "\nramp", 2, "line 2 is empty, but must be a ramp line".into()),
+        ("1\t1\t1", "1\t0\t1", 2, "line 2 begins with 'ramp', but must begin with 'grid'".into()),
+        (
+            "ramp\t100\t0\t200\t",
+            "ramp 100 0 200 ",
+            2,
+            "line 2 begins with 'ramp 100 0 200 1000000', but must begin with 'ramp'; fields are parted by tabs".into(),
+        ),
+        ("\t200", "", 2, "line 2 has 4 fields parted by tabs, but a ramp line has 5".into()),
+        ("metre", "meter", 1, "line 1: UNIT is 'meter', but must be arc-second or metre".into()),
+        ("dock", "the dock", 1, format!("line 1: NAME is 'the dock', but must be {name}")),
+        (
+            "basin",
+            "basin-with-a-name-of-25-by",
+            3,
+            format!("line 3: NAME is 'basin-with-a-name-of-25-by', but must be {name}"),
+        ),
+        ("13", "013", 1, format!("line 1: Q is '013', but must be {whole}")),
+        ("200", "+200", 2, format!("line 2: B is '+200', but must be {whole}")),
+    ] {
+        refuses(&folder, part, by, 1, place, &words);
+    }
+    let utf16 = [0xff, 0xfe, b'g', 0, b'r', 0];
+    let words = "the file begins with a byte order mark of UTF-16; save it as plain ASCII";
+    assert_eq!(folder.run_with(&["check", "-"], &utf16), refused(1, 1, words));
+}
+
+#[test]
+fn refusal_2_names_the_number_and_its_limit() {
+    let folder = Folder::new("hints-2");
+    for (part, by, place, words) in [
+        ("13", "21", 1, "line 1: Q is 21, its limit is 0 to 20"),
+        ("13", "-1", 1, "line 1: Q is -1, its limit is 0 to 20"),
+        ("13\t1", "13\t4", 1, "line 1: NP is 4, its limit is 1 to 3"),
+        ("1\t1\t1", "1\t9\t1", 1, "line 1: the count of ramps is 9, its limit is 0 to 8"),
+        ("1\t1\t1", "1\t1\t0", 1, "line 1: the count of grids is 0, its limit is 1 to 64"),
+        ("\t100\t", "\t1000001\t", 2, "line 2: A is 1000001, its limit is -1000000 to 1000000"),
+        ("\t100\t", "\t201\t", 2, "line 2: A is 201, above B, which is 200"),
+        ("1000000", "10000001", 2, "line 2: S1 is 10000001, its limit is -10000000 to 10000000"),
+        ("basin\t0", "basin\t1296000001", 3, "line 3: LON is 1296000001, its limit is -1296000000 to 1296000000"),
+        ("10\t10", "0\t10", 3, "line 3: DLON is 0, its limit is 1 to 1000000 in size"),
+        ("10\t10", "10\t-1000001", 3, "line 3: DLAT is -1000001, its limit is 1 to 1000000 in size"),
+        ("3\t2\t1\t0", "1\t2\t1\t0", 3, "line 3: NI is 1, its limit is 2 to 16384"),
+        ("3\t2\t1\t0", "3\t2\t1001\t0", 3, "line 3: RANK is 1001, its limit is 1 to 1000"),
+        ("3\t2\t1\t0", "3\t2\t1\t16777216", 3, "line 3: START is 16777216, its limit is 0 to 16777215"),
+    ] {
+        refuses(&folder, part, by, 2, place, words);
+    }
+}
