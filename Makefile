@@ -47,6 +47,7 @@ check: | tools
 	@rt check
 
 test: | tools
+	@command -v python3 > /dev/null 2>&1 || { echo 'make: python3 is missing: it checks the papers; python 3.11 is known to work' >&2; exit 1; }
 	@tests/gate
 
 bench: all

@@ -1,12 +1,12 @@
 -- What each call leaves, of what its callees told: laws over plain values, handed the facts.
-use Prim.Native.Nat.{ℕ}
+use Prim.Native.Nat.{ℕ, _*_}
 use mathlib.Core.Path.{_≡_, refl, sym, ap, _∙_}
 use mathlib.Core.Bool.{Bool, true, false, cond}
 use mathlib.Core.List.{List, [], _∷_, _++_}
 use borrow.Author.Tests.{eq-eqb, ne-eqb}
 use lib.Dec.{eqb}
 use lib.Ieee.{Float}
-use lib.IntN.{ℤ, pos}
+use lib.IntN.{ℤ}
 use native.Mathlib.Omega.{arith}
 use lib.ListN.{length, getD, length-append}
 use lib.Seq.{sets}
@@ -14,6 +14,7 @@ use Rattle.group.specs.declared.Group.{Group}
 use Rattle.group.specs.declared.Refusal.{Refusal}
 use Rattle.group.specs.declared.Verdict.{Verdict}
 use Rattle.group.specs.declared.Verdict.the-variants as verdict
+use Rattle.group.specs.Numbers.{gridsMost}
 use Rattle.header.specs.declared.Reading.{Reading}
 use Rattle.header.specs.declared.Written.{Written}
 use Rattle.header.specs.Header.{readHeader, written, writtenRefusal, writtenCount, bytesAfter}
@@ -32,8 +33,8 @@ use Rattle.screen.specs.declared.ScreenRecord.{ScreenRecord}
 use Rattle.screen.specs.Screen.{screenRefusal, shiftsOf, answerOf, recordOf}
 use Rattle.layout.specs.Layout.{groupOf, numbersOf, countOf, countAt, numberAt, stored, joined}
 use Rattle.layout.proofs.ListLaws.{sets-append, sets-whole, length-joined}
-use Rattle.capi.specs.Answers.{Answer, left, judgeAnswer, readBy, readOf, readAnswer, storedFound, foundAnswer, pointOf, lookupAnswer, Text, lentText, writtenAnswer, writeAnswer, loadedBy, loadAnswer}
-use Rattle.capi.specs.InForce.{areaOf, storedEntry, storedList, listAnswer, inForceAnswer}
+use Rattle.capi.specs.Answers.{left, judgeAnswer, readBy, readOf, readAnswer, storedFound, foundAnswer, pointOf, lookupAnswer, lentText, writtenAnswer, writeAnswer, loadedBy, loadAnswer}
+use Rattle.capi.specs.InForce.{areaOf, entriesFrom, entryWords, listWords, storedEntry, storedList, listAnswer, inForceAnswer}
 use Rattle.capi.proofs.SmallLaws.{found-stored, in-force-stored}
 use Rattle.capi.specs.Screen.{lookupOf, shownOf, shiftsAnswer, recordFloats, recordAnswer}
 
@@ -119,12 +120,12 @@ module _ (quantum parameters : ℤ) (number place : ℕ) (fix : List ℤ) (q np 
       ∙ ap (recordAnswer lon lat) (shown-told s e)
 
 -- the list of grids in force, stored part by part
-pub list-stored : (r : InForce) (l o p cs : List ℤ) → length l ≡ 193 → cs ≡ stored (r .count) ∷ [] → o ≡ sets l 0 cs
-    → p ≡ sets o 1 (joined (λ k. storedEntry (getD (r .entries) k noGrid)) 64) → p ≡ storedList r
+pub list-stored : (r : InForce) (l o p cs : List ℤ) → length l ≡ listWords → cs ≡ stored (r .count) ∷ [] → o ≡ sets l 0 cs
+    → p ≡ sets o entriesFrom (joined (λ k. storedEntry (getD (r .entries) k noGrid)) gridsMost) → p ≡ storedList r
 unfolding storedList
 list-stored r l o p cs n a b c =
-    let es = joined (λ k. storedEntry (getD (r .entries) k noGrid)) 64 in
+    let es = joined (λ k. storedEntry (getD (r .entries) k noGrid)) gridsMost in
     let head = stored (r .count) ∷ [] in
-    let m : length es ≡ 192 = length-joined (λ k. storedEntry (getD (r .entries) k noGrid)) 3 64 (λ k d. refl) in
+    let m : length es ≡ gridsMost * entryWords = length-joined (λ k. storedEntry (getD (r .entries) k noGrid)) entryWords gridsMost (λ k d. refl) in
     c ∙ ap (λ (x : List ℤ). sets x 1 es) (b ∙ ap (sets l 0) a) ∙ sets-append l 0 head es
     ∙ sets-whole l (head ++ es) (omega (arith, length-append head es))

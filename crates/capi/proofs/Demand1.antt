@@ -1,6 +1,6 @@
 -- Demand 1 holds of every call of the C interface.
 use Prim.Native.Nat.{ℕ}
-use mathlib.Core.Path.{_≡_, refl, sym, ap, _∙_}
+use mathlib.Core.Path.{_≡_, refl, ap}
 use mathlib.Core.Bool.{Bool, true, false, cond}
 use mathlib.Core.List.{List, map}
 use native.Mathlib.Omega.{arith}
@@ -11,15 +11,12 @@ use lib.Ieee.{Float}
 use lib.ListN.{length, replicate}
 use Rattle.numbers.proofs.Bools.{true-false}
 use Rattle.text.specs.Put.{put}
-use Rattle.group.specs.declared.Group.{Group}
-use Rattle.group.specs.declared.Point.{Point}
 use Rattle.group.specs.declared.Refusal.{Refusal}
 use Rattle.group.specs.declared.Verdict.{Verdict}
 use Rattle.group.specs.declared.Verdict.the-variants.{Accepted, Refused}
 use Rattle.group.specs.Refusals.{noRefusal, inTable, verdictRefusal}
 use Rattle.judge.specs.Judge.{judged}
 use Rattle.judge.proofs.TableLaws.{judged-table}
-use Rattle.header.specs.declared.Reading.{Reading}
 use Rattle.header.specs.declared.Written.{Written}
 use Rattle.header.specs.declared.Written.the-variants as W
 use Rattle.header.specs.Whole.{headerText}
@@ -46,8 +43,8 @@ use Rattle.screen.specs.Screen.{plusZero, screenRefusal, shiftsOf, recordOf}
 use Rattle.screen.proofs.TableLaws.{screen-table}
 use Rattle.layout.specs.Layout.{countOf, groupOf, numbersOf, joined}
 use Rattle.capi.specs.Answers.{Answer, pointOf, lentText, judgeAnswer, readBy, readAnswer, writeAnswer, foundNumbers, lookupAnswer, loadAnswer}
-use Rattle.capi.specs.InForce.{listNumbers, inForceAnswer}
-use Rattle.capi.specs.Screen.{lookupOf, shownOf, recordFloats, shiftsAnswer, recordAnswer}
+use Rattle.capi.specs.InForce.{listWords, listNumbers, inForceAnswer}
+use Rattle.capi.specs.Screen.{lookupOf, shownOf, recordFloats}
 use Rattle.capi.specs.Demand1.{Told, LeftBeside, Judges, Reads, Writes, Looks, Lists, Loads, Shows}
 
 -- ---- what a call told
@@ -140,7 +137,7 @@ looks group nodes lon lat day =
     zeros (L.Fix f) n = absurd (n refl)
     zeros (L.Refused r) n = refl
 
-no-list : (r : Refusal) → listNumbers (refusedBy r) ≡ replicate 193 (pos 0)
+no-list : (r : Refusal) → listNumbers (refusedBy r) ≡ replicate listWords (pos 0)
 unfolding listNumbers joined
 no-list r = refl
 
@@ -157,7 +154,7 @@ lists group area =
 
     zeros : (v : Verdict) (t : Bool)
         → (verdictRefusal (unlessRefused v (cond t all (refusedBy (record { number = 10; place = 0 }))) .verdict) .number ≡ 0 → ⊥)
-        → listNumbers (unlessRefused v (cond t all (refusedBy (record { number = 10; place = 0 })))) ≡ replicate 193 (pos 0)
+        → listNumbers (unlessRefused v (cond t all (refusedBy (record { number = 10; place = 0 })))) ≡ replicate listWords (pos 0)
     zeros (Refused r) t n = no-list r
     zeros Accepted true n = absurd (n refl)
     zeros Accepted false n = no-list _

@@ -1,21 +1,19 @@
 -- An accepted reading fills a struct that is handed on as the group that was read, and writing it gives the text.
 use Prim.Native.Nat.{ℕ}
-use mathlib.Core.Path.{_≡_, refl, sym, ap, _∙_, subst}
+use mathlib.Core.Path.{_≡_, sym, ap, _∙_, subst}
 use mathlib.Core.List.{List}
 use lib.IntN.{ℤ}
 use lib.ListN.{length}
 use Rattle.group.specs.declared.Group.{Group}
 use Rattle.group.specs.declared.Verdict.{Verdict}
 use Rattle.group.specs.declared.Verdict.the-variants.{Accepted}
-use Rattle.header.specs.declared.Written.{Written}
 use Rattle.header.specs.Header.{readHeader, written, writtenRefusal, writtenCount, bytesAfter}
-use Rattle.header.specs.Demand2.{InFront}
 use Rattle.header.proofs.Demand2.{text-read}
 use Rattle.header.proofs.ShapeLaws.{read-shaped}
 use Rattle.layout.specs.Layout.{groupOf, numbersOf}
 use Rattle.layout.proofs.BackLaws.{group-back}
 use Rattle.layout.proofs.KeptLaws.{accepted-kept}
-use Rattle.capi.specs.Answers.{Answer, Text, readBy, readAnswer, writtenAnswer, writeAnswer}
+use Rattle.capi.specs.Answers.{readBy, readAnswer, writtenAnswer, writeAnswer}
 use Rattle.capi.specs.Demand2.{WrittenBack, ReadBack}
 use Rattle.capi.proofs.Demand1.{reads}
 

@@ -1,10 +1,14 @@
 -- Every result of an accepted lookup is shown exactly, by the library's calls and by the C functions.
-use Prim.Native.Nat.{ℕ, zero, suc, _^_, _≤_, _<_}
+use Prim.Native.Nat.{ℕ, zero, suc, _^_, _≤_}
 use mathlib.Core.Path.{_≡_, refl, sym, ap, subst}
+use mathlib.Core.Bool.{true}
 use mathlib.Core.List.{List}
 use native.Mathlib.Nat.{le-trans}
 use lib.Dec.{lit≤}
 use lib.IntN.{ℤ, natAbs}
+use Rattle.numbers.specs.Order.{within}
+use Rattle.numbers.proofs.Bools.{and-left, and-right}
+use Rattle.numbers.proofs.OrderLaws.{within-size}
 use Rattle.group.specs.declared.Group.{Group}
 use Rattle.group.specs.declared.Point.{Point}
 use Rattle.group.specs.declared.Refusal.{Refusal}
@@ -14,7 +18,7 @@ use Rattle.fix.specs.declared.Fix.{Fix}
 use Rattle.fix.specs.declared.Lookup.{Lookup}
 use Rattle.fix.specs.declared.Lookup.the-variants as L
 use Rattle.fix.specs.Answers.{lookupRefusal, resultIn, resultsOf}
-use Rattle.lookup.specs.Lookup.{looked}
+use Rattle.lookup.specs.Lookup.{pointFits, looked}
 use Rattle.lookup.proofs.FoundLaws.{found}
 use Rattle.lookup.proofs.ResultLaws.{answered}
 use Rattle.lookup.proofs.TableLaws.{zero-fix}
@@ -27,6 +31,12 @@ use Rattle.capi.specs.Screen.{lookupOf, shownOf}
 use Rattle.capi.specs.Shown.{LookupShown, LeftShown}
 
 -- ---- the library's calls
+
+-- every admitted longitude and latitude is at most 2^53 in size
+point-sizes : (p : Point) → pointFits p ≡ true → (natAbs (p .lon .0) ≤ 2 ^ 53) × (natAbs (p .lat .0) ≤ 2 ^ 53)
+point-sizes p e =
+    let x = within 1296000000 (p .lon .0) in let y = within 324000000 (p .lat .0) in
+    (le-trans (within-size 1296000000 (p .lon .0) (and-left x y e)) (lit≤ tt), le-trans (within-size 324000000 (p .lat .0) (and-right x y e)) (lit≤ tt))
 
 module _ (g : Group) (nodes : List ℤ) (p : Point) (t : ℤ) (q : ℕ) where
   fix-shown : (f : Fix) → looked g nodes p t ≡ L.Fix f → q ≤ 20 → ShowsResults (resultIn f) q (g .parameters) (answerOf (L.Fix f) q (g .parameters))
@@ -41,6 +51,7 @@ module _ (g : Group) (nodes : List ℤ) (p : Point) (t : ℤ) (q : ℕ) where
       record {
         results = r;
         point = record-shown p (looked g nodes p t) q (g .parameters) (ap (λ (s : Refusal). s .number) (r .accepted));
+        sizes = point-sizes p (found g nodes p t (u .0) (u .1) .ready .point);
       }
 
 -- ---- the C functions

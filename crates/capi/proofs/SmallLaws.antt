@@ -1,5 +1,5 @@
--- Every number of a grid and every count that is handed back is at most 64, so that it is stored as it is.
-use Prim.Native.Nat.{ℕ, zero, suc, _≤_, _<_}
+-- Every number of a grid and every count that is handed back is at most that of the grids, so that it is stored as it is.
+use Prim.Native.Nat.{ℕ, zero, suc, _≤_}
 use mathlib.Core.Path.{_≡_, refl, sym, ap, _∙_, subst}
 use mathlib.Core.Bool.{Bool, true, false}
 use mathlib.Core.List.{List, [], _∷_, _++_}
@@ -14,12 +14,10 @@ use Rattle.group.specs.declared.Point.{Point}
 use Rattle.group.specs.declared.Refusal.{Refusal}
 use Rattle.group.specs.declared.Verdict.{Verdict}
 use Rattle.group.specs.declared.Verdict.the-variants as verdict
-use Rattle.group.specs.Record.{gridAt}
-use Rattle.extent.specs.Extent.{holds}
+use Rattle.group.specs.Numbers.{gridsMost}
 use Rattle.judge.specs.Judge.{judged}
 use Rattle.judge.proofs.Accepted.{accepted-head}
-use Rattle.choice.specs.InGroup.{chosenIn}
-use Rattle.choice.proofs.ChoiceLaws.{chosen≤}
+use Rattle.ingroup.proofs.InGroupLaws.{chosen-most}
 use Rattle.fix.specs.declared.Fix.{Fix}
 use Rattle.fix.specs.declared.Lookup.{Lookup}
 use Rattle.fix.specs.declared.Lookup.the-variants as L
@@ -31,22 +29,21 @@ use Rattle.inforce.specs.declared.InForce.{InForce}
 use Rattle.inforce.specs.Area.{areaFits}
 use Rattle.inforce.specs.InForce.{noGrid, inForceOf, refusedBy}
 use Rattle.inforce.specs.Demand3.{GridsInForce}
-use Rattle.inforce.proofs.Demand3.{demand-3}
-use Rattle.layout.specs.Layout.{stored, joined}
+use Rattle.inforce.proofs.Demand3.{none-at, demand-3}
+use Rattle.layout.specs.Layout.{most, stored, joined}
 use Rattle.capi.specs.Answers.{foundNumbers, storedFound}
 use Rattle.capi.specs.InForce.{entryNumbers, storedEntry, listNumbers, storedList}
 
-as-it-is : (n : ℕ) → n ≤ 64 → stored n ≡ pos n
-as-it-is n h = ap pos (min-eq-left {m = 9223372036854775807} (omega arith))
+as-it-is : (n : ℕ) → n ≤ gridsMost → stored n ≡ pos n
+as-it-is n h = ap pos (min-eq-left {m = most} (omega arith))
 
-fix-small : (g : Group) (nodes : List ℤ) (p : Point) (t : ℤ) (f : Fix) → looked g nodes p t ≡ L.Fix f → f .grid ≤ 64
-unfolding chosenIn
+fix-small : (g : Group) (nodes : List ℤ) (p : Point) (t : ℤ) (f : Fix) → looked g nodes p t ≡ L.Fix f → f .grid ≤ gridsMost
 fix-small g nodes p t f e =
     let w = found g nodes p t f e in
     let n = w .number in
     let c = w .chosen in
     let s = accepted-head g (w .ready .accepted) .grids in
-    omega (arith, chosen≤ (λ i. holds (gridAt g i) (p .lon .0) (p .lat .0)) (λ i. gridAt g i .rank) (g .grids))
+    omega (arith, chosen-most g (p .lon .0) (p .lat .0))
 
 pub found-stored : (g : Group) (nodes : List ℤ) (p : Point) (t : ℤ) (f : Lookup) → f ≡ looked g nodes p t → storedFound f ≡ foundNumbers f
 found-stored g nodes p t (L.Fix f) e = ap (λ (z : ℤ). z ∷ f .first ∷ f .second ∷ f .third ∷ []) (as-it-is (f .grid) (fix-small g nodes p t f (sym e)))
@@ -55,25 +52,20 @@ found-stored g nodes p t (L.Refused r) e = refl
 -- ---- the list of grids in force
 
 record Small (r : InForce) : Type 0 where
-  few : r .count ≤ 64
-  each : (k : ℕ) → getD (r .entries) k noGrid .grid ≤ 64
+  few : r .count ≤ gridsMost
+  each : (k : ℕ) → getD (r .entries) k noGrid .grid ≤ gridsMost
 
-none : (n k : ℕ) → getD (replicate n noGrid) k noGrid ≡ noGrid
-none zero k = refl
-none (suc n) zero = refl
-none (suc n) (suc k) = none n k
-
-refused-small : (r : InForce) → r .count ≡ 0 → r .entries ≡ replicate 64 noGrid → Small r
+refused-small : (r : InForce) → r .count ≡ 0 → r .entries ≡ replicate gridsMost noGrid → Small r
 refused-small r c e =
     record {
       few = omega arith;
-      each = λ k. (let q = ap (λ (x : GridInForce). x .grid) (ap (λ (x : List GridInForce). getD x k noGrid) e ∙ none 64 k) in omega arith);
+      each = λ k. (let q = ap (λ (x : GridInForce). x .grid) (ap (λ (x : List GridInForce). getD x k noGrid) e ∙ none-at gridsMost k) in omega arith);
     }
 
-listed-small : (g : Group) (a : Area) (r : InForce) → g .grids ≤ 64 → GridsInForce g a r → Small r
+listed-small : (g : Group) (a : Area) (r : InForce) → g .grids ≤ gridsMost → GridsInForce g a r → Small r
 listed-small g a r s h = record { few = omega (arith, h .most); each = λ k. go k (leb (r .count) k) refl }
   where
-    go : (k : ℕ) (t : Bool) → leb (r .count) k ≡ t → getD (r .entries) k noGrid .grid ≤ 64
+    go : (k : ℕ) (t : Bool) → leb (r .count) k ≡ t → getD (r .entries) k noGrid .grid ≤ gridsMost
     go k true e = let q = ap (λ (x : GridInForce). x .grid) (h .unused k (leb-true (r .count) k e)) in omega arith
     go k false e = let q = h .placed k (leb-false (r .count) k e) .number in omega arith
 
@@ -102,7 +94,7 @@ whole : (r : InForce) → Small r → storedList r ≡ listNumbers r
 unfolding storedList listNumbers
 whole r h =
     let c = as-it-is (r .count) (h .few) in
-    let es = joined-same (λ k. storedEntry (getD (r .entries) k noGrid)) (λ k. entryNumbers (getD (r .entries) k noGrid)) 64
+    let es = joined-same (λ k. storedEntry (getD (r .entries) k noGrid)) (λ k. entryNumbers (getD (r .entries) k noGrid)) gridsMost
     (λ k. let e = getD (r .entries) k noGrid in ap (λ (z : ℤ). z ∷ e .lon .0 ∷ e .lat .0 ∷ []) (as-it-is (e .grid) (h .each k))) in
     λ i. (c i ∷ []) ++ es i
 

@@ -22,6 +22,10 @@ use Rattle.judge.specs.Judge.{judged}
 use Rattle.lookup.specs.Lookup.{looked}
 use Rattle.layout.specs.Layout.{countOf, groupOf, numbersOf, stored}
 
+-- the version of the interface: major · 1,000,000 + minor · 1,000 + patch
+abbrev pub version : ℕ
+version = 1000000
+
 -- the refusal and what stands in lent memory afterwards
 pub record Answer (A : Type 0) : Type 0 where
   pub refusal : Refusal

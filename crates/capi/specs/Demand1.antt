@@ -24,7 +24,7 @@ use Rattle.screen.specs.declared.ScreenAnswer.the-variants as S
 use Rattle.screen.specs.Screen.{plusZero}
 use Rattle.layout.specs.Layout.{countOf, groupOf}
 use Rattle.capi.specs.Answers.{Answer, pointOf, lentText, judgeAnswer, readAnswer, writeAnswer, lookupAnswer, loadAnswer}
-use Rattle.capi.specs.InForce.{inForceAnswer}
+use Rattle.capi.specs.InForce.{listWords, inForceAnswer}
 use Rattle.capi.specs.Screen.{shownOf, shiftsAnswer, recordAnswer}
 
 -- r is what a call told that is accepted exactly where A holds
@@ -56,7 +56,7 @@ pub record Looks (group nodes : List ℤ) (lon lat day : ℤ) : Type 0 where
 
 pub record Lists (group : List ℤ) (area : Area) : Type 0 where
   pub told : Told (inForceOf (groupOf group) area .verdict ≡ Accepted) (inForceAnswer group area .refusal)
-  pub zeros : LeftBeside (replicate 193 (pos 0)) (inForceAnswer group area)
+  pub zeros : LeftBeside (replicate listWords (pos 0)) (inForceAnswer group area)
 
 pub record Loads (quantum : ℤ) (flag : Float) (floats : List Float) (nodes : List ℤ) : Type 0 where
   pub told : Told (loaded (countOf quantum) flag floats (length nodes) ≡ Done) (loadAnswer quantum flag floats nodes .refusal)

@@ -1,9 +1,9 @@
 // The C interface: every public call over numbers, slices and references to arrays, as include/bulhyemik.h documents it.
 ghost use mathlib.Core.Path.{_≡_};
-ghost use mathlib.Core.List.{_∷_, []};
 ghost use Prim.Native.Nat.{_≤_};
 ghost use lib.ListN.{length, getD};
 ghost use lib.Seq.{sets};
+ghost use Rattle.group.specs.Numbers.{gridsMost};
 ghost use Rattle.group.specs.Refusals.{refusal, noRefusal, verdictRefusal};
 ghost use Rattle.header.specs.Header.{writtenRefusal, writtenCount};
 ghost use Rattle.nodes.specs.Load.{loadedRefusal};
@@ -11,13 +11,14 @@ ghost use Rattle.fix.specs.Answers.{lookupRefusal};
 ghost use Rattle.inforce.specs.InForce.{noGrid};
 ghost use Rattle.screen.specs.Screen.{screenRefusal, shiftsOf};
 ghost use Rattle.layout.specs.Layout.{joined};
-ghost use Rattle.capi.specs.Answers.{left, judgeAnswer, readAnswer, storedFound, lookupAnswer, lentText, writeAnswer, fieldPart, loadAnswer};
-ghost use Rattle.capi.specs.InForce.{areaOf, storedEntry, storedList, inForceAnswer};
+ghost use Rattle.capi.specs.Answers.{version, left, judgeAnswer, readAnswer, storedFound, lookupAnswer, lentText, writeAnswer, fieldPart, loadAnswer};
+ghost use Rattle.capi.specs.InForce.{areaOf, entriesFrom, listWords, storedEntry, storedList, inForceAnswer};
 ghost use Rattle.capi.specs.Screen.{lookupOf, shownOf, shiftsAnswer, recordAnswer};
 use extent::LatSpan;
 use extent::LonSpan;
 use fix::Fix;
 use fix::Lookup;
+use group::GRIDS_MOST;
 use group::Latitude;
 use group::Longitude;
 use group::Point;
@@ -27,15 +28,26 @@ use header::Written;
 use inforce::Area;
 use inforce::GridInForce;
 use inforce::InForce;
+use layout::GROUP_WORDS;
 use nodes::Loaded;
 use screen::ScreenAnswer;
 
 // The version of the interface: major * 1,000,000 + minor * 1,000 + patch.
+const VERSION: u64 = 1000000;
+
+// The numbers of an entry of a list of grids in force, where the entries begin, and the numbers of the list.
+const ENTRY_WORDS: usize = 3;
+
+const ENTRIES_FROM: usize = 1;
+
+const LIST_WORDS: usize = ENTRIES_FROM + GRIDS_MOST * ENTRY_WORDS;
+
+// The version of the interface.
 #[no_mangle]
 pub extern "C" fn bulhyemik_version() -> u64
-    ensures { λ r. ⌜ r ≡ 1000000 ⌝ }
+    ensures { λ r. ⌜ r ≡ version ⌝ }
 {
-    1000000
+    VERSION
 }
 
 // A call that was accepted.
@@ -60,7 +72,7 @@ fn verdict_refusal(v: Verdict) -> Refusal
 
 // Judges a group: refusals 2 to 5.
 #[no_mangle]
-pub extern "C" fn bulhyemik_judge(group: &[i64; 809], place: &mut u64) -> u64
+pub extern "C" fn bulhyemik_judge(group: &[i64; GROUP_WORDS], place: &mut u64) -> u64
     ensures { λ r. ⌜ refusal r (now (place .exit)) ≡ judgeAnswer (now (group .entry)) ⌝ }
 {
     let refusal = verdict_refusal(judge::judge(layout::group_of(group)));
@@ -70,7 +82,11 @@ pub extern "C" fn bulhyemik_judge(group: &[i64; 809], place: &mut u64) -> u64
 
 // Reads a header text into a group, which stays as it was after a refusal: 1 or 2 at the first faulty line, then 3, 4, 5.
 #[no_mangle]
-pub extern "C" fn bulhyemik_read_header(text: &[u8], group: &mut [i64; 809], place: &mut u64) -> u64
+pub extern "C" fn bulhyemik_read_header(
+    text: &[u8],
+    group: &mut [i64; GROUP_WORDS],
+    place: &mut u64,
+) -> u64
     ensures { λ r. ⌜ left r (now (place .exit)) (now (group .exit)) ≡ readAnswer (now (text .entry)) (now (group .entry)) ⌝ }
 {
     let reading = header::read_header(text);
@@ -112,7 +128,7 @@ fn written_count(w: Written) -> u64
 // Writes the header text of a group: refusals 2 to 5, then 12 if `out` is too short. What stands behind the text stays.
 #[no_mangle]
 pub extern "C" fn bulhyemik_write_header(
-    group: &[i64; 809],
+    group: &[i64; GROUP_WORDS],
     out: &mut [u8],
     count: &mut u64,
     place: &mut u64,
@@ -159,7 +175,7 @@ fn found_numbers(found: Lookup) -> [i64; 4]
 // Looks a point in mas up on a day: refusals 2 to 5, then 6, 9, 13, 7, 8, 11.
 #[no_mangle]
 pub extern "C" fn bulhyemik_lookup(
-    group: &[i64; 809],
+    group: &[i64; GROUP_WORDS],
     nodes: &[i32],
     lon: i64,
     lat: i64,
@@ -182,27 +198,27 @@ pub extern "C" fn bulhyemik_lookup(
 }
 
 // The numbers of a list of grids in force: the count, and three of each entry.
-fn list_numbers(list: InForce) -> [i64; 193]
+fn list_numbers(list: InForce) -> [i64; LIST_WORDS]
     ensures { λ r. ⌜ r ≡ storedList list ⌝ }
 {
     let entries = list.entries;
-    let mut out = [0i64; 193];
+    let mut out = [0i64; LIST_WORDS];
     let count = [layout::as_stored(list.count)];
     layout::put_numbers(&mut out, 0, &count);
     put_entries(&mut out, entries);
     out
 }
 
-// Stores the numbers of 64 entries from place 1 on.
-fn put_entries(out: &mut [i64], entries: [GridInForce; 64])
-    requires { ⌜ 193 ≤ length (now out) ⌝ }
-    ensures { λ _. ⌜ now (out .exit) ≡ sets (now (out .entry)) 1 (joined (λ k. storedEntry (getD entries k noGrid)) 64) ⌝ }
+// Stores the numbers of all entries, behind the count.
+fn put_entries(out: &mut [i64], entries: [GridInForce; GRIDS_MOST])
+    requires { ⌜ listWords ≤ length (now out) ⌝ }
+    ensures { λ _. ⌜ now (out .exit) ≡ sets (now (out .entry)) entriesFrom (joined (λ k. storedEntry (getD entries k noGrid)) gridsMost) ⌝ }
 {
     let mut i = 0;
-    while i < 64 {
+    while i < GRIDS_MOST {
         let e = entries[i];
         let numbers = [layout::as_stored(e.grid), e.lon.0, e.lat.0];
-        layout::put_numbers(out, i * 3 + 1, &numbers);
+        layout::put_numbers(out, i * ENTRY_WORDS + ENTRIES_FROM, &numbers);
         i += 1;
     }
 }
@@ -210,12 +226,12 @@ fn put_entries(out: &mut [i64], entries: [GridInForce; 64])
 // Lists the grids in force in an area, its sides in mas: refusals 2 to 5, then 10.
 #[no_mangle]
 pub extern "C" fn bulhyemik_grids_in_force(
-    group: &[i64; 809],
+    group: &[i64; GROUP_WORDS],
     west: i64,
     east: i64,
     south: i64,
     north: i64,
-    list: &mut [i64; 193],
+    list: &mut [i64; LIST_WORDS],
     place: &mut u64,
 ) -> u64
     ensures { λ r. ⌜ left r (now (place .exit)) (now (list .exit)) ≡ inForceAnswer (now (group .entry)) (areaOf west east south north) ⌝ }

@@ -2,7 +2,7 @@
 use Prim.Native.Nat.{ℕ, _+_, _-_, _*_, _%_, _≤_, _<_}
 use mathlib.Core.Path.{_≡_, refl, sym, ap, _∙_, subst}
 use mathlib.Core.Bool.{Bool, true, false, _&&_, _||_}
-use mathlib.Core.Logic.{_⊎_, inl, inr, ⊎-elim, _↔_}
+use mathlib.Core.Logic.{inl, inr, ⊎-elim, _↔_}
 use native.Mathlib.Nat.{mul-le-mul-left, mul-comm, mul-add, add-mul, mul-zero, zero-mul}
 use native.Mathlib.Omega.{arith}
 use borrow.Author.Tests.{ltb-true, ltb-false, lt-ltb, leb-false, lt-leb, not-true, not-false}
@@ -10,17 +10,17 @@ use lib.Dec.{T, ltb}
 use lib.IntN.{ℤ, pos, negℤ, _+ℤ_, _-ℤ_, _*ℤ_, natAbs, zero-*ℤ}
 use lib.Signed.{leZ, _≤ℤ_, ≤ℤ-refl}
 use Rattle.numbers.specs.Round.{roundZ}
-use Rattle.numbers.specs.Order.{within}
 use Rattle.numbers.proofs.Bools.{and-left, and-right, both, or-cases, or-left, or-right}
 use Rattle.numbers.proofs.Nearest.{nearest-le}
 use Rattle.numbers.proofs.Diff.{up, dn, Diff, diff-self, diff-pos, diff-+, diff--, diff-scale, diff-as, diff-of, diff-one, diff-≡, diff-≤, ≤-diff, natAbs-diff, up-or-dn, up-neg, dn-neg, up-pos, dn-pos}
 use Rattle.numbers.proofs.RoundZ.{round-biased, round-≥, round-≤, round-half-step}
 use Rattle.numbers.proofs.OrderLaws.{within-size, within-test, leZ-refl}
+use Rattle.group.specs.Numbers.{valueMost, mark, valueFits, isMark}
 use Rattle.cell.specs.declared.Weights.{Weights}
 use Rattle.cell.specs.declared.Corners.{Corners}
-use Rattle.cell.specs.Cell.{used, usedSome, mark, isMark, isBeyond, weightedSum, valueOf, weightsOf, Distances, Weighed}
+use Rattle.cell.specs.Cell.{used, usedSome, isBeyond, weightedSum, valueOf, weightsOf, Distances, Weighed}
 use Rattle.cell.specs.Used.{Unless, EachUsed, SomeUsed, SameUsed}
-use Rattle.cell.specs.Unsigned.{blended, Shifted}
+use Rattle.cell.specs.Unsigned.{blended, valueShift, shiftedMost, Shifted}
 use Rattle.cell.proofs.WeightLaws.{weighed}
 
 unless-map : {w : ℕ} {P Q : Type 0} → (P → Q) → Unless w P → Unless w Q
@@ -70,8 +70,8 @@ none-used test w v e =
     }
 
 -- used corners that are not beyond the limits
-pub none-beyond : (w : Weights) (v : Corners) → usedSome isBeyond w v ≡ false → EachUsed (λ z. natAbs z ≤ 4000000) w v
-none-beyond w v e = each-map (λ z h. within-size 4000000 z (not-false (within 4000000 z) h)) (none-used isBeyond w v e)
+pub none-beyond : (w : Weights) (v : Corners) → usedSome isBeyond w v ≡ false → EachUsed (λ z. natAbs z ≤ valueMost) w v
+none-beyond w v e = each-map (λ z h. within-size valueMost z (not-false (valueFits z) h)) (none-used isBeyond w v e)
 
 -- ---- a test that some used corner passes
 
@@ -122,10 +122,10 @@ is-mark z = (one, λ e. subst (λ (y : ℤ). isMark y ≡ true) (sym e) (both (l
         let y = ≤-diff {x = z} {y = mark} (record { le = subst T (sym (and-right (leZ mark z) (leZ z mark) e)) tt }) in
         diff-≡ (omega arith)
 
-pub is-beyond : (z : ℤ) → (isBeyond z ≡ true) ↔ (4000000 < natAbs z)
+pub is-beyond : (z : ℤ) → (isBeyond z ≡ true) ↔ (valueMost < natAbs z)
 is-beyond z = (
-  λ e. leb-false (natAbs z) 4000000 (sym (within-test 4000000 z) ∙ not-true (within 4000000 z) e),
-  λ h. rw (within-test 4000000 z ∙ lt-leb (natAbs z) 4000000 h) refl,
+  λ e. leb-false (natAbs z) valueMost (sym (within-test valueMost z) ∙ not-true (valueFits z) e),
+  λ h. rw (within-test valueMost z ∙ lt-leb (natAbs z) valueMost h) refl,
 )
 
 -- ---- a corner of weight 0 changes nothing
@@ -286,27 +286,27 @@ module _ {w : Weights} (p : Weighed w) where
       round-biased {a = parts w a b c d} (w .area) k (p .positive) ev
       (diff-as (sum-parts w {v = v} ha hb hc hd) (omega (arith, parts-one w p k)))
 
-  stood : (r : ℕ) → Diff (pos r -ℤ pos 4000000) r 4000000
-  stood r = diff-as (diff-- (diff-pos r) (diff-pos 4000000)) (omega arith)
+  stood : (r : ℕ) → Diff (pos r -ℤ pos valueShift) r valueShift
+  stood r = diff-as (diff-- (diff-pos r) (diff-pos valueShift)) (omega arith)
 
   -- a corner and what stands for it
-  stand-in : (n : ℕ) (z : ℤ) (r : ℕ) → Unless n (natAbs z ≤ 4000000) → Shifted z r → Unless n (z ≡ pos r -ℤ pos 4000000)
+  stand-in : (n : ℕ) (z : ℤ) (r : ℕ) → Unless n (natAbs z ≤ valueMost) → Shifted z r → Unless n (z ≡ pos r -ℤ pos valueShift)
   stand-in n z r (inl e) s = inl e
-  stand-in n z r (inr h) s = inr (diff-one (diff-of z r 4000000 (s .inside h)) (stood r))
+  stand-in n z r (inr h) s = inr (diff-one (diff-of z r valueShift (s .inside h)) (stood r))
 
   -- from the shifted corners, used or not
-  pub value-from : (v : Corners) (a b c d : ℕ) → EachUsed (λ z. natAbs z ≤ 4000000) w v
+  pub value-from : (v : Corners) (a b c d : ℕ) → EachUsed (λ z. natAbs z ≤ valueMost) w v
       → Shifted (v .v00) a → Shifted (v .v10) b → Shifted (v .v01) c → Shifted (v .v11) d
-      → Diff (valueOf w v) (blended w a b c d) 4000000
+      → Diff (valueOf w v) (blended w a b c d) valueShift
   value-from v a b c d h sa sb sc sd =
       let u : Corners =
       record {
-        v00 = pos a -ℤ pos 4000000;
-        v10 = pos b -ℤ pos 4000000;
-        v01 = pos c -ℤ pos 4000000;
-        v11 = pos d -ℤ pos 4000000;
+        v00 = pos a -ℤ pos valueShift;
+        v10 = pos b -ℤ pos valueShift;
+        v01 = pos c -ℤ pos valueShift;
+        v11 = pos d -ℤ pos valueShift;
       } in
-      subst (λ (z : ℤ). Diff z (blended w a b c d) 4000000)
+      subst (λ (z : ℤ). Diff z (blended w a b c d) valueShift)
       (sym (value-same w v u
       (record {
         at00 = stand-in (w .w00) (v .v00) a (h .at00) sa;
@@ -314,15 +314,15 @@ module _ {w : Weights} (p : Weighed w) where
         at01 = stand-in (w .w01) (v .v01) c (h .at01) sc;
         at11 = stand-in (w .w11) (v .v11) d (h .at11) sd;
       })))
-      (value-shifted {v = u} 4000000 refl (stood a) (stood b) (stood c) (stood d))
+      (value-shifted {v = u} valueShift refl (stood a) (stood b) (stood c) (stood d))
 
 -- ---- what the code's sums need
 
 pub record Sums (w : Weights) (a b c d : ℕ) : Type 0 where
   pub total : w .w00 + w .w10 + w .w01 + w .w11 ≡ w .area
-  pub most : w .w00 * a + w .w10 * b + w .w01 * c + w .w11 * d ≤ 8000000 * w .area
+  pub most : w .w00 * a + w .w10 * b + w .w01 * c + w .w11 * d ≤ shiftedMost * w .area
 
-module _ {w : Weights} (p : Weighed w) {a b c d : ℕ} (ha : a ≤ 8000000) (hb : b ≤ 8000000) (hc : c ≤ 8000000) (hd : d ≤ 8000000) where
+module _ {w : Weights} (p : Weighed w) {a b c d : ℕ} (ha : a ≤ shiftedMost) (hb : b ≤ shiftedMost) (hc : c ≤ shiftedMost) (hd : d ≤ shiftedMost) where
   pub sums : Sums w a b c d
   sums =
       let t = p .sum in
@@ -330,6 +330,6 @@ module _ {w : Weights} (p : Weighed w) {a b c d : ℕ} (ha : a ≤ 8000000) (hb 
       let m2 = mul-le-mul-left (w .w01) hc in let m3 = mul-le-mul-left (w .w11) hd in
       record { total = t; most = omega arith }
 
-  pub blend-most : blended w a b c d ≤ 8000000
+  pub blend-most : blended w a b c d ≤ shiftedMost
   unfolding blended
-  blend-most = nearest-le 8000000 _ (w .area) (p .positive) (sums .most)
+  blend-most = nearest-le shiftedMost _ (w .area) (p .positive) (sums .most)

@@ -3,9 +3,9 @@ use Prim.Native.Nat.{ℕ, _+_, _-_, _*_, _/_, _≤_, _<_, min}
 use mathlib.Core.Path.{_≡_}
 use mathlib.Core.Bool.{Bool, not, _&&_, _||_}
 use lib.Dec.{ltb}
-use lib.IntN.{ℤ, pos, negsuc, _+ℤ_, _*ℤ_}
-use Rattle.numbers.specs.Order.{between, within}
+use lib.IntN.{ℤ, pos, _+ℤ_, _*ℤ_}
 use Rattle.numbers.specs.Round.{roundZ}
+use Rattle.group.specs.Numbers.{spacingMost, valueFits}
 use Rattle.cell.specs.declared.Along.{Along}
 use Rattle.cell.specs.declared.Weights.{Weights}
 use Rattle.cell.specs.declared.Corners.{Corners}
@@ -26,8 +26,8 @@ cellAlong distance spacing count =
 pub record Distances (sx sy fx fy : ℕ) : Type 0 where
   pub sx-pos : 0 < sx
   pub sy-pos : 0 < sy
-  pub sx-most : sx ≤ 1000000
-  pub sy-most : sy ≤ 1000000
+  pub sx-most : sx ≤ spacingMost
+  pub sy-most : sy ≤ spacingMost
   pub fx-most : fx ≤ sx
   pub fy-most : fy ≤ sy
 
@@ -45,18 +45,11 @@ weightsOf sx sy fx fy =
 pub record Weighed (w : Weights) : Type 0 where
   pub sum : w .w00 + w .w10 + w .w01 + w .w11 ≡ w .area
   pub positive : 0 < w .area
-  pub most : w .area ≤ 1000000000000
+  pub most : w .area ≤ spacingMost * spacingMost
 
--- the no-data mark
-abbrev pub mark : ℤ
-mark = negsuc 2147483647
-
-abbrev pub isMark : ℤ → Bool
-isMark v = between mark mark v
-
--- beyond ±4,000,000
+-- beyond the limit of node values
 abbrev pub isBeyond : ℤ → Bool
-isBeyond v = not (within 4000000 v)
+isBeyond v = not (valueFits v)
 
 -- a corner of weight 0 isn't used
 abbrev pub used : ℕ → Bool

@@ -2,9 +2,22 @@
 ghost use mathlib.Core.Path.{_≡_};
 ghost use mathlib.Core.Bool.{false};
 ghost use Prim.Native.Nat.{_≤_, _<_};
-ghost use lib.IntN.{natAbs};
-ghost use Rattle.cell.specs.Cell.{cellAlong, Distances, weightsOf, Weighed, isMark, isBeyond, usedSome, valueOf};
-ghost use Rattle.cell.specs.Unsigned.{blended, Shifted};
+ghost use Rattle.group.specs.Numbers.{nodesLeast, isMark};
+ghost use Rattle.cell.specs.Cell.{cellAlong, Distances, weightsOf, Weighed, isBeyond, usedSome, valueOf};
+ghost use Rattle.cell.specs.Unsigned.{blended, shiftedMost, Shifted};
+use group::MARK;
+use group::VALUE_LEAST;
+use group::VALUE_MOST;
+
+// What is added to a node value, so that none is below 0: even, so that ties stay.
+const SHIFT: u64 = VALUE_MOST as u64 + VALUE_MOST as u64 % 2;
+
+// The same for every 32-bit number, and the least and the greatest node value then.
+const HALF: u64 = 2147483648;
+
+const LEAST: u64 = HALF - SHIFT;
+
+const MOST: u64 = HALF + SHIFT;
 
 // The cell of a point along one axis: its index, from 0, and the distance from its node of lower index.
 pub struct Along {
@@ -31,7 +44,7 @@ pub struct Corners {
 
 // The cell of a point that lies a distance from node 0, on an axis with this spacing size and count of nodes.
 pub fn cell_along(distance: u64, spacing: u64, count: u64) -> Along
-    requires { ⌜ (0 < spacing) × (2 ≤ count) ⌝ }
+    requires { ⌜ (0 < spacing) × (nodesLeast ≤ count) ⌝ }
     ensures { λ r. ⌜ r ≡ cellAlong distance spacing count ⌝ }
 {
     let last = count - 2;
@@ -68,37 +81,37 @@ pub fn weights_at(sx: u64, sy: u64, fx: u64, fy: u64) -> Weights
 pub fn used_marked(w: Weights, v: Corners) -> bool
     ensures { λ r. ⌜ r ≡ usedSome isMark w v ⌝ }
 {
-    ((0 < w.w00) & ((-2147483648 <= v.v00) & (v.v00 <= -2147483648)))
-        | ((0 < w.w10) & ((-2147483648 <= v.v10) & (v.v10 <= -2147483648)))
-        | ((0 < w.w01) & ((-2147483648 <= v.v01) & (v.v01 <= -2147483648)))
-        | ((0 < w.w11) & ((-2147483648 <= v.v11) & (v.v11 <= -2147483648)))
+    ((0 < w.w00) & ((MARK <= v.v00) & (v.v00 <= MARK)))
+        | ((0 < w.w10) & ((MARK <= v.v10) & (v.v10 <= MARK)))
+        | ((0 < w.w01) & ((MARK <= v.v01) & (v.v01 <= MARK)))
+        | ((0 < w.w11) & ((MARK <= v.v11) & (v.v11 <= MARK)))
 }
 
-// Whether a used corner holds a number beyond ±4,000,000.
+// Whether a used corner holds a number beyond the limit of node values.
 pub fn used_beyond(w: Weights, v: Corners) -> bool
     ensures { λ r. ⌜ r ≡ usedSome isBeyond w v ⌝ }
 {
-    ((0 < w.w00) & !((-4000000 <= v.v00) & (v.v00 <= 4000000)))
-        | ((0 < w.w10) & !((-4000000 <= v.v10) & (v.v10 <= 4000000)))
-        | ((0 < w.w01) & !((-4000000 <= v.v01) & (v.v01 <= 4000000)))
-        | ((0 < w.w11) & !((-4000000 <= v.v11) & (v.v11 <= 4000000)))
+    ((0 < w.w00) & !((VALUE_LEAST <= v.v00) & (v.v00 <= VALUE_MOST)))
+        | ((0 < w.w10) & !((VALUE_LEAST <= v.v10) & (v.v10 <= VALUE_MOST)))
+        | ((0 < w.w01) & !((VALUE_LEAST <= v.v01) & (v.v01 <= VALUE_MOST)))
+        | ((0 < w.w11) & !((VALUE_LEAST <= v.v11) & (v.v11 <= VALUE_MOST)))
 }
 
-// A node value, 4,000,000 above; for a number beyond ±4,000,000 any number as small.
+// A node value, shifted; for a number beyond their limit any number as small.
 fn shifted(v: i32) -> u64
     ensures { λ r. ⌜ Shifted v r ⌝ }
 {
-    let r = numbers::lifted(v as i64, 2147483648);
-    if (r < 2143483648) | (2151483648 < r) {
-        return 4000000;
+    let r = numbers::lifted(v as i64, HALF);
+    if (r < LEAST) | (MOST < r) {
+        return SHIFT;
     }
-    r - 2143483648
+    r - LEAST
 }
 
-// The weighted sum of four numbers up to 8,000,000 over the area, rounded.
+// The weighted sum of four shifted numbers over the area, rounded.
 fn blend(w: Weights, a: u64, b: u64, c: u64, d: u64) -> u64
     requires { ⌜ Weighed w ⌝ }
-    requires { ⌜ (a ≤ 8000000) × (b ≤ 8000000) × (c ≤ 8000000) × (d ≤ 8000000) ⌝ }
+    requires { ⌜ (a ≤ shiftedMost) × (b ≤ shiftedMost) × (c ≤ shiftedMost) × (d ≤ shiftedMost) ⌝ }
     ensures { λ r. ⌜ r ≡ blended w a b c d ⌝ }
 {
     let sum = w.w00 * a + w.w10 * b + w.w01 * c + w.w11 * d;
@@ -118,5 +131,5 @@ pub fn value_at(w: Weights, v: Corners) -> i64
         shifted(v.v01),
         shifted(v.v11),
     );
-    numbers::lowered(q, 4000000)
+    numbers::lowered(q, SHIFT)
 }

@@ -1,11 +1,10 @@
 -- The first rectangle that holds the point, in the order of ranks, is one of the chosen grid's, where no two grids that hold it share a rank.
-use Prim.Native.Nat.{ℕ, suc, _-_, _≤_, _<_}
-use mathlib.Core.Path.{_≡_, refl, sym, ap, _∙_, subst}
-use mathlib.Core.Bool.{Bool, true, false, cond}
+use Prim.Native.Nat.{ℕ, _-_, _≤_, _<_}
+use mathlib.Core.Path.{_≡_, refl, sym, _∙_, subst}
+use mathlib.Core.Bool.{Bool, true}
 use native.Mathlib.Omega.{arith}
 use native.Mathlib.Decide.{decLt}
 use borrow.Author.Tests.{lt-ltb, le-ltb}
-use lib.Dec.{ltb}
 use Rattle.numbers.specs.First.{first}
 use Rattle.numbers.proofs.Bools.{true-false}
 use Rattle.numbers.proofs.FirstLaws.{first-before, first-hit, none-at}

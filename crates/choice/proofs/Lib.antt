@@ -1,6 +1,6 @@
+-- The laws of the choice at a point.
 pub mod RectLaws
 pub mod ChoiceLaws
 pub mod Turn
 pub mod PartLaws
-pub mod InGroupLaws
 pub mod HolderLaws

@@ -5,7 +5,8 @@ use mathlib.Core.List.{List}
 use native.Mathlib.Omega.{arith}
 use lib.ListN.{length, getD, take, length-take}
 use lib.Seq.{getD-take}
-use Rattle.choice.specs.Rect.{at, holds, size}
+use Rattle.numbers.specs.Lists.{at}
+use Rattle.choice.specs.Rect.{holds, size}
 use Rattle.choice.specs.Choice.{chosen}
 use Rattle.choice.proofs.ChoiceLaws.{chosen-agree}
 
@@ -13,10 +14,10 @@ module _ (sides ranks : List ℕ) (n x y : ℕ) (s : n * 4 ≤ length sides) (r 
   pub part-size : size (take (n * 4) sides) (take n ranks) ≡ n
   part-size = rw (length-take, length-take) (omega arith)
 
-  pub side : (j : ℕ) → j < n * 4 → getD (take (n * 4) sides) j 0 ≡ getD sides j 0
+  side : (j : ℕ) → j < n * 4 → getD (take (n * 4) sides) j 0 ≡ getD sides j 0
   side j l = getD-take (n * 4) sides j 0 l
 
-  part-holds : (i : ℕ) → i < n → holds (take (n * 4) sides) i x y ≡ holds sides i x y
+  pub part-holds : (i : ℕ) → i < n → holds (take (n * 4) sides) i x y ≡ holds sides i x y
   unfolding holds
   part-holds i l =
       rw (side (i * 4) (omega arith), side (i * 4 + 1) (omega arith), side (i * 4 + 2) (omega arith), side (i * 4 + 3) (omega arith))

@@ -1,4 +1,4 @@
+-- What the contracts of `choice` cite.
 pub mod Rect
 pub mod Choice
-pub mod InGroup
 pub mod Holder

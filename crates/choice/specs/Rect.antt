@@ -3,11 +3,8 @@ use mathlib.Core.Bool.{Bool, _&&_}
 use mathlib.Core.List.{List}
 use Prim.Native.Nat.{ℕ, _+_, _*_, _/_, min}
 use lib.Dec.{leb}
-use lib.ListN.{length, getD}
-
--- the number at i, from 0
-abbrev pub at : List ℕ → ℕ → ℕ
-at ns i = getD ns i 0
+use lib.ListN.{length}
+use Rattle.numbers.specs.Lists.{at}
 
 abbrev pub westOf : List ℕ → ℕ → ℕ
 westOf rs i = at rs (i * 4)

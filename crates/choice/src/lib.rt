@@ -2,7 +2,8 @@
 ghost use mathlib.Core.Path.{_≡_};
 ghost use Prim.Native.Nat.{_+_, _*_, _<_, _≤_};
 ghost use lib.ListN.{length};
-ghost use Rattle.choice.specs.Rect.{at, holds, size};
+ghost use Rattle.numbers.specs.Lists.{at};
+ghost use Rattle.choice.specs.Rect.{holds, size};
 ghost use Rattle.choice.specs.Choice.{betterOf, blocks, chosen};
 ghost use Rattle.choice.specs.Holder.{holder};
 

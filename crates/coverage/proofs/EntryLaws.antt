@@ -8,13 +8,13 @@ use native.Mathlib.Omega.{arith}
 use native.Mathlib.Numerals.{add-one}
 use lib.ListN.{length, getD, take, set, replicate, length-append, length-replicate, List·getD-append}
 use lib.Seq.{set-append-seam, append-snoc, take-suc, length-take-le}
-use Rattle.choice.specs.Rect.{at}
+use Rattle.numbers.specs.Lists.{at}
 use Rattle.region.specs.declared.Spot.{Spot}
 use Rattle.region.specs.declared.Spot.the-variants.{At, Nothing}
 use Rattle.coverage.specs.InForce.{entryOf, entriesOf, noEntry, filled, listed}
 use Rattle.coverage.specs.declared.Entry.{Entry}
 use Rattle.coverage.specs.declared.Listing.{Listing}
-use Rattle.coverage.proofs.Lists.{Pairs, pairs-one, pairs-append}
+use Rattle.numbers.proofs.Lists.{Pairs, pairs-one, pairs-append}
 
 -- the entry of a grid, if it has one
 module _ (k : ℕ) where

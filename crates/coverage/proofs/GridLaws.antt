@@ -15,7 +15,8 @@ use lib.Seq.{getD-set-same, getD-set-other}
 use Rattle.numbers.specs.First.{some}
 use Rattle.numbers.proofs.FirstLaws.{some-by, by-some}
 use Rattle.numbers.proofs.Bools.{and-left, and-right, or-cases, both, or-left, or-right, untrue}
-use Rattle.choice.specs.Rect.{at, westOf, eastOf, southOf, northOf, holds, size}
+use Rattle.numbers.specs.Lists.{at}
+use Rattle.choice.specs.Rect.{westOf, eastOf, southOf, northOf, holds, size}
 use Rattle.choice.specs.Choice.{blocks}
 use Rattle.choice.proofs.RectLaws.{Holds, holds-true, true-holds}
 use Rattle.choice.proofs.ChoiceLaws.{chosen-unblocked, unblocked-chosen}

@@ -5,13 +5,13 @@ use Prim.Native.Nat.{ℕ, _*_, _≤_, _<_}
 use native.Mathlib.Omega.{arith}
 use lib.ListN.{length}
 use Rattle.numbers.proofs.Bools.{untrue}
-use Rattle.choice.specs.Rect.{at, holds, size}
+use Rattle.numbers.specs.Lists.{at}
+use Rattle.choice.specs.Rect.{holds, size}
 use Rattle.choice.specs.Choice.{chosen}
 use Rattle.choice.proofs.RectLaws.{holds-true, true-holds}
-use Rattle.choice.proofs.ChoiceLaws.{chosen-agree}
-use Rattle.coverage.specs.Layout.{Layout, gridHolds, chosenAt, Share, Sound}
+use Rattle.choice.proofs.ChoiceLaws.{Apart, chosen-agree}
+use Rattle.coverage.specs.Layout.{Layout, gridHolds, chosenAt, Sound}
 use Rattle.coverage.proofs.GridLaws.{rect-grid, grid-rect}
-use Rattle.coverage.proofs.Parted.{parted-apart}
 
 -- four sides, an owner and a rank for each grid
 pub record OneEach (l : Layout) : Type 0 where
@@ -42,22 +42,15 @@ module _ (l : Layout) (one : OneEach l) where
       chosen-agree (λ g. gridHolds l g x y) (λ g. holds (l .rects) g x y) (at (l .ranks)) (at (l .ranks)) (length (l .ranks)) (λ g m. one-holds g x y (omega (arith, one .ranks))) (λ g m. refl)
       ∙ ap (chosen (λ g. holds (l .rects) g x y) (at (l .ranks))) (sym n)
 
-  -- at most 64 grids of ranks 1 to 1,000, of which no two share a rank and a point
-  pub one-sound : length (l .ranks) ≤ 64 → ((g : ℕ) → g < length (l .ranks) → (1 ≤ at (l .ranks) g) × (at (l .ranks) g ≤ 1000))
-      → ((i j : ℕ) → i < j → j < length (l .ranks) → at (l .ranks) i ≡ at (l .ranks) j → Share (l .rects) i j → ⊥) → Sound l
-  one-sound few ranked parted =
+  -- at most 64 grids, of which no two that hold a point share a rank
+  pub one-sound : length (l .ranks) ≤ 64
+      → ((x y : ℕ) → Apart (λ g. holds (l .rects) g x y) (at (l .ranks)) (length (l .ranks))) → Sound l
+  one-sound few apart =
       record {
         sides = one .sides;
         few = omega (arith, one .ranks);
         owned = λ r m. rw (one .owner r m) (omega (arith, one .ranks));
         grids = few;
-        ranked = ranked;
-        apart = λ x y i j m n e. parted-apart l apart x y i j m e;
+        apart = λ x y i j m n e h k.
+            apart x y i j m n e (sym (one-holds i x y (omega (arith, one .ranks))) ∙ h) (sym (one-holds j x y (omega (arith, one .ranks))) ∙ k);
       }
-    where
-      apart : (r q : ℕ) → r < length (l .owners) → q < length (l .owners) → at (l .owners) r < at (l .owners) q → at (l .ranks) (at (l .owners) r) ≡ at (l .ranks) (at (l .owners) q)
-          → Share (l .rects) r q → ⊥
-      apart r q m n lt e s =
-          let a = one .owner r m in
-          let b = one .owner q n in
-          parted r q (omega (arith, a, b)) (omega (arith, one .ranks)) (ap (at (l .ranks)) (sym a) ∙ e ∙ ap (at (l .ranks)) b) s

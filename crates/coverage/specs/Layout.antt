@@ -2,11 +2,12 @@
 use mathlib.Core.Path.{_≡_}
 use mathlib.Core.Bool.{Bool, true, _&&_}
 use mathlib.Core.List.{List}
-use Prim.Native.Nat.{ℕ, _*_, _≤_, _<_, min, max}
+use Prim.Native.Nat.{ℕ, _*_, _≤_, _<_}
 use lib.Dec.{eqb}
 use lib.ListN.{length}
 use Rattle.numbers.specs.First.{some}
-use Rattle.choice.specs.Rect.{at, westOf, eastOf, southOf, northOf, holds}
+use Rattle.numbers.specs.Lists.{at}
+use Rattle.choice.specs.Rect.{holds}
 use Rattle.choice.specs.Choice.{chosen}
 use Rattle.region.specs.First.{firstIn}
 use Rattle.region.specs.declared.Area.{Area}
@@ -40,18 +41,12 @@ firstTaken choose a k = firstIn (λ x y. eqb (choose x y) k) (a .west) (a .east)
 abbrev pub firstChosen : Layout → Area → ℕ → Spot
 firstChosen l a k = firstTaken (chosenAt l) a k
 
--- two rectangles share a point; an empty one shares none
-pub record Share (rs : List ℕ) (r q : ℕ) : Type 0 where
-  pub lon : max (westOf rs r) (westOf rs q) ≤ min (eastOf rs r) (eastOf rs q)
-  pub lat : max (southOf rs r) (southOf rs q) ≤ min (northOf rs r) (northOf rs q)
-
 -- what the lists of an accepted group have
 pub record Sound (l : Layout) : Type 0 where
   pub sides : length (l .rects) ≡ 4 * length (l .owners)
   pub few : length (l .owners) ≤ 192
   pub owned : (r : ℕ) → r < length (l .owners) → at (l .owners) r < length (l .ranks)
   pub grids : length (l .ranks) ≤ 64
-  pub ranked : (g : ℕ) → g < length (l .ranks) → (1 ≤ at (l .ranks) g) × (at (l .ranks) g ≤ 1000)
   -- grids that share a point never share a rank
   pub apart : (x y i j : ℕ) → i < j → j < length (l .ranks) → at (l .ranks) i ≡ at (l .ranks) j
       → gridHolds l i x y ≡ true → gridHolds l j x y ≡ true → ⊥

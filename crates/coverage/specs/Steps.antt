@@ -1,11 +1,10 @@
--- What the inner functions answer: keys of blockers, the search over a grid's rectangles, and the order of the grids.
+-- What the inner functions answer: keys of blockers, and the search over a grid's rectangles.
 use mathlib.Core.Path.{_≡_}
 use mathlib.Core.Bool.{Bool, true, false, _&&_}
 use mathlib.Core.List.{List}
-use Prim.Native.Nat.{ℕ, _≤_, _<_}
-use lib.ListN.{length, take}
+use Prim.Native.Nat.{ℕ, _<_}
 use Rattle.numbers.specs.First.{some}
-use Rattle.choice.specs.Rect.{at}
+use Rattle.numbers.specs.Lists.{at}
 use Rattle.choice.specs.Choice.{blocks}
 use Rattle.region.specs.First.{firstIn}
 use Rattle.region.specs.Free.{free}
@@ -28,14 +27,3 @@ firstOfRect rs os ms a g r = firstIn (λ x y. ownHolds rs os g x y r && free rs 
 -- the same of grid g's rectangles among the first n
 abbrev pub firstOf : List ℕ → List ℕ → List ℕ → Area → ℕ → ℕ → Spot
 firstOf rs os ms a g n = firstIn (λ x y. some (ownHolds rs os g x y) n && free rs ms 1 x y) (a .west) (a .east) (a .south) (a .north)
-
--- next is a rank above below, and none of the first n grids has a rank between the two
-pub record NextRank (ranks : List ℕ) (below next n : ℕ) : Type 0 where
-  pub more : below < next
-  pub most : next ≤ 1000
-  pub none : (g : ℕ) → g < n → below < at ranks g → at ranks g < next → ⊥
-
--- the first numbers of the list are these
-pub record Begins (ns list : List ℕ) (count : ℕ) : Type 0 where
-  pub many : count ≡ length ns
-  pub same : take count list ≡ ns

@@ -13,7 +13,7 @@ use lib.Dec.{T, leb, nleb→lt}
 use lib.IntN.{ℤ, pos, _+ℤ_, _-ℤ_, _*ℤ_, natAbs, *ℤ-comm}
 use lib.ListN.{getD}
 use lib.Signed.{leZ}
-use Rattle.numbers.specs.Order.{within, raised}
+use Rattle.numbers.specs.Order.{raised}
 use Rattle.numbers.specs.Round.{nearest, roundZ}
 use Rattle.numbers.proofs.Nearest.{nearest-le}
 use Rattle.numbers.proofs.Diff.{up-or-dn, natAbs-diff, Diff, diff-+, diff--, diff-as, diff-scale-r, diff-cond, leZ-leb}
@@ -22,6 +22,7 @@ use Rattle.numbers.proofs.Machine.{diff-nat, diff-raised}
 use Rattle.numbers.proofs.OrderLaws.{within-size, raised-bound, size-add, size-mul}
 use Rattle.numbers.proofs.Bools.{and-left, and-right}
 use Rattle.group.specs.declared.Ramp.{Ramp}
+use Rattle.group.specs.Numbers.{rampsMost, valueMost, dayMost, dayFits, factorOne, rampFactorMost, rampFactorFits, factorMost, resultMost}
 use Rattle.group.specs.Limits.{rampFits}
 use Rattle.group.specs.Record.{noRamp}
 use Rattle.day.specs.Day.{rampFactor, sumOf, factorOf, resultOf}
@@ -67,36 +68,35 @@ step-most a s0 b s1 t m h0 h1 =
 -- ---- a ramp within its limits
 
 pub record Sizes (p : Ramp) : Type 0 where
-  pub a-most : natAbs (p .a) ≤ 1000000
-  pub b-most : natAbs (p .b) ≤ 1000000
-  pub s0-most : natAbs (p .s0) ≤ 10000000
-  pub s1-most : natAbs (p .s1) ≤ 10000000
+  pub a-most : natAbs (p .a) ≤ dayMost
+  pub b-most : natAbs (p .b) ≤ dayMost
+  pub s0-most : natAbs (p .s0) ≤ rampFactorMost
+  pub s1-most : natAbs (p .s1) ≤ rampFactorMost
 
 pub sizes : (p : Ramp) → rampFits p ≡ true → Sizes p
 sizes p e =
-    let a = within 1000000 (p .a) in let s0 = within 10000000 (p .s0) in let b = within 1000000 (p .b) in
-    let s1 = within 10000000 (p .s1) in
+    let a = dayFits (p .a) in let s0 = rampFactorFits (p .s0) in let b = dayFits (p .b) in let s1 = rampFactorFits (p .s1) in
     let e4 = and-left (a && s0 && b && s1) (leZ (p .a) (p .b)) e in
     let e3 = and-left (a && s0 && b) s1 e4 in
     let e2 = and-left (a && s0) b e3 in
     record {
-      a-most = within-size 1000000 (p .a) (and-left a s0 e2);
-      b-most = within-size 1000000 (p .b) (and-right (a && s0) b e3);
-      s0-most = within-size 10000000 (p .s0) (and-right a s0 e2);
-      s1-most = within-size 10000000 (p .s1) (and-right (a && s0 && b) s1 e4);
+      a-most = within-size dayMost (p .a) (and-left a s0 e2);
+      b-most = within-size dayMost (p .b) (and-right (a && s0) b e3);
+      s0-most = within-size rampFactorMost (p .s0) (and-right a s0 e2);
+      s1-most = within-size rampFactorMost (p .s1) (and-right (a && s0 && b) s1 e4);
     }
 
-pub ramp-bound : (p : Ramp) (t : ℤ) → rampFits p ≡ true → natAbs (rampFactor p t) ≤ 10000000
+pub ramp-bound : (p : Ramp) (t : ℤ) → rampFits p ≡ true → natAbs (rampFactor p t) ≤ rampFactorMost
 ramp-bound p t e =
     let s = sizes p e in
     let j = natAbs (p .a) + natAbs (p .b) + natAbs t in
     let d =
-    ramp-step p t 10000000
+    ramp-step p t rampFactorMost
     (diff-raised j (p .a) (omega arith)) (diff-raised j (p .b) (omega arith)) (diff-raised j t (omega arith))
-    (diff-raised 10000000 (p .s0) (s .s0-most)) (diff-raised 10000000 (p .s1) (s .s1-most)) refl .diff in
+    (diff-raised rampFactorMost (p .s0) (s .s0-most)) (diff-raised rampFactorMost (p .s1) (s .s1-most)) refl .diff in
     let m =
-    step-most (raised j (p .a)) (raised 10000000 (p .s0)) (raised j (p .b)) (raised 10000000 (p .s1)) (raised j t) 20000000
-    (raised-bound 10000000 (p .s0) (s .s0-most)) (raised-bound 10000000 (p .s1) (s .s1-most)) in
+    step-most (raised j (p .a)) (raised rampFactorMost (p .s0)) (raised j (p .b)) (raised rampFactorMost (p .s1)) (raised j t) (2 * rampFactorMost)
+    (raised-bound rampFactorMost (p .s0) (s .s0-most)) (raised-bound rampFactorMost (p .s1) (s .s1-most)) in
     let n = natAbs-diff (rampFactor p t) in
     ⊎-elim (λ e. omega arith) (λ e. omega arith) (up-or-dn (rampFactor p t))
 
@@ -118,8 +118,8 @@ sum-bound f m (suc n) h =
     omega (arith, suc-mul n m)
 
 module _ (ramps : List Ramp) (t : ℤ) where
-  -- with no ramps 1,000,000
-  pub factor-none : (n : ℕ) → n ≡ 0 → factorOf ramps n t ≡ pos 1000000
+  -- with no ramps 1
+  pub factor-none : (n : ℕ) → n ≡ 0 → factorOf ramps n t ≡ pos factorOne
   unfolding factorOf
   factor-none n e = rw (eq-eqb n 0 e)
 
@@ -127,27 +127,27 @@ module _ (ramps : List Ramp) (t : ℤ) where
   unfolding factorOf
   factor-some n h = rw (ne-eqb n 0 h)
 
-  pub factor-bound : (n : ℕ) → n ≤ 8 → ((i : ℕ) → i < n → rampFits (getD ramps i noRamp) ≡ true) → natAbs (factorOf ramps n t) ≤ 80000000
+  pub factor-bound : (n : ℕ) → n ≤ rampsMost → ((i : ℕ) → i < n → rampFits (getD ramps i noRamp) ≡ true) → natAbs (factorOf ramps n t) ≤ factorMost
   factor-bound n h fit = go (decLt 0 n)
     where
-      go : Dec (0 < n) → natAbs (factorOf ramps n t) ≤ 80000000
+      go : Dec (0 < n) → natAbs (factorOf ramps n t) ≤ factorMost
       go (no e) = rw (factor-none n (omega arith)) (omega arith)
       go (yes e) =
           rw (factor-some n (λ z. omega arith))
-          (let b = sum-bound (λ i. rampFactor (getD ramps i noRamp) t) 10000000 n (λ i l. ramp-bound (getD ramps i noRamp) t (fit i l)) in
+          (let b = sum-bound (λ i. rampFactor (getD ramps i noRamp) t) rampFactorMost n (λ i l. ramp-bound (getD ramps i noRamp) t (fit i l)) in
           omega arith)
 
 -- ---- the result
 
 -- with no ramps the result is the value
-pub result-plain : (v : ℤ) → resultOf v (pos 1000000) ≡ v
+pub result-plain : (v : ℤ) → resultOf v (pos factorOne) ≡ v
 unfolding resultOf
-result-plain v = ap (λ (z : ℤ). roundZ z 1000000) (*ℤ-comm v (pos 1000000)) ∙ round-multiple v 1000000 (omega arith)
+result-plain v = ap (λ (z : ℤ). roundZ z factorOne) (*ℤ-comm v (pos factorOne)) ∙ round-multiple v factorOne (omega arith)
 
-pub result-bound : (v f : ℤ) → natAbs v ≤ 4000000 → natAbs f ≤ 80000000 → natAbs (resultOf v f) ≤ 320000000
+pub result-bound : (v f : ℤ) → natAbs v ≤ valueMost → natAbs f ≤ factorMost → natAbs (resultOf v f) ≤ resultMost
 unfolding resultOf
 result-bound v f h k =
-    let e = round-size (v *ℤ f) 1000000 in
+    let e = round-size (v *ℤ f) factorOne in
     let m = mul-le-mul h k in
-    let l = nearest-le 320000000 (natAbs (v *ℤ f)) 1000000 (omega arith) (omega (arith, size-mul v f)) in
+    let l = nearest-le resultMost (natAbs (v *ℤ f)) factorOne (omega arith) (omega (arith, size-mul v f)) in
     omega arith

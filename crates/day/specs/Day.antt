@@ -8,6 +8,7 @@ use lib.ListN.{getD}
 use lib.Signed.{leZ}
 use Rattle.numbers.specs.Round.{roundZ}
 use Rattle.group.specs.declared.Ramp.{Ramp}
+use Rattle.group.specs.Numbers.{factorOne}
 use Rattle.group.specs.Record.{noRamp}
 
 -- S1 at and after B, so that A = B gives S1 on the day itself; S0 at and before A; between them (S0(B−t) + S1(t−A)) / (B−A), rounded
@@ -22,10 +23,10 @@ unfoldable pub sumOf : (ℕ → ℤ) → ℕ → ℤ
 sumOf factor zero = pos 0
 sumOf factor (suc n) = sumOf factor n +ℤ factor n
 
--- the factor of the first n ramps; with none it is 1,000,000
+-- the factor of the first n ramps; with none it is 1
 unfoldable pub factorOf : List Ramp → ℕ → ℤ → ℤ
-factorOf ramps n t = cond (eqb n 0) (pos 1000000) (sumOf (λ i. rampFactor (getD ramps i noRamp) t) n)
+factorOf ramps n t = cond (eqb n 0) (pos factorOne) (sumOf (λ i. rampFactor (getD ramps i noRamp) t) n)
 
--- value · factor / 1,000,000, rounded
+-- value · factor, rounded
 unfoldable pub resultOf : (value factor : ℤ) → ℤ
-resultOf value factor = roundZ (value *ℤ factor) 1000000
+resultOf value factor = roundZ (value *ℤ factor) factorOne

@@ -1,1 +1,2 @@
+-- The laws of a grid's sides.
 pub mod SideLaws

@@ -1,11 +1,14 @@
 -- Extents in unsigned numbers: from an accepted grid, and the same order.
 use Prim.Native.Nat.{ℕ, _≤_}
-use mathlib.Core.Path.{_≡_}
+use mathlib.Core.Path.{_≡_, _∙_}
 use mathlib.Core.Bool.{and-assoc, Bool, true, false, cond, _&&_}
+use native.Mathlib.Omega.{arith}
+use borrow.Author.Tests.{leb-true, le-leb}
 use lib.Dec.{leb}
 use lib.IntN.{ℤ, natAbs}
 use lib.Signed.{leZ}
-use Rattle.numbers.specs.Order.{within}
+use native.Mathlib.Omega.{arith}
+use Rattle.group.specs.Numbers.{lonEdgeMost, latEdgeMost, lonEdgeFits, latEdgeFits, lonZero, latZero}
 use Rattle.numbers.proofs.Bools.{and-left, and-right, both}
 use Rattle.numbers.proofs.OrderLaws.{within-size, raised-order, min-max, shared-overlap, overlap-shared}
 use Rattle.group.specs.declared.Grid.{Grid}
@@ -18,29 +21,29 @@ pick-size : (t : Bool) (a b : ℤ) (m : ℕ) → natAbs a ≤ m → natAbs b ≤
 pick-size true a b m f g = f
 pick-size false a b m f g = g
 
-module _ (np : ℕ) (g : Grid) (z : Sized g) (south-limit : natAbs (g .lat .0) ≤ 324000000) (e : inside np g ≡ true) where
-  far-lon : natAbs (farEdge (lonAxis g)) ≤ 1296000000
+module _ (np : ℕ) (g : Grid) (z : Sized g) (south-limit : natAbs (g .lat .0) ≤ latEdgeMost) (e : inside np g ≡ true) where
+  far-lon : natAbs (farEdge (lonAxis g)) ≤ lonEdgeMost
   unfolding inside
   far-lon =
-      let a = within 1296000000 (farEdge (lonAxis g)) in
-      let b = within 324000000 (farEdge (latAxis g)) in
-      within-size 1296000000 (farEdge (lonAxis g)) (and-left a b (and-left (a && b) _ e))
+      let a = lonEdgeFits (farEdge (lonAxis g)) in
+      let b = latEdgeFits (farEdge (latAxis g)) in
+      within-size lonEdgeMost (farEdge (lonAxis g)) (and-left a b (and-left (a && b) _ e))
 
-  far-lat : natAbs (farEdge (latAxis g)) ≤ 324000000
+  far-lat : natAbs (farEdge (latAxis g)) ≤ latEdgeMost
   unfolding inside
   far-lat =
-      let a = within 1296000000 (farEdge (lonAxis g)) in
-      let b = within 324000000 (farEdge (latAxis g)) in
-      within-size 324000000 (farEdge (latAxis g)) (and-right a b (and-left (a && b) _ e))
+      let a = lonEdgeFits (farEdge (lonAxis g)) in
+      let b = latEdgeFits (farEdge (latAxis g)) in
+      within-size latEdgeMost (farEdge (latAxis g)) (and-right a b (and-left (a && b) _ e))
 
   pub edges-within : Edges g
   unfolding lonSpan latSpan spanOf
   edges-within =
       record {
-        west = pick-size (leZ (g .lon .0) (farEdge (lonAxis g))) (g .lon .0) (farEdge (lonAxis g)) 1296000000 (z .lon .at-size) far-lon;
-        east = pick-size (leZ (g .lon .0) (farEdge (lonAxis g))) (farEdge (lonAxis g)) (g .lon .0) 1296000000 far-lon (z .lon .at-size);
-        south = pick-size (leZ (g .lat .0) (farEdge (latAxis g))) (g .lat .0) (farEdge (latAxis g)) 324000000 south-limit far-lat;
-        north = pick-size (leZ (g .lat .0) (farEdge (latAxis g))) (farEdge (latAxis g)) (g .lat .0) 324000000 far-lat south-limit;
+        west = omega (arith, pick-size (leZ (g .lon .0) (farEdge (lonAxis g))) (g .lon .0) (farEdge (lonAxis g)) lonEdgeMost (z .lon .at-size) far-lon);
+        east = omega (arith, pick-size (leZ (g .lon .0) (farEdge (lonAxis g))) (farEdge (lonAxis g)) (g .lon .0) lonEdgeMost far-lon (z .lon .at-size));
+        south = omega (arith, pick-size (leZ (g .lat .0) (farEdge (latAxis g))) (g .lat .0) (farEdge (latAxis g)) latEdgeMost south-limit far-lat);
+        north = omega (arith, pick-size (leZ (g .lat .0) (farEdge (latAxis g))) (farEdge (latAxis g)) (g .lat .0) latEdgeMost far-lat south-limit);
       }
 
 -- two extents share a coordinate: the test in unsigned numbers
@@ -51,10 +54,10 @@ pub meet-sides : (f g : Grid) → Edges f → Edges g → meet f g ≡ sidesMeet
 unfolding meet sidesOf
 meet-sides f g a b =
     rw (
-      raised-order 1296000000 (lonSpan f .west .0) (lonSpan g .east .0) (a .west) (b .east),
-      raised-order 1296000000 (lonSpan g .west .0) (lonSpan f .east .0) (b .west) (a .east),
-      raised-order 324000000 (latSpan f .south .0) (latSpan g .north .0) (a .south) (b .north),
-      raised-order 324000000 (latSpan g .south .0) (latSpan f .north .0) (b .south) (a .north),
+      raised-order lonZero (lonSpan f .west .0) (lonSpan g .east .0) (a .west) (b .east),
+      raised-order lonZero (lonSpan g .west .0) (lonSpan f .east .0) (b .west) (a .east),
+      raised-order latZero (latSpan f .south .0) (latSpan g .north .0) (a .south) (b .north),
+      raised-order latZero (latSpan g .south .0) (latSpan f .north .0) (b .south) (a .north),
     )
 
 -- the extents of two grids meet exactly where both grids hold a point
@@ -103,14 +106,34 @@ module _ (f g : Grid) where
 abbrev pub sidesHold : Sides → ℕ → ℕ → Bool
 sidesHold s x y = leb (s .west) x && (leb x (s .east) && (leb (s .south) y && leb y (s .north)))
 
-pub holds-sides : (g : Grid) → Edges g → (x y : ℤ) → natAbs x ≤ 1296000000 → natAbs y ≤ 324000000
+pub holds-sides : (g : Grid) → Edges g → (x y : ℤ) → natAbs x ≤ lonZero → natAbs y ≤ latZero
     → holds g x y ≡ sidesHold (sidesOf g) (lonFromLeast x) (latFromLeast y)
 unfolding holds sidesOf
 holds-sides g e x y h k =
     rw (
-      raised-order 1296000000 (lonSpan g .west .0) x (e .west) h,
-      raised-order 1296000000 x (lonSpan g .east .0) h (e .east),
-      raised-order 324000000 (latSpan g .south .0) y (e .south) k,
-      raised-order 324000000 y (latSpan g .north .0) k (e .north),
+      raised-order lonZero (lonSpan g .west .0) x (e .west) h,
+      raised-order lonZero x (lonSpan g .east .0) h (e .east),
+      raised-order latZero (latSpan g .south .0) y (e .south) k,
+      raised-order latZero y (latSpan g .north .0) k (e .north),
     )
     (and-assoc (leb (sidesOf g .west) (lonFromLeast x)) (leb (lonFromLeast x) (sidesOf g .east)) _)
+
+-- two grids whose sides hold one point meet
+pub hold-meet : (f g : Grid) → Edges f → Edges g → (x y : ℕ) → sidesHold (sidesOf f) x y ≡ true → sidesHold (sidesOf g) x y ≡ true → meet f g ≡ true
+hold-meet f g a b x y h k =
+    let s = sidesOf f in let t = sidesOf g in let p = told s x y h in let q = told t x y k in
+    meet-sides f g a b
+    ∙ both
+    (both (le-leb (s .west) (t .east) (omega (arith, p .0, q .1))) (le-leb (t .west) (s .east) (omega (arith, q .0, p .1))))
+    (both (le-leb (s .south) (t .north) (omega (arith, p .2, q .3))) (le-leb (t .south) (s .north) (omega (arith, q .2, p .3))))
+  where
+    told : (s : Sides) (x y : ℕ) → sidesHold s x y ≡ true → (s .west ≤ x) × (x ≤ s .east) × (s .south ≤ y) × (y ≤ s .north)
+    told s x y e =
+        let v = leb (s .south) y && leb y (s .north) in
+        let u = and-right (leb (s .west) x) (leb x (s .east) && v) e in
+        let w = and-right (leb x (s .east)) v u in (
+          leb-true (s .west) x (and-left (leb (s .west) x) (leb x (s .east) && v) e),
+          leb-true x (s .east) (and-left (leb x (s .east)) v u),
+          leb-true (s .south) y (and-left (leb (s .south) y) (leb y (s .north)) w),
+          leb-true y (s .north) (and-right (leb (s .south) y) (leb y (s .north)) w),
+        )

@@ -1,2 +1,3 @@
+-- What the contracts of `extent` cite.
 pub mod Extent
 pub mod Sides

@@ -1,6 +1,7 @@
 // Where a grid lies: its extent, its node range and refusal 4; and its sides as unsigned numbers, which loops walk.
 ghost use mathlib.Core.Path.{_≡_};
 ghost use Prim.Native.Nat.{_≤_};
+ghost use Rattle.group.specs.Numbers.{parametersMost};
 ghost use Rattle.extent.specs.Extent.{lonAxis, latAxis, farEdge, spanOf, lonSpan, latSpan, nodeEnd, inside, Reach, Sized};
 ghost use Rattle.extent.specs.Sides.{lonFromLeast, latFromLeast, sidesOf};
 use group::Grid;
@@ -32,7 +33,7 @@ pub struct LatSpan {
     pub north: Latitude,
 }
 
-// An extent as distances in mas from the longitude -1,296,000,000 and the latitude -324,000,000.
+// An extent as distances in mas from the least longitude and latitude, -LON_ZERO and -LAT_ZERO.
 pub struct Sides {
     pub west: u64,
     pub east: u64,
@@ -111,7 +112,7 @@ fn lat_span(g: Grid) -> LatSpan
 
 // The position in the node list behind a grid's last node, of np parameters.
 pub fn node_end(g: Grid, np: u64) -> u64
-    requires { ⌜ (np ≤ 3) × Sized g ⌝ }
+    requires { ⌜ (np ≤ parametersMost) × Sized g ⌝ }
     ensures { λ r. ⌜ r ≡ nodeEnd np g ⌝ }
 {
     g.start + g.ni * g.nj * np
@@ -119,29 +120,29 @@ pub fn node_end(g: Grid, np: u64) -> u64
 
 // Whether a grid's far edges are within the limits and its node range within the longest list.
 pub fn grid_inside(g: Grid, np: u64) -> bool
-    requires { ⌜ (np ≤ 3) × Sized g ⌝ }
+    requires { ⌜ (np ≤ parametersMost) × Sized g ⌝ }
     ensures { λ r. ⌜ r ≡ inside np g ⌝ }
 {
     let x = far_edge(lon_axis(g));
     let y = far_edge(lat_axis(g));
     let end = node_end(g, np);
-    ((-1296000000 <= x) & (x <= 1296000000))
-        & ((-324000000 <= y) & (y <= 324000000))
-        & (end <= 16777216)
+    ((group::LON_EDGE_LEAST <= x) & (x <= group::LON_EDGE_MOST))
+        & ((group::LAT_EDGE_LEAST <= y) & (y <= group::LAT_EDGE_MOST))
+        & (end <= group::LIST_MOST)
 }
 
-// The distance in mas from the least admitted longitude, 0 west of it.
+// The distance in mas from the least longitude, 0 west of it.
 pub fn lon_from_least(l: Longitude) -> u64
     ensures { λ r. ⌜ r ≡ lonFromLeast (l .0) ⌝ }
 {
-    numbers::raised(1296000000, l.0)
+    numbers::raised(group::LON_ZERO, l.0)
 }
 
-// The distance in mas from the least admitted latitude, 0 south of it.
+// The distance in mas from the least latitude, 0 south of it.
 pub fn lat_from_least(l: Latitude) -> u64
     ensures { λ r. ⌜ r ≡ latFromLeast (l .0) ⌝ }
 {
-    numbers::raised(324000000, l.0)
+    numbers::raised(group::LAT_ZERO, l.0)
 }
 
 // A grid's sides.

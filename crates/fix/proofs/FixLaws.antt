@@ -8,7 +8,8 @@ use borrow.Author.Tests.{ltb-true}
 use lib.Dec.{ltb}
 use lib.IntN.{ℤ, pos}
 use Rattle.numbers.proofs.FirstLaws.{first-same, some-by, by-some}
-use Rattle.cell.specs.Cell.{isMark, isBeyond, usedSome, valueOf}
+use Rattle.group.specs.Numbers.{isMark}
+use Rattle.cell.specs.Cell.{isBeyond, usedSome, valueOf}
 use Rattle.cell.specs.Used.{SomeUsed}
 use Rattle.cell.proofs.ValueLaws.{used-some, some-used, some-same, value-same}
 use Rattle.day.specs.Day.{resultOf}

@@ -1,9 +1,9 @@
 -- A fix from its parameters: where one has a fault the refusal, where none has the results.
-use Prim.Native.Nat.{ℕ, zero, suc, _≤_, _<_}
+use Prim.Native.Nat.{ℕ, zero, suc, _-_, _≤_, _<_}
 use mathlib.Core.Path.{_≡_, refl, sym, ap₂, _∙_, subst}
 use mathlib.Core.Bool.{Bool, true, false, cond, _&&_}
 use mathlib.Core.List.{List}
-use mathlib.Core.Logic.{_⊎_, inl, inr}
+use mathlib.Core.Logic.{inl, inr}
 use native.Mathlib.Omega.{arith}
 use borrow.Author.Tests.{le-ltb, lt-leb, ltb-true, lt-ltb}
 use lib.Dec.{ltb}
@@ -17,7 +17,8 @@ use Rattle.numbers.proofs.Bools.{and-left, and-right}
 use Rattle.numbers.proofs.FirstLaws.{first-none, some-by}
 use Rattle.cell.specs.declared.Corners.{Corners}
 use Rattle.cell.specs.declared.Weights.{Weights}
-use Rattle.cell.specs.Cell.{Weighed, used, mark, isMark, isBeyond, usedSome, valueOf}
+use Rattle.group.specs.Numbers.{parametersMost, valueMost, mark, isMark, factorMost}
+use Rattle.cell.specs.Cell.{Weighed, used, isBeyond, usedSome, valueOf}
 use Rattle.cell.specs.Used.{Unless, EachUsed}
 use Rattle.cell.proofs.ValueLaws.{each-map, none-beyond}
 use Rattle.fix.specs.declared.Place.{Place}
@@ -28,7 +29,7 @@ use Rattle.day.specs.Day.{resultOf}
 use Rattle.fix.proofs.PlaceLaws.{spot-weighed, part-most}
 use Rattle.fix.proofs.FixLaws.{fix-marked, fix-beyond, fix-found}
 
--- ---- the mark is beyond ±4,000,000
+-- ---- the mark is beyond the limit of node values
 
 and-no : (b : Bool) → (b && false) ≡ false
 and-no true = refl
@@ -43,9 +44,9 @@ unfolding usedSome
 used-none test w v a =
     rw (used-no (w .w00) (test (v .v00)) (a .at00), used-no (w .w10) (test (v .v10)) (a .at10), used-no (w .w01) (test (v .v01)) (a .at01), used-no (w .w11) (test (v .v11)) (a .at11)) refl
 
-no-mark : (z : ℤ) → natAbs z ≤ 4000000 → isMark z ≡ false
+no-mark : (z : ℤ) → natAbs z ≤ valueMost → isMark z ≡ false
 no-mark (pos n) h = refl
-no-mark (negsuc n) h = rw (lt-leb 2147483647 n (omega arith)) (and-no (leZ mark (negsuc n)))
+no-mark (negsuc n) h = rw (lt-leb (natAbs mark - 1) n (omega arith)) (and-no (leZ mark (negsuc n)))
 
 pub mark-beyond : (w : Weights) (v : Corners) → usedSome isBeyond w v ≡ false → usedSome isMark w v ≡ false
 mark-beyond w v e = used-none isMark w v (each-map no-mark (none-beyond w v e))
@@ -76,11 +77,11 @@ module _ (l : Place) (nodes : List ℤ) (p : ℕ) where
     unfolding valueIn
     value {z} s g = toZ-ofZ w64 z s ∙ g ∙ (λ i. valueOf (e i) (f i))
 
-    pub sized : (factor : ℤ) {t : Bool} {z : ℤ} → SFits w64 factor → natAbs factor ≤ 80000000 → t ≡ usedSome isBeyond w v → t ≡ false
-        → SFits w64 z → z ≡ valueOf w v → (natAbs (toZ w64 (ofZ w64 z)) ≤ 4000000) × (natAbs (toZ w64 (ofZ w64 factor)) ≤ 80000000)
+    pub sized : (factor : ℤ) {t : Bool} {z : ℤ} → SFits w64 factor → natAbs factor ≤ factorMost → t ≡ usedSome isBeyond w v → t ≡ false
+        → SFits w64 z → z ≡ valueOf w v → (natAbs (toZ w64 (ofZ w64 z)) ≤ valueMost) × (natAbs (toZ w64 (ofZ w64 factor)) ≤ factorMost)
     sized factor m n g i s j = (
-      subst (λ (x : ℤ). natAbs x ≤ 4000000) (sym (value s j)) (part-most h nodes p (sym (g ∙ same) ∙ i)),
-      subst (λ (x : ℤ). natAbs x ≤ 80000000) (sym (toZ-ofZ w64 factor m)) n,
+      subst (λ (x : ℤ). natAbs x ≤ valueMost) (sym (value s j)) (part-most h nodes p (sym (g ∙ same) ∙ i)),
+      subst (λ (x : ℤ). natAbs x ≤ factorMost) (sym (toZ-ofZ w64 factor m)) n,
     )
 
     pub result : (factor : ℤ) {z r : ℤ} → SFits w64 factor → SFits w64 z → z ≡ valueOf w v → SFits w64 r
@@ -111,7 +112,7 @@ module _ (l : Place) (nodes : List ℤ) (factor : ℤ) (grid : ℕ) where
       pick false h b = sym (fix-beyond l nodes factor grid h b)
 
   -- no parameter has a fault
-  module _ (most : l .np ≤ 3) (e0 : faultAt l nodes 0 ≡ false) (e1 : faultAt l nodes 1 ≡ false) (e2 : faultAt l nodes 2 ≡ false) where
+  module _ (most : l .np ≤ parametersMost) (e0 : faultAt l nodes 0 ≡ false) (e1 : faultAt l nodes 1 ≡ false) (e2 : faultAt l nodes 2 ≡ false) where
     each : (k : ℕ) → k < l .np → beyondAt k ≡ false
     unfolding faultAt
     each zero h = rw (lt-ltb 0 (l .np) h) at e0

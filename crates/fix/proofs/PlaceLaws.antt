@@ -8,6 +8,7 @@ use mathlib.Core.List.{List}
 use borrow.Author.Tests.{ltb-false}
 use lib.IntN.{ℤ, natAbs}
 use Rattle.numbers.proofs.FirstLaws.{none-at}
+use Rattle.group.specs.Numbers.{listMost, valueMost}
 use Rattle.cell.specs.Cell.{cellAlong, Distances, Weighed, isBeyond, usedSome}
 use Rattle.cell.proofs.AlongLaws.{InCell, along-within}
 use Rattle.cell.proofs.WeightLaws.{weighed}
@@ -51,7 +52,7 @@ module _ {l : Place} (h : Placed l) where
     pub node : j * l .ni + i < l .ni * l .nj
     pub count : l .ni * l .nj ≤ l .ni * l .nj * l .np
     pub inner : (j * l .ni + i) * l .np + p < l .ni * l .nj * l .np
-    pub range : l .start + l .ni * l .nj * l .np ≤ 16777216
+    pub range : l .start + l .ni * l .nj * l .np ≤ listMost
 
   pub stands : (i j p : ℕ) → i < l .ni → j < l .nj → p < l .np → Stands i j p
   stands i j p hi hj hp =
@@ -73,7 +74,7 @@ module _ {l : Place} (h : Placed l) where
     pub north : ((j + 1) * l .ni + i) * l .np ≡ (j * l .ni + i) * l .np + l .ni * l .np
     pub both : ((j + 1) * l .ni + (i + 1)) * l .np ≡ (j * l .ni + i) * l .np + l .ni * l .np + l .np
     pub inner : (j * l .ni + i) * l .np + l .ni * l .np + l .np + p < l .ni * l .nj * l .np
-    pub range : l .start + l .ni * l .nj * l .np ≤ 16777216
+    pub range : l .start + l .ni * l .nj * l .np ≤ listMost
 
   pub around : (i j p : ℕ) → i + 1 < l .ni → j + 1 < l .nj → p < l .np → Around i j p
   around i j p hi hj hp =
@@ -91,12 +92,12 @@ module _ {l : Place} (h : Placed l) where
 
 -- ---- the value in a cell whose used corners hold node values
 module _ {l : Place} (h : Placed l) (nodes : List ℤ) where
-  pub part-most : (p : ℕ) → usedSome isBeyond (spotOf l .weights) (cornersOf l nodes p) ≡ false → natAbs (valueIn l nodes p) ≤ 4000000
+  pub part-most : (p : ℕ) → usedSome isBeyond (spotOf l .weights) (cornersOf l nodes p) ≡ false → natAbs (valueIn l nodes p) ≤ valueMost
   unfolding valueIn
   part-most p e =
-      value-bound (spot-weighed h) (cornersOf l nodes p) 4000000 (none-beyond (spotOf l .weights) (cornersOf l nodes p) e)
+      value-bound (spot-weighed h) (cornersOf l nodes p) valueMost (none-beyond (spotOf l .weights) (cornersOf l nodes p) e)
 
-  pub value-most : cornerSome isBeyond l nodes ≡ false → (p : ℕ) → p < l .np → natAbs (valueIn l nodes p) ≤ 4000000
+  pub value-most : cornerSome isBeyond l nodes ≡ false → (p : ℕ) → p < l .np → natAbs (valueIn l nodes p) ≤ valueMost
   unfolding cornerSome
   value-most e p k =
       part-most p (none-at (λ p. usedSome isBeyond (spotOf l .weights) (cornersOf l nodes p)) (l .np) p (ltb-false _ _ e) k)

@@ -7,7 +7,8 @@ use lib.IntN.{ℤ, pos}
 use lib.ListN.{getD}
 use Rattle.numbers.specs.First.{some}
 use Rattle.cell.specs.declared.Corners.{Corners}
-use Rattle.cell.specs.Cell.{cellAlong, weightsOf, isMark, isBeyond, usedSome, valueOf}
+use Rattle.group.specs.Numbers.{parametersMost, spacingMost, nodesLeast, listMost, isMark}
+use Rattle.cell.specs.Cell.{cellAlong, weightsOf, isBeyond, usedSome, valueOf}
 use Rattle.cell.specs.Used.{SameUsed}
 use Rattle.day.specs.Day.{resultOf}
 use Rattle.fix.specs.declared.Place.{Place}
@@ -75,14 +76,14 @@ fixIn l nodes factor grid =
 pub record Placed (l : Place) : Type 0 where
   pub sx-pos : 0 < l .sx
   pub sy-pos : 0 < l .sy
-  pub sx-most : l .sx ≤ 1000000
-  pub sy-most : l .sy ≤ 1000000
-  pub ni-least : 2 ≤ l .ni
-  pub nj-least : 2 ≤ l .nj
+  pub sx-most : l .sx ≤ spacingMost
+  pub sy-most : l .sy ≤ spacingMost
+  pub ni-least : nodesLeast ≤ l .ni
+  pub nj-least : nodesLeast ≤ l .nj
   pub dx-most : l .dx ≤ (l .ni - 1) * l .sx
   pub dy-most : l .dy ≤ (l .nj - 1) * l .sy
-  pub np-most : l .np ≤ 3
-  pub range-most : l .start + l .ni * l .nj * l .np ≤ 16777216
+  pub np-most : l .np ≤ parametersMost
+  pub range-most : l .start + l .ni * l .nj * l .np ≤ listMost
 
 -- the grid's node range ends within a list of so many nodes
 abbrev pub Listed : Place → ℕ → Type 0

@@ -6,7 +6,8 @@ use mathlib.Core.List.{List}
 use lib.Dec.{ltb}
 use lib.IntN.{ℤ}
 use Rattle.cell.specs.declared.Weights.{Weights}
-use Rattle.cell.specs.Cell.{isMark, isBeyond, usedSome}
+use Rattle.group.specs.Numbers.{isMark}
+use Rattle.cell.specs.Cell.{isBeyond, usedSome}
 use Rattle.fix.specs.declared.Place.{Place}
 use Rattle.fix.specs.declared.Lookup.{Lookup}
 use Rattle.fix.specs.declared.Lookup.the-variants as L
@@ -19,7 +20,7 @@ pub record Begun (l : Place) (count : ℕ) (w : Weights) (a : ℕ) : Type 0 wher
   pub weights : w ≡ spotOf l .weights
   pub low : a ≡ position l (spotOf l .i) (spotOf l .j) 0
 
--- a used corner is beyond ±4,000,000 in parameter p, which is not missing
+-- a used corner is beyond the limit of node values in parameter p, which is not missing
 unfoldable pub faultAt : Place → List ℤ → ℕ → Bool
 faultAt l nodes p = ltb p (l .np) && usedSome isBeyond (spotOf l .weights) (cornersOf l nodes p)
 

@@ -6,7 +6,7 @@ ghost use mathlib.Core.Path.{_≡_};
 ghost use Prim.Native.Nat.{_≤_, _<_};
 ghost use lib.IntN.{natAbs};
 ghost use lib.ListN.{length};
-ghost use Rattle.cell.specs.Cell.{isMark};
+ghost use Rattle.group.specs.Numbers.{isMark, factorMost};
 ghost use Rattle.fix.specs.Fix.{Placed, Listed, position, spotOf, cornersOf, cornerSome, fixIn};
 ghost use Rattle.fix.specs.Parts.{Begun, refusedIn};
 
@@ -124,7 +124,7 @@ fn refused(l: Place, w: Weights, a: u64, nodes: &[i32]) -> Lookup
 // The fix of a point with the weights w of its cell's corners, whose node of lower indices stands at a. One parameter at a time, with
 // no loop and no call that is shared, so that each is compiled in its place.
 fn fix_from(l: Place, w: Weights, a: u64, nodes: &[i32], factor: i64, grid: u64) -> Lookup
-    requires { ⌜ Begun l (length (now nodes)) w a × (0 < l .np) × (natAbs factor ≤ 80000000) ⌝ }
+    requires { ⌜ Begun l (length (now nodes)) w a × (0 < l .np) × (natAbs factor ≤ factorMost) ⌝ }
     ensures { λ r. ⌜ r ≡ fixIn l (now (nodes .entry)) factor grid ⌝ }
 {
     let u = corners_at(l, nodes, a, 0);
@@ -167,9 +167,9 @@ fn fix_from(l: Place, w: Weights, a: u64, nodes: &[i32], factor: i64, grid: u64)
 }
 
 // The fix of a point in the grid of a number, from 1, with the day factor in millionths: refusal 8 where a used corner is the
-// mark, else 11 where one is beyond ±4,000,000, else the results. Each corner is read once; the mark is beyond ±4,000,000 too.
+// mark, else 11 where one is beyond the limit of node values, else the results. Each corner is read once; the mark is beyond that limit too.
 pub fn fix_in(l: Place, nodes: &[i32], factor: i64, grid: u64) -> Lookup
-    requires { ⌜ Placed l × Listed l (length (now nodes)) × (natAbs factor ≤ 80000000) ⌝ }
+    requires { ⌜ Placed l × Listed l (length (now nodes)) × (natAbs factor ≤ factorMost) ⌝ }
     ensures { λ r. ⌜ r ≡ fixIn l (now (nodes .entry)) factor grid ⌝ }
 {
     if l.np == 0 {

@@ -1,6 +1,7 @@
 -- The group handed back beside a refusal: all numbers 0, names empty, the unit arc-second.
 use lib.IntN.{pos}
 use lib.ListN.{replicate}
+use Rattle.group.specs.Numbers.{nameMost, rampsMost, gridsMost}
 use Rattle.group.specs.declared.Name.{Name}
 use Rattle.group.specs.declared.Ramp.{Ramp}
 use Rattle.group.specs.declared.Grid.{Grid}
@@ -8,7 +9,7 @@ use Rattle.group.specs.declared.Group.{Group}
 use Rattle.group.specs.declared.Unit.the-variants.{ArcSecond}
 
 abbrev pub blankName : Name
-blankName = record { bytes = replicate 24 0; len = 0 }
+blankName = record { bytes = replicate nameMost 0; len = 0 }
 
 abbrev pub blankRamp : Ramp
 blankRamp = record { a = pos 0; s0 = pos 0; b = pos 0; s1 = pos 0 }
@@ -36,6 +37,6 @@ blankGroup =
       parameters = 0;
       ramps = 0;
       grids = 0;
-      ramp = replicate 8 blankRamp;
-      grid = replicate 64 blankGrid;
+      ramp = replicate rampsMost blankRamp;
+      grid = replicate gridsMost blankGrid;
     }

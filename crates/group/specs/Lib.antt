@@ -1,3 +1,5 @@
+-- What the contracts of `group` cite.
+pub mod Numbers
 pub mod Record
 pub mod Limits
 pub mod Refusals

@@ -3,11 +3,13 @@
 use Prim.Native.Nat.{ℕ}
 use mathlib.Core.Bool.{Bool, _&&_, _||_}
 use lib.Dec.{leb, ltb, eqb}
-use lib.IntN.{ℤ, pos, negsuc}
+use lib.IntN.{ℤ, pos, negsuc, negℤ}
 use lib.Signed.{leZ}
 use lib.ListN.{getD}
 use Rattle.numbers.specs.First.{every}
-use Rattle.numbers.specs.Order.{between, within}
+use Rattle.numbers.specs.Order.{between}
+use Rattle.group.specs.Numbers.{lonEdgeFits, latEdgeFits, dayFits, rampFactorFits, isZero}
+use Rattle.group.specs.Numbers.{nameMost, quantumMost, parametersMost, rampsMost, gridsMost, spacingMost, nodesLeast, nodesMost, rankMost, startMost}
 use Rattle.group.specs.declared.Name.{Name}
 use Rattle.group.specs.declared.Ramp.{Ramp}
 use Rattle.group.specs.declared.Grid.{Grid}
@@ -23,35 +25,35 @@ byteFits n k = (ltb k (n .len) && nameByte (getD (n .bytes) k 0)) || (leb (n .le
 
 -- 1 to 24 bytes of the alphabet, and 0 behind them
 unfoldable pub nameFits : Name → Bool
-nameFits n = leb 1 (n .len) && leb (n .len) 24 && every (byteFits n) 24
+nameFits n = leb 1 (n .len) && leb (n .len) nameMost && every (byteFits n) nameMost
 
 -- no byte, and 0 in all 24 places
 unfoldable pub nameBlank : Name → Bool
-nameBlank n = eqb (n .len) 0 && every (byteFits n) 24
+nameBlank n = eqb (n .len) 0 && every (byteFits n) nameMost
 
--- size 1 to 1,000,000
+-- a size from 1 on
 abbrev pub spacingFits : ℤ → Bool
-spacingFits d = between (negsuc 999999) (negsuc 0) d || between (pos 1) (pos 1000000) d
+spacingFits d = between (negℤ (pos spacingMost)) (negsuc 0) d || between (pos 1) (pos spacingMost) d
 
 -- Q NP and the counts of ramps and grids
 abbrev pub headNumbersFit : ℤ → ℤ → ℤ → ℤ → Bool
 headNumbersFit quantum parameters ramps grids =
-    between (pos 0) (pos 20) quantum && between (pos 1) (pos 3) parameters && between (pos 0) (pos 8) ramps
-    && between (pos 1) (pos 64) grids
+    between (pos 0) (pos quantumMost) quantum && between (pos 1) (pos parametersMost) parameters && between (pos 0) (pos rampsMost) ramps
+    && between (pos 1) (pos gridsMost) grids
 
 -- A S0 B S1, and A not above B
 abbrev pub rampNumbersFit : ℤ → ℤ → ℤ → ℤ → Bool
-rampNumbersFit a s0 b s1 = within 1000000 a && within 10000000 s0 && within 1000000 b && within 10000000 s1 && leZ a b
+rampNumbersFit a s0 b s1 = dayFits a && rampFactorFits s0 && dayFits b && rampFactorFits s1 && leZ a b
 
 -- LON LAT DLON DLAT
 abbrev pub originFits : ℤ → ℤ → ℤ → ℤ → Bool
-originFits lon lat dlon dlat = within 1296000000 lon && within 324000000 lat && spacingFits dlon && spacingFits dlat
+originFits lon lat dlon dlat = lonEdgeFits lon && latEdgeFits lat && spacingFits dlon && spacingFits dlat
 
 -- NI NJ RANK START
 abbrev pub countsFit : ℤ → ℤ → ℤ → ℤ → Bool
 countsFit ni nj rank start =
-    between (pos 2) (pos 16384) ni && between (pos 2) (pos 16384) nj && between (pos 1) (pos 1000) rank
-    && between (pos 0) (pos 16777215) start
+    between (pos nodesLeast) (pos nodesMost) ni && between (pos nodesLeast) (pos nodesMost) nj && between (pos 1) (pos rankMost) rank
+    && between (pos 0) (pos startMost) start
 
 -- the group line
 unfoldable pub headFits : Group → Bool
@@ -70,10 +72,10 @@ gridFits g =
 
 -- an unused ramp: four zeros
 abbrev pub rampBlank : Ramp → Bool
-rampBlank r = within 0 (r .a) && within 0 (r .s0) && within 0 (r .b) && within 0 (r .s1)
+rampBlank r = isZero (r .a) && isZero (r .s0) && isZero (r .b) && isZero (r .s1)
 
 -- an unused grid: no name and eight zeros
 unfoldable pub gridBlank : Grid → Bool
 gridBlank g =
-    nameBlank (g .name) && (within 0 (g .lon .0) && within 0 (g .lat .0) && within 0 (g .dlon) && within 0 (g .dlat))
+    nameBlank (g .name) && (isZero (g .lon .0) && isZero (g .lat .0) && isZero (g .dlon) && isZero (g .dlat))
     && (eqb (g .ni) 0 && eqb (g .nj) 0 && eqb (g .rank) 0 && eqb (g .start) 0)

@@ -4,15 +4,97 @@ ghost use mathlib.Core.Bool.{not, _&&_, _||_};
 ghost use lib.Dec.{leb, ltb, eqb};
 ghost use lib.IntN.{pos};
 ghost use Rattle.numbers.specs.First.{every};
-ghost use Rattle.numbers.specs.Order.{within};
+ghost use Rattle.group.specs.Numbers.{nameMost, isZero};
 ghost use Rattle.group.specs.Blank.{blankName, blankRamp, blankGrid, blankGroup};
 ghost use Rattle.group.specs.Limits.{nameByte, byteFits, nameFits, nameBlank, rampFits, rampBlank, originFits, countsFit, headNumbersFit, gridFits, gridBlank};
 ghost use Rattle.group.specs.Refusals.{inTable};
 
-// A longitude in milliarcseconds (mas), admitted from -1,296,000,000 to 1,296,000,000.
+// Milliarcseconds (mas) in a degree.
+pub const MAS_IN_DEGREE: u64 = 3600000;
+
+// Where a grid's edges may lie, in mas.
+pub const LON_EDGE_MOST: i64 = 1296000000;
+
+pub const LON_EDGE_LEAST: i64 = -LON_EDGE_MOST;
+
+pub const LAT_EDGE_MOST: i64 = 324000000;
+
+pub const LAT_EDGE_LEAST: i64 = -LAT_EDGE_MOST;
+
+// Where points and the sides of areas may lie, in mas.
+pub const LON_MOST: i64 = 1296000000;
+
+pub const LON_LEAST: i64 = -LON_MOST;
+
+pub const LAT_MOST: i64 = 324000000;
+
+pub const LAT_LEAST: i64 = -LAT_MOST;
+
+// Distances are counted from so far west and so far south of 0, in mas.
+pub const LON_ZERO: u32 = 1296000000;
+
+pub const LAT_ZERO: u32 = 324000000;
+
+// The bytes of a name.
+pub const NAME_MOST: usize = 24;
+
+// Q, NP and the counts of ramps and grids.
+pub const QUANTUM_MOST: u64 = 20;
+
+pub const PARAMETERS_MOST: u64 = 3;
+
+pub const RAMPS_MOST: usize = 8;
+
+pub const GRIDS_MOST: usize = 64;
+
+// The size of a spacing, in mas.
+pub const SPACING_MOST: i64 = 1000000;
+
+pub const SPACING_LEAST: i64 = -SPACING_MOST;
+
+// Nodes along an axis, a rank and the first position in the node list.
+pub const NODES_LEAST: u64 = 2;
+
+pub const NODES_MOST: u64 = 16384;
+
+pub const RANK_MOST: u64 = 1000;
+
+pub const START_MOST: u64 = 16777215;
+
+// Where every node range has ended.
+pub const LIST_MOST: u64 = START_MOST + 1;
+
+// What a node holds, in steps: a value, or the no-data mark.
+pub const VALUE_MOST: i32 = 4000000;
+
+pub const VALUE_LEAST: i32 = -VALUE_MOST;
+
+pub const MARK: i32 = -2147483648;
+
+// A day.
+pub const DAY_MOST: i64 = 1000000;
+
+pub const DAY_LEAST: i64 = -DAY_MOST;
+
+// The factor 1, and the size of a ramp's factor, in millionths.
+pub const FACTOR_ONE: i64 = 1000000;
+
+pub const RAMP_FACTOR_MOST: i64 = 10000000;
+
+pub const RAMP_FACTOR_LEAST: i64 = -RAMP_FACTOR_MOST;
+
+// The size of a sum of factors, in millionths, and of a result, in steps.
+pub const FACTOR_MOST: u64 = RAMPS_MOST as u64 * RAMP_FACTOR_MOST as u64;
+
+pub const RESULT_MOST: u64 = VALUE_MOST as u64 * FACTOR_MOST / FACTOR_ONE as u64;
+
+// What stands for a number below zero where the record is unsigned: beyond every limit.
+pub const BEYOND: u64 = 18446744073709551615;
+
+// A longitude in mas: a point's lies from LON_LEAST to LON_MOST, a grid's edge from LON_EDGE_LEAST to LON_EDGE_MOST.
 pub struct Longitude(pub i64);
 
-// A latitude in mas, admitted from -324,000,000 to 324,000,000.
+// A latitude in mas, with limits of the same kind.
 pub struct Latitude(pub i64);
 
 // A point, in mas.
@@ -23,7 +105,7 @@ pub struct Point {
 
 // A name of 1 to 24 bytes of A to Z, a to z, 0 to 9, _ and -; every byte behind its length is 0.
 pub struct Name {
-    pub bytes: [u8; 24],
+    pub bytes: [u8; NAME_MOST],
     pub len: u64,
 }
 
@@ -62,8 +144,8 @@ pub struct Group {
     pub parameters: u64,
     pub ramps: u64,
     pub grids: u64,
-    pub ramp: [Ramp; 8],
-    pub grid: [Grid; 64],
+    pub ramp: [Ramp; RAMPS_MOST],
+    pub grid: [Grid; GRIDS_MOST],
 }
 
 // A refusal of document 01: its number, and the line, grid or position that it names, 0 if none.
@@ -106,12 +188,12 @@ fn byte_bad(b: u8, len: usize, i: usize) -> bool
 
 // Whether each of a name's 24 bytes is right.
 fn bytes_fit(name: Name) -> bool
-    ensures { λ r. ⌜ r ≡ every (byteFits name) 24 ⌝ }
+    ensures { λ r. ⌜ r ≡ every (byteFits name) nameMost ⌝ }
 {
     let len = name.len as usize;
     let mut fit = true;
     let mut i: usize = 0;
-    while i < 24 {
+    while i < NAME_MOST {
         let b = name.bytes[i];
         fit = fit & !byte_bad(b, len, i);
         i += 1;
@@ -124,7 +206,7 @@ pub fn name_fits(name: Name) -> bool
     ensures { λ r. ⌜ r ≡ nameFits name ⌝ }
 {
     let bytes = bytes_fit(name);
-    (1 <= name.len) & (name.len <= 24) & bytes
+    (1 <= name.len) & (name.len <= NAME_MOST as u64) & bytes
 }
 
 // Whether a name is that of an unused entry.
@@ -133,7 +215,7 @@ fn name_blank(name: Name) -> bool
 {
     let mut clear = true;
     let mut i: usize = 0;
-    while i < 24 {
+    while i < NAME_MOST {
         let b = name.bytes[i];
         clear = clear & (b == 0);
         i += 1;
@@ -145,20 +227,20 @@ fn name_blank(name: Name) -> bool
 pub fn head_numbers_fit(quantum: u64, parameters: u64, ramps: u64, grids: u64) -> bool
     ensures { λ r. ⌜ r ≡ headNumbersFit (pos quantum) (pos parameters) (pos ramps) (pos grids) ⌝ }
 {
-    (quantum <= 20)
-        & ((1 <= parameters) & (parameters <= 3))
-        & (ramps <= 8)
-        & ((1 <= grids) & (grids <= 64))
+    (quantum <= QUANTUM_MOST)
+        & ((1 <= parameters) & (parameters <= PARAMETERS_MOST))
+        & (ramps <= RAMPS_MOST as u64)
+        & ((1 <= grids) & (grids <= GRIDS_MOST as u64))
 }
 
 // Whether a ramp is within its limits, with a not above b.
 pub fn ramp_fits(r: Ramp) -> bool
     ensures { λ t. ⌜ t ≡ rampFits r ⌝ }
 {
-    ((-1000000 <= r.a) & (r.a <= 1000000))
-        & ((-10000000 <= r.s0) & (r.s0 <= 10000000))
-        & ((-1000000 <= r.b) & (r.b <= 1000000))
-        & ((-10000000 <= r.s1) & (r.s1 <= 10000000))
+    ((DAY_LEAST <= r.a) & (r.a <= DAY_MOST))
+        & ((RAMP_FACTOR_LEAST <= r.s0) & (r.s0 <= RAMP_FACTOR_MOST))
+        & ((DAY_LEAST <= r.b) & (r.b <= DAY_MOST))
+        & ((RAMP_FACTOR_LEAST <= r.s1) & (r.s1 <= RAMP_FACTOR_MOST))
         & (r.a <= r.b)
 }
 
@@ -176,20 +258,22 @@ pub fn ramp_blank(r: Ramp) -> bool
 fn origin_fits(g: Grid) -> bool
     ensures { λ r. ⌜ r ≡ originFits (g .lon .0) (g .lat .0) (g .dlon) (g .dlat) ⌝ }
 {
-    ((-1296000000 <= g.lon.0) & (g.lon.0 <= 1296000000))
-        & ((-324000000 <= g.lat.0) & (g.lat.0 <= 324000000))
-        & (((-1000000 <= g.dlon) & (g.dlon <= -1)) | ((1 <= g.dlon) & (g.dlon <= 1000000)))
-        & (((-1000000 <= g.dlat) & (g.dlat <= -1)) | ((1 <= g.dlat) & (g.dlat <= 1000000)))
+    ((LON_EDGE_LEAST <= g.lon.0) & (g.lon.0 <= LON_EDGE_MOST))
+        & ((LAT_EDGE_LEAST <= g.lat.0) & (g.lat.0 <= LAT_EDGE_MOST))
+        & (((SPACING_LEAST <= g.dlon) & (g.dlon <= -1))
+            | ((1 <= g.dlon) & (g.dlon <= SPACING_MOST)))
+        & (((SPACING_LEAST <= g.dlat) & (g.dlat <= -1))
+            | ((1 <= g.dlat) & (g.dlat <= SPACING_MOST)))
 }
 
 // Whether a grid's node counts, rank and start are within their limits.
 fn counts_fit(g: Grid) -> bool
     ensures { λ r. ⌜ r ≡ countsFit (pos (g .ni)) (pos (g .nj)) (pos (g .rank)) (pos (g .start)) ⌝ }
 {
-    ((2 <= g.ni) & (g.ni <= 16384))
-        & ((2 <= g.nj) & (g.nj <= 16384))
-        & ((1 <= g.rank) & (g.rank <= 1000))
-        & (g.start <= 16777215)
+    ((NODES_LEAST <= g.ni) & (g.ni <= NODES_MOST))
+        & ((NODES_LEAST <= g.nj) & (g.nj <= NODES_MOST))
+        & ((1 <= g.rank) & (g.rank <= RANK_MOST))
+        & (g.start <= START_MOST)
 }
 
 // Whether a grid's name is well formed and its numbers are within their limits.
@@ -201,7 +285,7 @@ pub fn grid_fits(g: Grid) -> bool
 
 // Whether a grid's signed numbers are all 0.
 fn origin_blank(g: Grid) -> bool
-    ensures { λ r. ⌜ r ≡ (within 0 (g .lon .0) && within 0 (g .lat .0) && within 0 (g .dlon) && within 0 (g .dlat)) ⌝ }
+    ensures { λ r. ⌜ r ≡ (isZero (g .lon .0) && isZero (g .lat .0) && isZero (g .dlon) && isZero (g .dlat)) ⌝ }
 {
     ((0 <= g.lon.0) & (g.lon.0 <= 0))
         & ((0 <= g.lat.0) & (g.lat.0 <= 0))
@@ -228,7 +312,7 @@ pub fn blank_name() -> Name
     ensures { λ r. ⌜ r ≡ blankName ⌝ }
 {
     Name {
-        bytes: [0; 24],
+        bytes: [0; NAME_MOST],
         len: 0,
     }
 }
@@ -270,8 +354,8 @@ pub fn blank_group() -> Group
     let n = blank_name();
     let g = blank_grid();
     let r = blank_ramp();
-    let rs = [r; 8];
-    let gs = [g; 64];
+    let rs = [r; RAMPS_MOST];
+    let gs = [g; GRIDS_MOST];
     Group {
         name: n,
         unit: Unit::ArcSecond,

@@ -12,6 +12,7 @@ use Rattle.text.specs.Decimal.{intText}
 use Rattle.text.proofs.PutLaws.{line-length}
 use Rattle.text.proofs.DecimalLaws.{intText-length, posText-length}
 use Rattle.text.proofs.FieldLaws.{and-parts}
+use Rattle.group.specs.Numbers.{nameMost}
 use Rattle.group.specs.Limits.{nameFits, headNumbersFit, headFits, rampFits, gridFits}
 use Rattle.group.specs.Record.{noRamp, noGrid, rampAt, gridAt}
 use Rattle.group.specs.declared.Name.{Name}
@@ -35,7 +36,7 @@ use Rattle.line.proofs.KindLaws.{grid-name, grid-numbers}
 
 -- ---- the parts of a line
 
-name-length : (n : Name) → nameFits n ≡ true → length (nameText n) ≤ 24
+name-length : (n : Name) → nameFits n ≡ true → length (nameText n) ≤ nameMost
 name-length n e = let l = name-len n e .1 in let k = length-take (n .len) (n .bytes) in omega arith
 
 unit-length : (u : U.Unit) → length (unitText u) ≤ 10

@@ -1,7 +1,7 @@
 -- The group of every reading has lists of its arrays' lengths, as every record of the code has.
 use Prim.Native.Nat.{ℕ, zero, suc, _+_, _-_, _≤_, _<_}
 use mathlib.Core.Path.{_≡_, refl, sym, ap, _∙_, subst}
-use mathlib.Core.List.{List, [], _∷_, _++_}
+use mathlib.Core.List.{List, [], _∷_}
 use native.Mathlib.Omega.{arith}
 use native.Mathlib.Decide.{decLt}
 use lib.ListN.{length, getD, replicate, length-append, length-replicate, getD-replicate, List·getD-append}
@@ -13,7 +13,7 @@ use Rattle.group.specs.declared.Verdict.the-variants.{Accepted, Refused}
 use Rattle.group.specs.declared.Ramp.{Ramp}
 use Rattle.group.specs.declared.Grid.{Grid}
 use Rattle.group.specs.declared.Group.{Group}
-use Rattle.group.specs.Record.{noGrid, gridAt}
+use Rattle.group.specs.Record.{noGrid}
 use Rattle.group.specs.Blank.{blankRamp, blankGrid, blankGroup}
 use Rattle.judge.specs.Judge.{judged}
 use Rattle.line.specs.declared.Head.{Head}

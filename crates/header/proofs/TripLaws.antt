@@ -10,6 +10,7 @@ use lib.Seq.{take-at}
 use Rattle.numbers.specs.First.{first, some}
 use Rattle.text.specs.Parts.{split, join}
 use Rattle.text.proofs.PartLaws.{Free, join-split}
+use Rattle.group.specs.Numbers.{rampsMost, gridsMost}
 use Rattle.group.specs.Limits.{rampFits, gridFits}
 use Rattle.group.specs.Refusals.{refusal}
 use Rattle.group.specs.declared.Refusal.{Refusal}
@@ -194,7 +195,7 @@ same-bytes t g e = in-lines (readLines t) refl e
     in-verdict h rs ds (Refused r) s f = let y : Refused r ≡ Accepted = ap (λ (a : Reading). a .verdict) f in absurd (let z : _≡_ {A = ℕ} 0 1 = cc in omega arith)
     in-verdict h rs ds Accepted s f =
         ap headerText (sym (ap (λ (a : Reading). a .group) f))
-        ∙ (λ i. linesText rampText gridText h (take-entries 8 blankRamp rs (h .ramps) (s .ramps) i) (take-entries 64 blankGrid ds (h .grids) (s .grids) i))
+        ∙ (λ i. linesText rampText gridText h (take-entries rampsMost blankRamp rs (h .ramps) (s .ramps) i) (take-entries gridsMost blankGrid ds (h .grids) (s .grids) i))
         ∙ s .text tt
 
     in-lines : (x : Header Ramp Grid) → readLines t ≡ x → judgedReading x ≡ acceptedReading g → headerText g ≡ t

@@ -11,6 +11,7 @@ use lib.ListN.{length, take, drop, length-drop, drop-of-length-le}
 use Rattle.text.specs.Parts.{glue, split, upTo}
 use Rattle.text.proofs.PartLaws.{first-part}
 use Rattle.text.proofs.FieldLaws.{length-ints}
+use Rattle.group.specs.Numbers.{rampsMost, gridsMost}
 use Rattle.group.specs.declared.Refusal.{Refusal}
 use Rattle.group.specs.declared.Verdict.{Verdict}
 use Rattle.group.specs.declared.Verdict.the-variants.{Accepted, Refused}
@@ -109,15 +110,15 @@ module _ {R D : Type 0} (ramp : ℕ → List ℕ → Line Refusal R) (grid : Hea
       head-goes h g = head-line ∙ ap (λ (l : Line Refusal Head). afterHeadOf ramp grid (onLine l (items [] (split 10 (drop (e + 1) text))))) g
 
 -- the counts of a group line that is read
-pub head-counts : (n : ℕ) (line : List ℕ) (h : Head) → headLine n line ≡ good h → (h .ramps ≤ 8) × (h .grids ≤ 64)
+pub head-counts : (n : ℕ) (line : List ℕ) (h : Head) → headLine n line ≡ good h → (h .ramps ≤ rampsMost) × (h .grids ≤ gridsMost)
 head-counts n line h e = ⊎-elim (λ w. go (w .0) (w .2)) (λ w. let z : _≡_ {A = ℕ} 0 1 = cc in absurd (omega arith)) (keyed-good groupWord of (λ fs. bad (refusal 1 n)) (split 9 line) h e)
   where
     of : List (List ℕ) → Line Refusal Head
     of = fields 2 4 headTexts headFit headOf (refusal 1 n) (refusal 2 n)
 
-    go : (fs : List (List ℕ)) → of fs ≡ good h → (h .ramps ≤ 8) × (h .grids ≤ 64)
+    go : (fs : List (List ℕ)) → of fs ≡ good h → (h .ramps ≤ rampsMost) × (h .grids ≤ gridsMost)
     go fs f =
         let g = fields-good 2 4 headTexts headFit headOf (refusal 1 n) (refusal 2 n) fs h f in
         let k : length (g .zs) ≡ 4 = length-ints (drop 2 fs) (g .zs) (g .numbered) ∙ length-drop 2 fs ∙ (let c = g .count in omega arith) in
-        subst (λ (x : Head). (x .ramps ≤ 8) × (x .grids ≤ 64)) (g .whole)
-        (four-of (λ zs. headFit zs ≡ true → (headOf (g .b) zs .ramps ≤ 8) × (headOf (g .b) zs .grids ≤ 64)) (λ a b c d f. let s = head-sizes a b c d f in (s .2 .0, s .3 .0)) (g .zs) k (g .fit))
+        subst (λ (x : Head). (x .ramps ≤ rampsMost) × (x .grids ≤ gridsMost)) (g .whole)
+        (four-of (λ zs. headFit zs ≡ true → (headOf (g .b) zs .ramps ≤ rampsMost) × (headOf (g .b) zs .grids ≤ gridsMost)) (λ a b c d f. let s = head-sizes a b c d f in (s .2 .0, s .3 .0)) (g .zs) k (g .fit))

@@ -4,6 +4,7 @@ use mathlib.Core.Path.{_≡_}
 use mathlib.Core.Bool.{true}
 use mathlib.Core.List.{List}
 use lib.ListN.{length, take, drop}
+use Rattle.group.specs.Numbers.{nameMost, rampsMost, gridsMost}
 use Rattle.group.specs.Record.{rampAt, gridAt}
 use Rattle.group.specs.Limits.{nameFits, rampBlank, gridBlank}
 use Rattle.group.specs.Blank.{blankGroup}
@@ -42,18 +43,18 @@ pub record TextWritten (g : Group) (out : List ℕ) (w : Written) (after : List 
 
 -- the arrays have their lengths, as in every record of the code
 pub record Shaped (g : Group) : Type 0 where
-  pub name : length (g .name .bytes) ≡ 24
-  pub ramp : length (g .ramp) ≡ 8
-  pub grid : length (g .grid) ≡ 64
-  pub names : (k : ℕ) → k < 64 → length (gridAt g k .name .bytes) ≡ 24
+  pub name : length (g .name .bytes) ≡ nameMost
+  pub ramp : length (g .ramp) ≡ rampsMost
+  pub grid : length (g .grid) ≡ gridsMost
+  pub names : (k : ℕ) → k < gridsMost → length (gridAt g k .name .bytes) ≡ nameMost
 
 -- names are well formed with zeros behind them, and unused entries are zero; all numbers may be any, the counts among them
 pub record Formed (g : Group) : Type 0 where
   pub shape : Shaped g
   pub name : nameFits (g .name) ≡ true
-  pub names : (k : ℕ) → k < 64 → k < g .grids → nameFits (gridAt g k .name) ≡ true
-  pub no-ramp : (k : ℕ) → k < 8 → g .ramps ≤ k → rampBlank (rampAt g k) ≡ true
-  pub no-grid : (k : ℕ) → k < 64 → g .grids ≤ k → gridBlank (gridAt g k) ≡ true
+  pub names : (k : ℕ) → k < gridsMost → k < g .grids → nameFits (gridAt g k .name) ≡ true
+  pub no-ramp : (k : ℕ) → k < rampsMost → g .ramps ≤ k → rampBlank (rampAt g k) ≡ true
+  pub no-grid : (k : ℕ) → k < gridsMost → g .grids ≤ k → gridBlank (gridAt g k) ≡ true
 
 -- a group handed over as a record is judged as its text would be: the same verdict, and where accepted that group. A count beyond
 -- its limit stands in the text as it is, before the lines of all entries

@@ -3,6 +3,7 @@ use Prim.Native.Nat.{ℕ, _+_}
 use mathlib.Core.List.{List, [], _∷_, _++_}
 use lib.ListN.{take}
 use Rattle.text.specs.Parts.{split}
+use Rattle.group.specs.Numbers.{rampsMost, gridsMost}
 use Rattle.group.specs.declared.Refusal.{Refusal}
 use Rattle.group.specs.declared.Verdict.the-variants.{Accepted, Refused}
 use Rattle.group.specs.declared.Ramp.{Ramp}
@@ -66,8 +67,8 @@ groupOf h rs ds =
       parameters = h .parameters;
       ramps = h .ramps;
       grids = h .grids;
-      ramp = entries 8 blankRamp rs;
-      grid = entries 64 blankGrid ds;
+      ramp = entries rampsMost blankRamp rs;
+      grid = entries gridsMost blankGrid ds;
     }
 
 abbrev pub refusedReading : Refusal → Reading

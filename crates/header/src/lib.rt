@@ -2,6 +2,7 @@
 ghost use mathlib.Core.Path.{_≡_};
 ghost use Prim.Native.Nat.{_+_, _≤_};
 ghost use lib.ListN.{length, take, drop, replicate};
+ghost use Rattle.group.specs.Numbers.{rampsMost, gridsMost};
 ghost use Rattle.text.specs.Parts.{split};
 ghost use Rattle.text.specs.Put.{Wrote};
 ghost use Rattle.judge.specs.Judge.{judged};
@@ -25,14 +26,14 @@ use line::Head;
 // Lines read as ramps: the verdict, the entries (blank where none is read, and after a refusal), and the place behind the last.
 pub struct RampsRead {
     pub verdict: Verdict,
-    pub ramps: [Ramp; 8],
+    pub ramps: [Ramp; group::RAMPS_MOST],
     pub next: usize,
 }
 
 // Lines read as grids.
 pub struct GridsRead {
     pub verdict: Verdict,
-    pub grids: [Grid; 64],
+    pub grids: [Grid; group::GRIDS_MOST],
     pub next: usize,
 }
 
@@ -49,19 +50,19 @@ pub enum Written {
 }
 
 // Eight ramps of zeros.
-fn blank_ramps() -> [Ramp; 8]
-    ensures { λ r. ⌜ r ≡ replicate 8 blankRamp ⌝ }
+fn blank_ramps() -> [Ramp; group::RAMPS_MOST]
+    ensures { λ r. ⌜ r ≡ replicate rampsMost blankRamp ⌝ }
 {
     let ramp = blank_ramp();
-    [ramp; 8]
+    [ramp; group::RAMPS_MOST]
 }
 
-// 64 grids of zeros.
-fn blank_grids() -> [Grid; 64]
-    ensures { λ r. ⌜ r ≡ replicate 64 blankGrid ⌝ }
+// All grids of a record, of zeros.
+fn blank_grids() -> [Grid; group::GRIDS_MOST]
+    ensures { λ r. ⌜ r ≡ replicate gridsMost blankGrid ⌝ }
 {
     let grid = blank_grid();
-    [grid; 64]
+    [grid; group::GRIDS_MOST]
 }
 
 // Ramp lines of which one is refused.
@@ -90,8 +91,8 @@ fn refused_grids(refusal: Refusal) -> GridsRead
 
 // The ramps of a header, from line 2 on, which begins at `at`.
 fn read_ramps(text: &[u8], at: usize, count: u64) -> RampsRead
-    requires { ⌜ (at ≤ length (now text)) × (count ≤ 8) ⌝ }
-    ensures { λ r. ⌜ Are 8 blankRamp (now (text .entry)) (readItems rampLine count 2 (split 10 (drop at (now (text .entry))))) (r .verdict) (r .ramps) (r .next) ⌝ }
+    requires { ⌜ (at ≤ length (now text)) × (count ≤ rampsMost) ⌝ }
+    ensures { λ r. ⌜ Are rampsMost blankRamp (now (text .entry)) (readItems rampLine count 2 (split 10 (drop at (now (text .entry))))) (r .verdict) (r .ramps) (r .next) ⌝ }
 {
     let mut ramps = blank_ramps();
     let mut next = at;
@@ -124,8 +125,8 @@ fn read_ramps(text: &[u8], at: usize, count: u64) -> RampsRead
 
 // The grids of a header, from line `first` on, which begins at `at`.
 fn read_grids(text: &[u8], at: usize, count: u64, first: u64) -> GridsRead
-    requires { ⌜ (at ≤ length (now text)) × ((count ≤ 64) × (first ≤ 10)) ⌝ }
-    ensures { λ r. ⌜ Are 64 blankGrid (now (text .entry)) (readItems gridLine count first (split 10 (drop at (now (text .entry))))) (r .verdict) (r .grids) (r .next) ⌝ }
+    requires { ⌜ (at ≤ length (now text)) × ((count ≤ gridsMost) × (first ≤ rampsMost + 2)) ⌝ }
+    ensures { λ r. ⌜ Are gridsMost blankGrid (now (text .entry)) (readItems gridLine count first (split 10 (drop at (now (text .entry))))) (r .verdict) (r .grids) (r .next) ⌝ }
 {
     let mut grids = blank_grids();
     let mut next = at;
@@ -169,7 +170,7 @@ fn refused_reading(refusal: Refusal) -> Reading
 
 // The lines behind the group line, from `at` on.
 fn read_entries(text: &[u8], at: usize, head: Head) -> Reading
-    requires { ⌜ (at ≤ length (now text)) × ((head .ramps ≤ 8) × (head .grids ≤ 64)) ⌝ }
+    requires { ⌜ (at ≤ length (now text)) × ((head .ramps ≤ rampsMost) × (head .grids ≤ gridsMost)) ⌝ }
     ensures { λ r. ⌜ r ≡ linesReading (afterRampsOf rampLine gridLines head (readItems rampLine (head .ramps) 2 (split 10 (drop at (now (text .entry)))))) ⌝ }
 {
     let ramps = read_ramps(text, at, head.ramps);
@@ -246,8 +247,8 @@ pub fn read_header(text: &[u8]) -> Reading
 }
 
 // Writes the first ramps, as many as the count, a line each.
-fn put_ramps(ramps: [Ramp; 8], count: u64, out: &mut [u8], at: usize) -> usize
-    requires { ⌜ (count ≤ 8) × (at + length (closed rampText (take count ramps)) ≤ length (now out)) ⌝ }
+fn put_ramps(ramps: [Ramp; group::RAMPS_MOST], count: u64, out: &mut [u8], at: usize) -> usize
+    requires { ⌜ (count ≤ rampsMost) × (at + length (closed rampText (take count ramps)) ≤ length (now out)) ⌝ }
     ensures { λ r. ⌜ Wrote at (closed rampText (take count ramps)) (now (out .entry)) r (now (out .exit)) ⌝ }
 {
     let mut next = at;
@@ -262,7 +263,7 @@ fn put_ramps(ramps: [Ramp; 8], count: u64, out: &mut [u8], at: usize) -> usize
 }
 
 // Writes the first grids, as many as the count, a line each.
-fn put_grids(grids: [Grid; 64], count: u64, out: &mut [u8], at: usize) -> usize
+fn put_grids(grids: [Grid; group::GRIDS_MOST], count: u64, out: &mut [u8], at: usize) -> usize
     requires { ⌜ Wide grids count × (at + length (closed gridText (take count grids)) ≤ length (now out)) ⌝ }
     ensures { λ r. ⌜ Wrote at (closed gridText (take count grids)) (now (out .entry)) r (now (out .exit)) ⌝ }
 {

@@ -1,5 +1,5 @@
 -- An admitted area's sides, and its coordinates as distances from the least longitude and latitude.
-use Prim.Native.Nat.{ℕ, _+_, _≤_}
+use Prim.Native.Nat.{ℕ, _+_, _*_, _≤_}
 use mathlib.Core.Path.{_≡_, sym, _∙_}
 use mathlib.Core.Bool.{true, _&&_}
 use native.Mathlib.Omega.{arith}
@@ -10,18 +10,19 @@ use Rattle.numbers.specs.Order.{between, within, raised}
 use Rattle.numbers.proofs.Bools.{and-left, and-right, both}
 use Rattle.numbers.proofs.OrderLaws.{within-size, raised-order, raised-bound, leZ-size}
 use Rattle.numbers.proofs.Machine.{lowered-size, raised-lowered}
+use Rattle.group.specs.Numbers.{lonMost, latMost, lonZero, latZero}
 use Rattle.extent.specs.Sides.{lonFromLeast, latFromLeast}
 use Rattle.coverage.specs.InForce.{Inside}
 use Rattle.inforce.specs.declared.Area.{Area}
 use Rattle.inforce.specs.Area.{lonFits, latFits, areaFits, InArea, lonAt, latAt, areaFromLeast}
 
--- two sides within a limit, the first not above the second
-module _ (m : ℕ) (a b : ℤ) (e : (within m a && within m b && leZ a b) ≡ true) where
+-- two sides within a limit, the first not above the second, and distances from a zero that is no nearer
+module _ (l m : ℕ) (near : l ≤ m) (a b : ℤ) (e : (within l a && within l b && leZ a b) ≡ true) where
   low-size : natAbs a ≤ m
-  low-size = within-size m a (and-left (within m a) (within m b) (and-left (within m a && within m b) (leZ a b) e))
+  low-size = omega (arith, near, within-size l a (and-left (within l a) (within l b) (and-left (within l a && within l b) (leZ a b) e)))
 
   high-size : natAbs b ≤ m
-  high-size = within-size m b (and-right (within m a) (within m b) (and-left (within m a && within m b) (leZ a b) e))
+  high-size = omega (arith, near, within-size l b (and-right (within l a) (within l b) (and-left (within l a && within l b) (leZ a b) e)))
 
   -- a number between them is one between their distances, and back
   pub span-size : (x : ℤ) → between a b x ≡ true → natAbs x ≤ m
@@ -51,26 +52,26 @@ module _ (a : Area) (e : areaFits a ≡ true) where
   lat-fits = and-right (lonFits (a .lon)) (latFits (a .lat)) e
 
   -- a coordinate of the area by its distances
-  pub area-size : (x y : ℤ) → InArea a x y → (natAbs x ≤ 1296000000) × (natAbs y ≤ 324000000)
-  area-size x y h = (span-size 1296000000 (a .lon .west .0) (a .lon .east .0) lon-fits x (h .lon), span-size 324000000 (a .lat .south .0) (a .lat .north .0) lat-fits y (h .lat))
+  pub area-size : (x y : ℤ) → InArea a x y → (natAbs x ≤ lonZero) × (natAbs y ≤ latZero)
+  area-size x y h = (span-size lonMost lonZero (omega arith) (a .lon .west .0) (a .lon .east .0) lon-fits x (h .lon), span-size latMost latZero (omega arith) (a .lat .south .0) (a .lat .north .0) lat-fits y (h .lat))
 
   pub area-inside : (x y : ℤ) → InArea a x y → Inside (areaFromLeast a) (lonFromLeast x) (latFromLeast y)
   area-inside x y h =
-      let p = span-in 1296000000 (a .lon .west .0) (a .lon .east .0) lon-fits x (h .lon) in
-      let q = span-in 324000000 (a .lat .south .0) (a .lat .north .0) lat-fits y (h .lat) in
+      let p = span-in lonMost lonZero (omega arith) (a .lon .west .0) (a .lon .east .0) lon-fits x (h .lon) in
+      let q = span-in latMost latZero (omega arith) (a .lat .south .0) (a .lat .north .0) lat-fits y (h .lat) in
       record { west≤ = p .0; ≤east = p .1; south≤ = q .0; ≤north = q .1 }
 
-  -- distances inside are at most twice the limits, and back in the area as coordinates
-  pub inside-most : (x y : ℕ) → Inside (areaFromLeast a) x y → (x ≤ 2592000000) × (y ≤ 648000000)
+  -- distances inside are at most twice that of 0, and back in the area as coordinates
+  pub inside-most : (x y : ℕ) → Inside (areaFromLeast a) x y → (x ≤ 2 * lonZero) × (y ≤ 2 * latZero)
   inside-most x y i =
-      (omega (arith, i .≤east, span-most 1296000000 (a .lon .west .0) (a .lon .east .0) lon-fits), omega (arith, i .≤north, span-most 324000000 (a .lat .south .0) (a .lat .north .0) lat-fits))
+      (omega (arith, i .≤east, span-most lonMost lonZero (omega arith) (a .lon .west .0) (a .lon .east .0) lon-fits), omega (arith, i .≤north, span-most latMost latZero (omega arith) (a .lat .south .0) (a .lat .north .0) lat-fits))
 
   pub inside-area : (x y : ℕ) → Inside (areaFromLeast a) x y → InArea a (lonAt x) (latAt y)
   inside-area x y i =
       let m = inside-most x y i in
-      let p = raised-lowered 1296000000 x (m .0) in
-      let q = raised-lowered 324000000 y (m .1) in
+      let p = raised-lowered lonZero x (m .0) in
+      let q = raised-lowered latZero y (m .1) in
       record {
-        lon = in-span 1296000000 (a .lon .west .0) (a .lon .east .0) lon-fits (lonAt x) (lowered-size 1296000000 x (m .0)) (omega (arith, i .west≤)) (omega (arith, i .≤east));
-        lat = in-span 324000000 (a .lat .south .0) (a .lat .north .0) lat-fits (latAt y) (lowered-size 324000000 y (m .1)) (omega (arith, i .south≤)) (omega (arith, i .≤north));
+        lon = in-span lonMost lonZero (omega arith) (a .lon .west .0) (a .lon .east .0) lon-fits (lonAt x) (lowered-size lonZero x (m .0)) (omega (arith, i .west≤)) (omega (arith, i .≤east));
+        lat = in-span latMost latZero (omega arith) (a .lat .south .0) (a .lat .north .0) lat-fits (latAt y) (lowered-size latZero y (m .1)) (omega (arith, i .south≤)) (omega (arith, i .≤north));
       }

@@ -3,7 +3,7 @@ use Prim.Native.Nat.{ℕ, zero, suc, _+_, _-_, _≤_, _<_}
 use mathlib.Core.Path.{_≡_, refl, sym, _∙_, ap, ap₂, subst}
 use mathlib.Core.Bool.{true}
 use mathlib.Core.List.{List, [], _∷_, map}
-use mathlib.Core.Logic.{_⊎_, inl, inr, ⊎-elim}
+use mathlib.Core.Logic.{inl, inr, ⊎-elim}
 use native.Mathlib.Omega.{arith}
 use lib.IntN.{ℤ, pos, _-ℤ_}
 use lib.ListN.{length, getD, replicate, length-append, length-map, length-replicate, List·getD-append}
@@ -13,13 +13,14 @@ use Rattle.numbers.proofs.Diff.{diff-pos, diff--, diff-<, diff-≤}
 use Rattle.numbers.proofs.Machine.{lowered-raised}
 use Rattle.group.specs.declared.Group.{Group}
 use Rattle.group.specs.declared.Verdict.the-variants.{Accepted}
+use Rattle.group.specs.Numbers.{gridsMost, lonZero, latZero}
 use Rattle.group.specs.Record.{gridAt}
 use Rattle.extent.specs.Extent.{holds}
 use Rattle.extent.specs.Sides.{lonFromLeast, latFromLeast}
 use Rattle.judge.specs.Judge.{judged}
 use Rattle.judge.proofs.Accepted.{accepted-head}
-use Rattle.choice.specs.InGroup.{chosenIn}
-use Rattle.choice.proofs.ChoiceLaws.{chosen-unblocked}
+use Rattle.ingroup.specs.InGroup.{chosenIn}
+use Rattle.ingroup.proofs.InGroupLaws.{chosen-holds}
 use Rattle.coverage.specs.declared.Entry.{Entry}
 use Rattle.coverage.specs.InForce as flat
 use Rattle.inforce.specs.declared.Area.{Area}
@@ -44,13 +45,13 @@ module _ (m a b : ℕ) where
       let q = diff-- (diff-pos b) (diff-pos m) .diff in
       diff-≤ (omega arith)
 
--- what stands in each of the 64 places
+-- what stands in each place
 shown-at : (es : List Entry) (i : ℕ) → i < length es → getD (map shown es) i noGrid ≡ shown (getD es i flat.noEntry)
 shown-at [] i h = absurd (omega arith)
 shown-at (e ∷ es) zero h = refl
 shown-at (e ∷ es) (suc i) h = shown-at es i (omega arith)
 
-none-at : (n i : ℕ) → getD (replicate n noGrid) i noGrid ≡ noGrid
+pub none-at : (n i : ℕ) → getD (replicate n noGrid) i noGrid ≡ noGrid
 none-at zero i = refl
 none-at (suc n) zero = refl
 none-at (suc n) (suc i) = none-at n i
@@ -58,16 +59,16 @@ none-at (suc n) (suc i) = none-at n i
 module _ (es : List Entry) where
   used : (i : ℕ) → i < length es → entryAt (listed es) i ≡ shown (getD es i flat.noEntry)
   used i h =
-      List·getD-append (map shown es) (replicate (64 - length es) noGrid) noGrid i (omega (arith, length-map es shown)) ∙ shown-at es i h
+      List·getD-append (map shown es) (replicate (gridsMost - length es) noGrid) noGrid i (omega (arith, length-map es shown)) ∙ shown-at es i h
 
   unused : (i : ℕ) → length es ≤ i → entryAt (listed es) i ≡ noGrid
   unused i h =
       let e : i ≡ length (map shown es) + (i - length es) = omega (arith, length-map es shown) in
-      rw e (getD-append-add (map shown es) (replicate (64 - length es) noGrid) (i - length es) noGrid ∙ none-at (64 - length es) (i - length es))
+      rw e (getD-append-add (map shown es) (replicate (gridsMost - length es) noGrid) (i - length es) noGrid ∙ none-at (gridsMost - length es) (i - length es))
 
-  whole : length es ≤ 64 → length (listed es .entries) ≡ 64
+  whole : length es ≤ gridsMost → length (listed es .entries) ≡ gridsMost
   whole h =
-      omega (arith, length-append (map shown es) (replicate (64 - length es) noGrid), length-map es shown, length-replicate (64 - length es) noGrid)
+      omega (arith, length-append (map shown es) (replicate (gridsMost - length es) noGrid), length-map es shown, length-replicate (gridsMost - length es) noGrid)
 
 module _ (g : Group) (e : judged g ≡ Accepted) (a : Area) (f : areaFits a ≡ true) where
   abbrev es : List Entry
@@ -77,7 +78,7 @@ module _ (g : Group) (e : judged g ≡ Accepted) (a : Area) (f : areaFits a ≡ 
   back : (x y : ℤ) → InArea a x y → chosenIn g (lonAt (lonFromLeast x)) (latAt (latFromLeast y)) ≡ chosenIn g x y
   back x y i =
       let n = area-size a f x y i in
-      ap₂ (chosenIn g) (lowered-raised 1296000000 x (n .0)) (lowered-raised 324000000 y (n .1))
+      ap₂ (chosenIn g) (lowered-raised lonZero x (n .0)) (lowered-raised latZero y (n .1))
 
   placed : (i : ℕ) → i < length es → Placed g a (shown (getD es i flat.noEntry))
   placed i l =
@@ -89,22 +90,17 @@ module _ (g : Group) (e : judged g ≡ Accepted) (a : Area) (f : areaFits a ≡ 
         chosen = p .chosen;
         first = λ x y h c.
             let n = area-size a f x y h in
-            let u = lowered-raised 1296000000 x (n .0) in
-            let v = lowered-raised 324000000 y (n .1) in
+            let u = lowered-raised lonZero x (n .0) in
+            let v = lowered-raised latZero y (n .1) in
             ⊎-elim
-            (λ q. inl (subst (λ (z : ℤ). latAt (t .lat) <ℤ z) v (lowered-< 324000000 (t .lat) (latFromLeast y) q)))
+            (λ q. inl (subst (λ (z : ℤ). latAt (t .lat) <ℤ z) v (lowered-< latZero (t .lat) (latFromLeast y) q)))
             (λ q.
             inr (
               ap latAt (q .0) ∙ v,
-              subst (λ (z : ℤ). lonAt (t .lon) ≤ℤ z) u (lowered-≤ 1296000000 (t .lon) (lonFromLeast x) (q .1)),
+              subst (λ (z : ℤ). lonAt (t .lon) ≤ℤ z) u (lowered-≤ lonZero (t .lon) (lonFromLeast x) (q .1)),
             ))
             (p .first (lonFromLeast x) (latFromLeast y) (area-inside a f x y h) (back x y h ∙ c));
       }
-
-  -- a chosen grid holds the point
-  held : (x y : ℤ) (k : ℕ) → chosenIn g x y ≡ suc k → (k < g .grids) × (holds (gridAt g k) x y ≡ true)
-  unfolding chosenIn
-  held x y k c = let u = chosen-unblocked (λ i. holds (gridAt g i) x y) (λ i. gridAt g i .rank) (g .grids) k c in (u .among, u .inside)
 
   of-list : GridsInForce g a (listed es)
   of-list =
@@ -125,7 +121,7 @@ module _ (g : Group) (e : judged g ≡ Accepted) (a : Area) (f : areaFits a ≡ 
             let p = placed i l in
             let t = getD es i flat.noEntry in
             let c = p .chosen ∙ sym (ap (λ (t : GridInForce). t .grid) (used es i l)) ∙ q in
-            h (lonAt (t .lon)) (latAt (t .lat)) (p .inside) (held _ _ k c .1) c;
+            h (lonAt (t .lon)) (latAt (t .lat)) (p .inside) (chosen-holds g _ _ k c .1) c;
         empty = λ h. none es refl h;
       }
     where
@@ -137,7 +133,7 @@ module _ (g : Group) (e : judged g ≡ Accepted) (a : Area) (f : areaFits a ≡ 
           let s = getD es 0 flat.noEntry in
           let k = s .grid - 1 in
           let n : s .grid ≡ suc k = omega (arith, p .number .0) in
-          let c = held (lonAt (s .lon)) (latAt (s .lat)) k (p .chosen ∙ n) in
+          let c = chosen-holds g (lonAt (s .lon)) (latAt (s .lat)) k (p .chosen ∙ n) in
           absurd (h (lonAt (s .lon)) (latAt (s .lat)) k (p .inside) (c .0) (c .1))
 
   pub demand-3 : GridsInForce g a (inForceOf g a)

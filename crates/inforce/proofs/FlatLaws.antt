@@ -1,32 +1,43 @@
 -- The list over flat lists, one rectangle a grid: it is that of the grids that the choice takes.
-use Prim.Native.Nat.{ℕ, _+_, _*_, _<_}
+use Prim.Native.Nat.{ℕ, _*_, _≤_, _<_}
 use mathlib.Core.Path.{_≡_, sym, _∙_, ap}
 use mathlib.Core.List.{List}
 use native.Mathlib.Omega.{arith}
-use lib.ListN.{length, getD, take}
+use lib.ListN.{length, take}
 use lib.Seq.{getD-take, length-take-le}
-use Rattle.choice.specs.Rect.{at}
-use Rattle.choice.proofs.PartLaws.{side, chosen-part}
+use Rattle.numbers.specs.Lists.{at, Begins}
+use Rattle.flat.specs.Lists.{Owned}
+use Rattle.flat.specs.Order.{byRank}
+use Rattle.flat.proofs.OrderSteps.{byRank≤}
+use Rattle.flat.proofs.OrderLaws.{begins-number, by-rank-alike}
+use Rattle.group.specs.Numbers.{gridsMost, rankMost}
+use Rattle.choice.proofs.PartLaws.{part-holds, chosen-part}
 use Rattle.region.specs.declared.Area.{Area}
-use Rattle.coverage.specs.Layout.{Layout, layout, chosenAt, Share, Sound}
-use Rattle.coverage.specs.InForce.{inForce, inForceBy, listed}
+use Rattle.coverage.specs.Layout.{Layout, layout, chosenAt, Sound}
+use Rattle.coverage.specs.InForce.{inForce, listed, Numbers}
 use Rattle.coverage.proofs.OneEach.{OneEach, one-chosen, one-sound}
 use Rattle.coverage.proofs.Demand3.{in-force-alike}
-use Rattle.inforce.specs.Flat.{Owned, FlatSound, flatChosen, flatListed}
+use Rattle.inforce.specs.Flat.{FlatSound, flatChosen, flatListed}
 
-module _ (sides owners ranks : List ℕ) (n : ℕ) (s : FlatSound sides ranks n) (o : Owned owners 64) (w : length owners ≡ 64) where
+-- the order of the part that the grids of the group fill has at most 64 numbers
+pub order-short : (ranks : List ℕ) (n : ℕ) → n ≤ length ranks → n ≤ gridsMost → (order : List ℕ) (count : ℕ)
+    → Begins (byRank (at (take n ranks)) (length (take n ranks)) rankMost) order count → count ≤ gridsMost
+order-short ranks n h k order count b =
+    omega (arith, b .many, byRank≤ (at (take n ranks)) (length (take n ranks)) rankMost, length-take-le n ranks h)
+
+module _ (sides owners ranks : List ℕ) (n : ℕ) (s : FlatSound sides ranks n) (o : Owned n owners) (w : length owners ≡ 64) where
   -- the parts that the grids of the group fill
   abbrev part : Layout
   part = layout (take (n * 4) sides) (take n owners) (take n ranks)
 
   sides-length : length (take (n * 4) sides) ≡ n * 4
-  sides-length = length-take-le (n * 4) sides (s .sides-room)
+  sides-length = length-take-le (n * 4) sides (s .room .sides-room)
 
   owners-length : length (take n owners) ≡ n
-  owners-length = length-take-le n owners (omega (arith, s .few))
+  owners-length = length-take-le n owners (omega (arith, s .room .few))
 
   ranks-length : length (take n ranks) ≡ n
-  ranks-length = length-take-le n ranks (s .ranks-room)
+  ranks-length = length-take-le n ranks (s .room .ranks-room)
 
   rank-at : (k : ℕ) → k < n → at (take n ranks) k ≡ at ranks k
   rank-at k l = getD-take n ranks k 0 l
@@ -38,31 +49,37 @@ module _ (sides owners ranks : List ℕ) (n : ℕ) (s : FlatSound sides ranks n)
         ranks = omega (arith, ranks-length, owners-length);
         owner = λ g l.
             let m : g < n = omega (arith, owners-length) in
-            getD-take n owners g 0 m ∙ o g (omega (arith, s .few));
-      }
-
-  share-part : (i j : ℕ) → i < n → j < n → Share (take (n * 4) sides) i j → Share sides i j
-  share-part i j l m h =
-      let x : (k : ℕ) → k < n * 4 → getD (take (n * 4) sides) k 0 ≡ getD sides k 0 = side sides ranks n 0 0 (s .sides-room) (s .ranks-room) in
-      record {
-        lon = omega (arith, h .lon, x (i * 4) (omega arith), x (i * 4 + 1) (omega arith), x (j * 4) (omega arith), x (j * 4 + 1) (omega arith));
-        lat = omega (arith, h .lat, x (i * 4 + 2) (omega arith), x (i * 4 + 3) (omega arith), x (j * 4 + 2) (omega arith), x (j * 4 + 3) (omega arith));
+            getD-take n owners g 0 m ∙ o g m;
       }
 
   pub flat-sound : Sound part
   flat-sound =
-      one-sound part one-each (omega (arith, ranks-length, s .few))
-      (λ g l. let m : g < n = omega (arith, ranks-length) in let r = s .ranked g m in let e = rank-at g m in (omega arith, omega arith))
-      (λ i j l m e h.
+      one-sound part one-each (omega (arith, ranks-length, s .room .few))
+      (λ x y i j l m e h k.
       let b : j < n = omega (arith, ranks-length) in
       let a : i < n = omega arith in
-      s .parted i j l b (sym (rank-at i a) ∙ e ∙ rank-at j b) (share-part i j a b h))
+      let p = part-holds sides ranks n x y (s .room .sides-room) (s .room .ranks-room) in
+      s .apart x y i j l b (sym (rank-at i a) ∙ e ∙ rank-at j b) (sym (p i a) ∙ h) (sym (p j b) ∙ k))
 
-  pub flat-list : (a : Area) → listed (inForce part a) ≡ flatListed sides ranks n a
-  unfolding flatListed
-  flat-list a =
-      ap listed
-      (in-force-alike (chosenAt part) (flatChosen sides ranks n) (at (take n ranks)) (at ranks) a
-      (λ x y i. one-chosen part one-each x y ∙ chosen-part sides ranks n x y (s .sides-room) (s .ranks-room)) (length (take n ranks))
-      (λ g l. rank-at g (omega (arith, ranks-length)))
-      ∙ ap (λ (m : ℕ). inForceBy (flatChosen sides ranks n) (at ranks) m a) ranks-length)
+  -- the order by the part's ranks
+  part-order : byRank (at (take n ranks)) (length (take n ranks)) rankMost ≡ byRank (at ranks) n rankMost
+  part-order = ap (λ (m : ℕ). byRank (at (take n ranks)) m rankMost) ranks-length ∙ by-rank-alike (at (take n ranks)) (at ranks) n rankMost rank-at
+
+  module _ (order : List ℕ) (count : ℕ) (b : Begins (byRank (at (take n ranks)) (length (take n ranks)) rankMost) order count) where
+    pub order-numbers : Numbers (length (take n ranks)) (take count order)
+    order-numbers =
+        let q = ap length (b .same) in
+        record {
+          few = omega (arith, b .many, order-short ranks n (s .room .ranks-room) (s .room .few) order count b);
+          each = λ i l.
+              let k : i < count = omega (arith, b .many) in
+              rw (getD-take count order i 0 k) (begins-number (at (take n ranks)) (length (take n ranks)) rankMost order count b i k);
+        }
+
+    pub flat-list : (a : Area) → listed (inForce part (take count order) a) ≡ flatListed sides ranks n a
+    unfolding flatListed
+    flat-list a =
+        ap listed
+        (ap (λ (ns : List ℕ). inForce part ns a) (b .same ∙ part-order)
+        ∙ in-force-alike (chosenAt part) (flatChosen sides ranks n) a
+        (λ x y i. one-chosen part one-each x y ∙ chosen-part sides ranks n x y (s .room .sides-room) (s .room .ranks-room)) (byRank (at ranks) n rankMost))

@@ -1,30 +1,27 @@
 -- An accepted group's flat lists are sound, and the list over them is that of the grids chosen in the group.
-use Prim.Native.Nat.{ℕ, suc, _≤_, _<_}
+use Prim.Native.Nat.{ℕ, _≤_}
 use mathlib.Core.Path.{_≡_, sym, _∙_, ap, ap₂}
 use mathlib.Core.Bool.{true}
 use mathlib.Core.List.{List}
 use native.Mathlib.Omega.{arith}
-use borrow.Author.Tests.{le-leb, eq-eqb}
 use lib.ListN.{length}
-use Rattle.numbers.proofs.Bools.{both, true-false}
 use Rattle.numbers.proofs.Machine.{lowered-size, raised-lowered}
 use Rattle.group.specs.declared.Group.{Group}
 use Rattle.group.specs.declared.Verdict.the-variants.{Accepted}
+use Rattle.group.specs.Numbers.{gridsMost, rankMost, lonZero, latZero}
 use Rattle.group.specs.Record.{gridAt}
-use Rattle.extent.specs.Extent.{holds, meet}
-use Rattle.extent.specs.Sides.{sidesOf}
-use Rattle.extent.proofs.SideLaws.{meet-sides}
-use Rattle.judge.specs.Judge.{sameRank, judged}
-use Rattle.judge.specs.Flat.{Sided}
-use Rattle.judge.proofs.LimitLaws.{rank-between}
-use Rattle.judge.proofs.Accepted.{accepted, accepted-head, accepted-edges}
-use Rattle.choice.specs.Rect.{at}
-use Rattle.choice.specs.InGroup.{chosenIn}
-use Rattle.choice.proofs.ChoiceLaws.{chosen≤}
-use Rattle.choice.proofs.InGroupLaws.{flat-chosen}
-use Rattle.coverage.specs.InForce.{inForceBy, Inside, GridsInForce}
+use Rattle.judge.specs.Judge.{judged}
+use Rattle.flat.specs.Lists.{Sided}
+use Rattle.judge.proofs.Accepted.{accepted-head}
+use Rattle.numbers.specs.Lists.{at}
+use Rattle.numbers.proofs.Lists.{at-mem, mem-at, pairs-at}
+use Rattle.flat.specs.Order.{byRank, Before}
+use Rattle.flat.proofs.OrderSteps.{byRank≤}
+use Rattle.flat.proofs.OrderLaws.{mem-byRank, byRank-mem, pairs-byRank, before-differs, by-rank-alike}
+use Rattle.ingroup.specs.InGroup.{chosenIn}
+use Rattle.ingroup.proofs.InGroupLaws.{chosen-holds, rank-limits, flat-apart, flat-chosen}
+use Rattle.coverage.specs.InForce.{inForceBy, Inside, Ordered, GridsInForce}
 use Rattle.coverage.specs.InForce as flat
-use Rattle.coverage.specs.Layout.{Share}
 use Rattle.coverage.proofs.EntryLaws.{filled-used, filled-length}
 use Rattle.coverage.proofs.Demand3.{in-force, in-force-alike}
 use Rattle.inforce.specs.declared.Area.{Area}
@@ -34,45 +31,30 @@ use Rattle.inforce.specs.InForce.{inForceIn, listed, Narrow}
 use Rattle.inforce.proofs.AreaLaws.{inside-most}
 
 module _ (g : Group) (e : judged g ≡ Accepted) where
-  -- grids of equal rank do not meet
-  parted : (i j : ℕ) → i < j → j < g .grids → gridAt g i .rank ≡ gridAt g j .rank → meet (gridAt g i) (gridAt g j) ≡ true → ⊥
-  unfolding sameRank
-  parted i j l m r t = true-false (both (eq-eqb (gridAt g i .rank) (gridAt g j .rank) r) t) (accepted g e .ranks j i m l)
+  -- the grids by rank are an order of all of them
+  abbrev rank : ℕ → ℕ
+  rank k = gridAt g k .rank
 
-  rank-limits : (k : ℕ) → k < g .grids → (1 ≤ gridAt g k .rank) × (gridAt g k .rank ≤ 1000)
-  rank-limits k l = rank-between (gridAt g k) (accepted g e .grid k l)
+  abbrev order : List ℕ
+  order = byRank rank (g .grids) rankMost
 
-  -- whom the choice takes at a coordinate
-  pub taken : (x y k : ℕ) → chosenIn g (lonAt x) (latAt y) ≡ suc k → (k < g .grids) × (1 ≤ gridAt g k .rank) × (gridAt g k .rank ≤ 1000)
-  unfolding chosenIn
-  taken x y k c =
-      let m : k < g .grids = omega (arith, chosen≤ (λ i. holds (gridAt g i) (lonAt x) (latAt y)) (λ i. gridAt g i .rank) (g .grids)) in
-      let r = rank-limits k m in
-      (m, r .0, r .1)
+  ranked-order : Ordered (Before rank) (g .grids) order
+  ranked-order =
+      record {
+        number = λ i l. let o = mem-byRank rank (g .grids) rankMost (at order i) (at-mem 0 order i l) in (o .0, o .1);
+        each = λ k l. let r = rank-limits g e k l in mem-at 0 (byRank-mem rank (g .grids) rankMost k l (r .0) (r .1));
+        sorted = pairs-at (Before rank) 0 order (pairs-byRank rank (g .grids) rankMost);
+        once = before-differs rank;
+        few = byRank≤ rank (g .grids) rankMost;
+      }
 
-  module _ (sides ranks : List ℕ) (s : Sided g sides ranks) where
-    meets : (i j : ℕ) → i < g .grids → j < g .grids → Share sides i j → meet (gridAt g i) (gridAt g j) ≡ true
-    meets i j l m h =
-        meet-sides (gridAt g i) (gridAt g j) (accepted-edges g e i l) (accepted-edges g e j m)
-        ∙ both
-        (both
-        (le-leb (sidesOf (gridAt g i) .west) (sidesOf (gridAt g j) .east) (omega (arith, h .lon, s .west i l, s .east j m)))
-        (le-leb (sidesOf (gridAt g j) .west) (sidesOf (gridAt g i) .east) (omega (arith, h .lon, s .west j m, s .east i l))))
-        (both
-        (le-leb (sidesOf (gridAt g i) .south) (sidesOf (gridAt g j) .north) (omega (arith, h .lat, s .south i l, s .north j m)))
-        (le-leb (sidesOf (gridAt g j) .south) (sidesOf (gridAt g i) .north) (omega (arith, h .lat, s .south j m, s .north i l))))
-
+  module _ (sides ranks : List ℕ) (s : Sided g (g .grids) sides ranks) where
     pub group-flat : 256 ≤ length sides → 64 ≤ length ranks → FlatSound sides ranks (g .grids)
     group-flat h k =
         let n = accepted-head g e .grids in
         record {
-          few = n;
-          sides-room = omega arith;
-          ranks-room = omega arith;
-          ranked = λ i l. let r = rank-limits i l in let q = s .rank i l in (omega arith, omega arith);
-          parted = λ i j l m r t.
-              let a : i < g .grids = omega arith in
-              parted i j l m (sym (s .rank i a) ∙ r ∙ s .rank j m) (meets i j a m t);
+          room = record { few = n; sides-room = omega arith; ranks-room = omega arith };
+          apart = flat-apart g e sides ranks s;
         }
 
     module _ (a : Area) (f : areaFits a ≡ true) where
@@ -80,15 +62,17 @@ module _ (g : Group) (e : judged g ≡ Accepted) where
       same-choice : (x y : ℕ) → Inside (areaFromLeast a) x y → flatChosen sides ranks (g .grids) x y ≡ chosenIn g (lonAt x) (latAt y)
       same-choice x y i =
           let m = inside-most a f x y i in
-          let p = raised-lowered 1296000000 x (m .0) in
-          let q = raised-lowered 324000000 y (m .1) in
+          let p = raised-lowered lonZero x (m .0) in
+          let q = raised-lowered latZero y (m .1) in
           ap₂ (λ (u v : ℕ). flatChosen sides ranks (g .grids) u v) (sym p) (sym q)
-          ∙ flat-chosen g e sides ranks s (lonAt x) (latAt y) (lowered-size 1296000000 x (m .0)) (lowered-size 324000000 y (m .1))
+          ∙ flat-chosen g e sides ranks s (lonAt x) (latAt y) (lowered-size lonZero x (m .0)) (lowered-size latZero y (m .1))
 
-      same-list : inForceBy (flatChosen sides ranks (g .grids)) (at ranks) (g .grids) (areaFromLeast a) ≡ inForceIn g a
+      same-list : inForceBy (flatChosen sides ranks (g .grids)) (byRank (at ranks) (g .grids) rankMost) (areaFromLeast a) ≡ inForceIn g a
       same-list =
-          in-force-alike (flatChosen sides ranks (g .grids)) (λ x y. chosenIn g (lonAt x) (latAt y)) (at ranks) (λ k. gridAt g k .rank)
-          (areaFromLeast a) same-choice (g .grids) (s .rank)
+          ap (λ (ns : List ℕ). inForceBy (flatChosen sides ranks (g .grids)) ns (areaFromLeast a))
+          (by-rank-alike (at ranks) (λ k. gridAt g k .rank) (g .grids) rankMost (s .rank))
+          ∙ in-force-alike (flatChosen sides ranks (g .grids)) (λ x y. chosenIn g (lonAt x) (latAt y)) (areaFromLeast a) same-choice
+          (byRank (λ k. gridAt g k .rank) (g .grids) rankMost)
 
       pub group-listed : flatListed sides ranks (g .grids) (areaFromLeast a) ≡ flat.listed (inForceIn g a)
       unfolding flatListed
@@ -96,10 +80,12 @@ module _ (g : Group) (e : judged g ≡ Accepted) where
 
 -- what is known of the list
 module _ (g : Group) (e : judged g ≡ Accepted) (a : Area) (f : areaFits a ≡ true) where
-  pub placed-in : GridsInForce (λ x y. chosenIn g (lonAt x) (latAt y)) (λ k. gridAt g k .rank) (g .grids) (areaFromLeast a) (inForceIn g a)
-  placed-in = in-force (λ x y. chosenIn g (lonAt x) (latAt y)) (λ k. gridAt g k .rank) (g .grids) (areaFromLeast a) (taken g e)
+  pub placed-in : GridsInForce (λ x y. chosenIn g (lonAt x) (latAt y)) (Before (λ k. gridAt g k .rank)) (g .grids) (areaFromLeast a) (inForceIn g a)
+  placed-in =
+      in-force (λ x y. chosenIn g (lonAt x) (latAt y)) (Before (λ k. gridAt g k .rank)) (g .grids) (areaFromLeast a)
+      (byRank (λ k. gridAt g k .rank) (g .grids) rankMost) (ranked-order g e) (λ x y k c. chosen-holds g (lonAt x) (latAt y) k c .0)
 
-  few : length (inForceIn g a) ≤ 64
+  few : length (inForceIn g a) ≤ gridsMost
   few = omega (arith, placed-in .few, accepted-head g e .grids)
 
   pub narrow-list : Narrow (flat.listed (inForceIn g a))

@@ -1,3 +1,4 @@
+-- The laws of grids in force, and demand 3.
 pub mod FlatLaws
 pub mod ShownLaws
 pub mod AreaLaws

@@ -6,21 +6,21 @@ use native.Mathlib.Omega.{arith}
 use native.Mathlib.Numerals.{add-one}
 use lib.ListN.{length, getD, set, take, replicate, length-map}
 use lib.Seq.{set-at, take-suc, take-at, length-take-le, append-snoc}
+use Rattle.group.specs.Numbers.{gridsMost}
 use Rattle.coverage.specs.declared.Entry.{Entry}
 use Rattle.coverage.specs.InForce as flat
 use Rattle.inforce.specs.InForce.{shown, noGrid, listed, shownFirst, shownList}
 
-pub shown-more : (es : List Entry) (i : ℕ) → i < 64 → i < length es
+pub shown-more : (es : List Entry) (i : ℕ) → i < gridsMost → i < length es
     → set (shownFirst es i) i (shown (getD es i flat.noEntry)) ≡ shownFirst es (i + 1)
 shown-more es i h l =
-    let a : 64 - i ≡ suc (63 - i) = omega arith in
-    let b : 64 - suc i ≡ 63 - i = omega arith in
+    let a : gridsMost - i ≡ suc (gridsMost - suc i) = omega arith in
     let x = getD es i flat.noEntry in
     let p = map shown (take i es) in
     let n : length p ≡ i = length-map (take i es) shown ∙ length-take-le i es (omega arith) in
-    rw (add-one i, a, b, take-suc es i flat.noEntry l, map-append)
-    (set-at p noGrid (replicate (63 - i) noGrid) (shown x) i n ∙ sym (append-snoc p (shown x) (replicate (63 - i) noGrid)))
+    rw (add-one i, a, take-suc es i flat.noEntry l, map-append)
+    (set-at p noGrid (replicate (gridsMost - suc i) noGrid) (shown x) i n ∙ sym (append-snoc p (shown x) (replicate (gridsMost - suc i) noGrid)))
 
 pub shown-whole : (es : List Entry) → shownList (flat.listed es) ≡ listed es
 unfolding shownList
-shown-whole es = rw (take-at es (replicate (64 - length es) flat.noEntry) (length es) refl)
+shown-whole es = rw (take-at es (replicate (gridsMost - length es) flat.noEntry) (length es) refl)

@@ -1,10 +1,11 @@
--- Areas: refusal 10, an area's coordinates, and coordinates as distances from the least admitted longitude and latitude.
+-- Areas: refusal 10, an area's coordinates, and coordinates as distances from the zero of longitudes and of latitudes.
 use Prim.Native.Nat.{ℕ}
 use mathlib.Core.Path.{_≡_}
 use mathlib.Core.Bool.{Bool, true, _&&_}
 use lib.IntN.{ℤ, pos, _-ℤ_}
 use lib.Signed.{leZ}
-use Rattle.numbers.specs.Order.{between, within}
+use Rattle.numbers.specs.Order.{between}
+use Rattle.group.specs.Numbers.{lonAdmitted, latAdmitted, lonZero, latZero}
 use Rattle.extent.specs.declared.LonSpan.{LonSpan}
 use Rattle.extent.specs.declared.LatSpan.{LatSpan}
 use Rattle.extent.specs.Sides.{lonFromLeast, latFromLeast}
@@ -13,10 +14,10 @@ use Rattle.inforce.specs.declared.Area.{Area}
 
 -- sides within the limits, west not above east and south not above north: all that 10 does not refuse
 abbrev pub lonFits : LonSpan → Bool
-lonFits s = within 1296000000 (s .west .0) && within 1296000000 (s .east .0) && leZ (s .west .0) (s .east .0)
+lonFits s = lonAdmitted (s .west .0) && lonAdmitted (s .east .0) && leZ (s .west .0) (s .east .0)
 
 abbrev pub latFits : LatSpan → Bool
-latFits s = within 324000000 (s .south .0) && within 324000000 (s .north .0) && leZ (s .south .0) (s .north .0)
+latFits s = latAdmitted (s .south .0) && latAdmitted (s .north .0) && leZ (s .south .0) (s .north .0)
 
 unfoldable pub areaFits : Area → Bool
 areaFits a = lonFits (a .lon) && latFits (a .lat)
@@ -28,10 +29,10 @@ pub record InArea (a : Area) (x y : ℤ) : Type 0 where
 
 -- the longitude and the latitude at a distance from the least
 abbrev pub lonAt : ℕ → ℤ
-lonAt x = pos x -ℤ pos 1296000000
+lonAt x = pos x -ℤ pos lonZero
 
 abbrev pub latAt : ℕ → ℤ
-latAt y = pos y -ℤ pos 324000000
+latAt y = pos y -ℤ pos latZero
 
 -- an area by the distances of its sides
 abbrev pub areaFromLeast : Area → least.Area

@@ -8,9 +8,10 @@ use lib.ListN.{length, getD}
 use lib.Signed.{_≤ℤ_, _<ℤ_}
 use Rattle.group.specs.declared.Group.{Group}
 use Rattle.group.specs.declared.Verdict.the-variants.{Accepted}
+use Rattle.group.specs.Numbers.{gridsMost}
 use Rattle.group.specs.Record.{gridAt}
 use Rattle.extent.specs.Extent.{holds}
-use Rattle.choice.specs.InGroup.{chosenIn}
+use Rattle.ingroup.specs.InGroup.{chosenIn}
 use Rattle.inforce.specs.declared.Area.{Area}
 use Rattle.inforce.specs.declared.GridInForce.{GridInForce}
 use Rattle.inforce.specs.declared.InForce.{InForce}
@@ -48,7 +49,7 @@ pub record GridsInForce (g : Group) (a : Area) (r : InForce) : Type 0 where
   -- the count is the number of entries: those behind it are zero, of 64 in all
   pub unused : (i : ℕ) → r .count ≤ i → entryAt r i ≡ noGrid
   pub most : r .count ≤ g .grids
-  pub entries : length (r .entries) ≡ 64
+  pub entries : length (r .entries) ≡ gridsMost
   -- a grid that is hidden wherever it holds a coordinate of the area, by one or by several others together, is absent
   pub hidden : (k : ℕ) → ((x y : ℤ) → InArea a x y → holds (gridAt g k) x y ≡ true → chosenIn g x y ≡ suc k → ⊥)
       → (i : ℕ) → i < r .count → entryAt r i .grid ≡ suc k → ⊥

@@ -9,9 +9,11 @@ use Rattle.group.specs.declared.Group.{Group}
 use Rattle.group.specs.declared.Refusal.{Refusal}
 use Rattle.group.specs.declared.Verdict.{Verdict}
 use Rattle.group.specs.declared.Verdict.the-variants.{Accepted, Refused}
+use Rattle.group.specs.Numbers.{gridsMost, rankMost}
 use Rattle.group.specs.Record.{gridAt}
+use Rattle.flat.specs.Order.{byRank}
 use Rattle.judge.specs.Judge.{judged}
-use Rattle.choice.specs.InGroup.{chosenIn}
+use Rattle.ingroup.specs.InGroup.{chosenIn}
 use Rattle.coverage.specs.declared.Entry.{Entry}
 use Rattle.coverage.specs.declared.Listing.{Listing}
 use Rattle.coverage.specs.InForce.{inForceBy, noEntry}
@@ -23,7 +25,7 @@ use Rattle.inforce.specs.Area.{areaFits, lonAt, latAt, areaFromLeast}
 -- the grids chosen at one or more of the area's coordinates, by rank and then by number, each with the southmost, then westmost such
 -- coordinate; coordinates as distances from the least
 abbrev pub inForceIn : Group → Area → List Entry
-inForceIn g a = inForceBy (λ x y. chosenIn g (lonAt x) (latAt y)) (λ k. gridAt g k .rank) (g .grids) (areaFromLeast a)
+inForceIn g a = inForceBy (λ x y. chosenIn g (lonAt x) (latAt y)) (byRank (λ k. gridAt g k .rank) (g .grids) rankMost) (areaFromLeast a)
 
 -- an entry as it is handed back
 abbrev pub shown : Entry → GridInForce
@@ -35,18 +37,18 @@ noGrid = record { grid = 0; lon = record { 0 = pos 0 }; lat = record { 0 = pos 0
 
 -- the count and 64 entries, of which the unused ones are zero
 abbrev pub listed : List Entry → InForce
-listed es = record { verdict = Accepted; count = length es; entries = map shown es ++ replicate (64 - length es) noGrid }
+listed es = record { verdict = Accepted; count = length es; entries = map shown es ++ replicate (gridsMost - length es) noGrid }
 
 -- a list of coverage's, handed back: its first entries, as many as its count
 abbrev pub shownFirst : List Entry → ℕ → List GridInForce
-shownFirst es n = map shown (take n es) ++ replicate (64 - n) noGrid
+shownFirst es n = map shown (take n es) ++ replicate (gridsMost - n) noGrid
 
 unfoldable pub shownList : Listing → InForce
 shownList l = record { verdict = Accepted; count = l .count; entries = shownFirst (l .entries) (l .count) }
 
 -- beside a refusal the list is empty
 abbrev pub refusedBy : Refusal → InForce
-refusedBy r = record { verdict = Refused r; count = 0; entries = replicate 64 noGrid }
+refusedBy r = record { verdict = Refused r; count = 0; entries = replicate gridsMost noGrid }
 
 -- the verdict where it is a refusal, else what follows
 abbrev pub unlessRefused : Verdict → InForce → InForce
@@ -59,7 +61,7 @@ inForceOf g a =
 
 -- a list whose coordinates fit 63 bits
 pub record Narrow (l : Listing) : Type 0 where
-  pub few : l .count ≤ 64
-  pub room : length (l .entries) ≡ 64
+  pub few : l .count ≤ gridsMost
+  pub room : length (l .entries) ≡ gridsMost
   pub lon : (i : ℕ) → i < l .count → getD (l .entries) i noEntry .lon < 2 ^ 63
   pub lat : (i : ℕ) → i < l .count → getD (l .entries) i noEntry .lat < 2 ^ 63

@@ -1,3 +1,4 @@
+-- What the contracts of `inforce` cite, and demand 3.
 pub mod Area
 pub mod InForce
 pub mod Demand3

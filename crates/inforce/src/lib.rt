@@ -1,12 +1,10 @@
 // Grids in force: which grids of a group are chosen at one or more coordinates of an area, and where first.
 ghost use mathlib.Core.Path.{_≡_};
 ghost use mathlib.Core.Bool.{true};
-ghost use Prim.Native.Nat.{ℕ, _<_, _≤_, _*_, _^_};
-ghost use lib.ListN.{length, take};
+ghost use Prim.Native.Nat.{_<_, _*_, _^_};
 ghost use Rattle.judge.specs.Judge.{judged};
-ghost use Rattle.judge.specs.Flat.{Sided};
-ghost use Rattle.inforce.specs.Area.{lonFits, latFits, areaFits, areaFromLeast, lonAt, latAt};
-ghost use Rattle.inforce.specs.Flat.{Owned, FlatSound, flatListed};
+ghost use Rattle.inforce.specs.Area.{lonFits, latFits, areaFits, areaFromLeast};
+ghost use Rattle.inforce.specs.Flat.{FlatSound, flatListed};
 ghost use Rattle.inforce.specs.InForce.{inForceIn, shown, noGrid, listed, shownList, refusedBy, inForceOf, Narrow};
 use coverage::Entry;
 use coverage::Listing;
@@ -14,11 +12,21 @@ use extent::LatSpan;
 use extent::LonSpan;
 use extent::lat_from_least;
 use extent::lon_from_least;
+use group::GRIDS_MOST;
 use group::Group;
+use group::LAT_LEAST;
+use group::LAT_MOST;
+use group::LON_LEAST;
+use group::LON_MOST;
 use group::Latitude;
 use group::Longitude;
 use group::Refusal;
 use group::Verdict;
+
+// The zeros of the distances.
+const LON_ZERO: u64 = group::LON_ZERO as u64;
+
+const LAT_ZERO: u64 = group::LAT_ZERO as u64;
 
 // An area: all whole coordinates from west to east and from south to north, sides included, in mas.
 pub struct Area {
@@ -37,15 +45,15 @@ pub struct GridInForce {
 pub struct InForce {
     pub verdict: Verdict,
     pub count: u64,
-    pub entries: [GridInForce; 64],
+    pub entries: [GridInForce; GRIDS_MOST],
 }
 
 // Whether longitudes are within the limits, west not above east.
 fn lon_fits(s: LonSpan) -> bool
     ensures { λ r. ⌜ r ≡ lonFits s ⌝ }
 {
-    ((-1296000000 <= s.west.0) & (s.west.0 <= 1296000000))
-        & ((-1296000000 <= s.east.0) & (s.east.0 <= 1296000000))
+    ((LON_LEAST <= s.west.0) & (s.west.0 <= LON_MOST))
+        & ((LON_LEAST <= s.east.0) & (s.east.0 <= LON_MOST))
         & (s.west.0 <= s.east.0)
 }
 
@@ -53,8 +61,8 @@ fn lon_fits(s: LonSpan) -> bool
 fn lat_fits(s: LatSpan) -> bool
     ensures { λ r. ⌜ r ≡ latFits s ⌝ }
 {
-    ((-324000000 <= s.south.0) & (s.south.0 <= 324000000))
-        & ((-324000000 <= s.north.0) & (s.north.0 <= 324000000))
+    ((LAT_LEAST <= s.south.0) & (s.south.0 <= LAT_MOST))
+        & ((LAT_LEAST <= s.north.0) & (s.north.0 <= LAT_MOST))
         & (s.south.0 <= s.north.0)
 }
 
@@ -86,20 +94,8 @@ fn shown_entry(e: Entry) -> GridInForce
 {
     GridInForce {
         grid: e.grid,
-        lon: Longitude(numbers::lowered(e.lon, 1296000000)),
-        lat: Latitude(numbers::lowered(e.lat, 324000000)),
-    }
-}
-
-// The numbers 0 to 63: each grid owns the rectangle of its own number.
-fn fill_owners(owners: &mut [u64])
-    requires { ⌜ length (now owners) ≡ 64 ⌝ }
-    ensures { λ _. ⌜ Owned (now (owners .exit)) 64 × (length (now (owners .exit)) ≡ 64) ⌝ }
-{
-    let mut i = 0;
-    while i < 64 {
-        owners[i] = i as u64;
-        i += 1;
+        lon: Longitude(numbers::lowered(e.lon, LON_ZERO)),
+        lat: Latitude(numbers::lowered(e.lat, LAT_ZERO)),
     }
 }
 
@@ -109,9 +105,11 @@ fn list_flat(sides: &[u64], ranks: &[u64], n: usize, a: region::Area) -> Listing
     ensures { λ r. ⌜ r ≡ flatListed (now (sides .entry)) (now (ranks .entry)) n a ⌝ }
 {
     let mut owners = [0u64; 64];
-    fill_owners(&mut owners);
+    flat::fill_owners(n, &mut owners);
+    let mut order = [0u64; 64];
+    let count = flat::order_by_rank(&ranks[..n], &mut order);
     let m = n * 4;
-    coverage::in_force(&sides[..m], &owners[..n], &ranks[..n], a)
+    coverage::in_force(&sides[..m], &owners[..n], &ranks[..n], &order[..count], a)
 }
 
 // An unused entry.
@@ -131,7 +129,7 @@ fn shown_list(l: Listing) -> InForce
     ensures { λ r. ⌜ r ≡ shownList l ⌝ }
 {
     let none = blank_entry();
-    let mut entries = [none; 64];
+    let mut entries = [none; GRIDS_MOST];
     let n = l.count;
     let mut i = 0;
     while i < n {
@@ -154,7 +152,7 @@ fn refused_by(r: Refusal) -> InForce
     InForce {
         verdict: Verdict::Refused(r),
         count: 0,
-        entries: [none; 64],
+        entries: [none; GRIDS_MOST],
     }
 }
 
@@ -165,7 +163,7 @@ fn list_in(group: Group, area: Area) -> InForce
 {
     let mut sides = [0u64; 256];
     let mut ranks = [0u64; 64];
-    judge::fill_sides(group, &mut sides, &mut ranks);
+    flat::fill_sides(group, &mut sides, &mut ranks);
     let n = group.grids as usize;
     let l = list_flat(&sides, &ranks, n, area_from_least(area));
     shown_list(l)

@@ -1,3 +1,4 @@
+-- The laws of the judge.
 pub mod LimitLaws
 pub mod MarkLaws
 pub mod JudgeLaws

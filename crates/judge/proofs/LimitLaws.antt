@@ -5,25 +5,26 @@ use mathlib.Core.Bool.{Bool, true, _&&_, _||_}
 use mathlib.Core.Logic.{⊎-elim}
 use native.Mathlib.Omega.{arith}
 use lib.Dec.{leb, ltb, eqb}
-use lib.IntN.{ℤ, pos, negsuc, natAbs}
+use lib.IntN.{pos, natAbs}
 use lib.ListN.{getD}
 use borrow.Author.Tests.{leb-true, eqb-true}
 use Rattle.numbers.specs.First.{every}
-use Rattle.numbers.specs.Order.{between, within}
-use Rattle.numbers.proofs.Bools.{and-left, and-right, or-cases, or-no}
+use Rattle.numbers.specs.Order.{between}
+use Rattle.numbers.proofs.Bools.{and-left, and-right, or-cases}
 use Rattle.numbers.proofs.FirstLaws.{every-at}
 use Rattle.numbers.proofs.OrderLaws.{within-size}
 use Rattle.group.specs.declared.Name.{Name}
 use Rattle.group.specs.declared.Grid.{Grid}
 use Rattle.group.specs.declared.Group.{Group}
+use Rattle.group.specs.Numbers.{lonEdgeMost, latEdgeMost, lonEdgeFits, latEdgeFits, nameMost, quantumMost, parametersMost, rampsMost, gridsMost, nodesLeast, nodesMost, rankMost, startMost}
+use Rattle.group.specs.Record.{gridAt}
 use Rattle.group.specs.Limits.{nameByte, byteFits, nameFits, spacingFits, originFits, countsFit, gridFits, headNumbersFit, headFits}
+use Rattle.group.proofs.LimitLaws.{spacing-size}
 use Rattle.extent.specs.Extent.{Sized, inside}
 use Rattle.extent.specs.Sides.{Edges}
 use Rattle.extent.proofs.SideLaws.{edges-within}
-use Rattle.judge.specs.Rules.{Head}
-use Rattle.judge.specs.Marks.{Marked}
-use Rattle.judge.specs.declared.Shared.{Shared}
-use Rattle.judge.specs.declared.Shared.the-variants as S
+use Rattle.flat.specs.Lists.{Measured}
+use Rattle.judge.specs.Rules.{Head, Grids}
 
 -- three and four tests in a row
 module _ (a b c : Bool) (e : (a && b && c) ≡ true) where
@@ -46,12 +47,6 @@ module _ (a b c d : Bool) (e : (a && b && c && d) ≡ true) where
 -- a count between two others
 pub count-between : (a b n : ℕ) → between (pos a) (pos b) (pos n) ≡ true → (a ≤ n) × (n ≤ b)
 count-between a b n e = (leb-true a n (and-left (leb a n) (leb n b) e), leb-true n b (and-right (leb a n) (leb n b) e))
-
-spacing-size : (d : ℤ) → spacingFits d ≡ true → natAbs d ≤ 1000000
-spacing-size (pos n) e = leb-true n 1000000 (and-right (leb 1 n) (leb n 1000000) e)
-spacing-size (negsuc n) e =
-    let h = leb-true n 999999 (and-left (leb n 999999) (leb 0 n) (or-no (leb n 999999 && leb 0 n) e)) in
-    omega arith
 
 -- a grid line within its limits
 module _ (g : Grid) (e : gridFits g ≡ true) where
@@ -77,10 +72,10 @@ module _ (g : Grid) (e : gridFits g ≡ true) where
   counts = three-of-3 name-test origin-test counts-test e
 
   abbrev o1 : Bool
-  o1 = within 1296000000 (g .lon .0)
+  o1 = lonEdgeFits (g .lon .0)
 
   abbrev o2 : Bool
-  o2 = within 324000000 (g .lat .0)
+  o2 = latEdgeFits (g .lat .0)
 
   abbrev o3 : Bool
   o3 = spacingFits (g .dlon)
@@ -88,11 +83,11 @@ module _ (g : Grid) (e : gridFits g ≡ true) where
   abbrev o4 : Bool
   o4 = spacingFits (g .dlat)
 
-  pub lon-size : natAbs (g .lon .0) ≤ 1296000000
-  lon-size = within-size 1296000000 (g .lon .0) (one-of-3 o1 o2 o3 (first-three o1 o2 o3 o4 origin))
+  pub lon-size : natAbs (g .lon .0) ≤ lonEdgeMost
+  lon-size = within-size lonEdgeMost (g .lon .0) (one-of-3 o1 o2 o3 (first-three o1 o2 o3 o4 origin))
 
-  pub lat-size : natAbs (g .lat .0) ≤ 324000000
-  lat-size = within-size 324000000 (g .lat .0) (two-of-3 o1 o2 o3 (first-three o1 o2 o3 o4 origin))
+  pub lat-size : natAbs (g .lat .0) ≤ latEdgeMost
+  lat-size = within-size latEdgeMost (g .lat .0) (two-of-3 o1 o2 o3 (first-three o1 o2 o3 o4 origin))
 
   pub dlon-good : spacingFits (g .dlon) ≡ true
   dlon-good = three-of-3 o1 o2 o3 (first-three o1 o2 o3 o4 origin)
@@ -101,28 +96,28 @@ module _ (g : Grid) (e : gridFits g ≡ true) where
   dlat-good = four-of-4 o1 o2 o3 o4 origin
 
   abbrev c1 : Bool
-  c1 = between (pos 2) (pos 16384) (pos (g .ni))
+  c1 = between (pos nodesLeast) (pos nodesMost) (pos (g .ni))
 
   abbrev c2 : Bool
-  c2 = between (pos 2) (pos 16384) (pos (g .nj))
+  c2 = between (pos nodesLeast) (pos nodesMost) (pos (g .nj))
 
   abbrev c3 : Bool
-  c3 = between (pos 1) (pos 1000) (pos (g .rank))
+  c3 = between (pos 1) (pos rankMost) (pos (g .rank))
 
   abbrev c4 : Bool
-  c4 = between (pos 0) (pos 16777215) (pos (g .start))
+  c4 = between (pos 0) (pos startMost) (pos (g .start))
 
-  pub ni-between : (2 ≤ g .ni) × (g .ni ≤ 16384)
-  ni-between = count-between 2 16384 (g .ni) (one-of-3 c1 c2 c3 (first-three c1 c2 c3 c4 counts))
+  pub ni-between : (nodesLeast ≤ g .ni) × (g .ni ≤ nodesMost)
+  ni-between = count-between nodesLeast nodesMost (g .ni) (one-of-3 c1 c2 c3 (first-three c1 c2 c3 c4 counts))
 
-  pub nj-between : (2 ≤ g .nj) × (g .nj ≤ 16384)
-  nj-between = count-between 2 16384 (g .nj) (two-of-3 c1 c2 c3 (first-three c1 c2 c3 c4 counts))
+  pub nj-between : (nodesLeast ≤ g .nj) × (g .nj ≤ nodesMost)
+  nj-between = count-between nodesLeast nodesMost (g .nj) (two-of-3 c1 c2 c3 (first-three c1 c2 c3 c4 counts))
 
-  pub rank-between : (1 ≤ g .rank) × (g .rank ≤ 1000)
-  rank-between = count-between 1 1000 (g .rank) (three-of-3 c1 c2 c3 (first-three c1 c2 c3 c4 counts))
+  pub rank-between : (1 ≤ g .rank) × (g .rank ≤ rankMost)
+  rank-between = count-between 1 rankMost (g .rank) (three-of-3 c1 c2 c3 (first-three c1 c2 c3 c4 counts))
 
-  pub start-most : g .start ≤ 16777215
-  start-most = count-between 0 16777215 (g .start) (four-of-4 c1 c2 c3 c4 counts) .1
+  pub start-most : g .start ≤ startMost
+  start-most = count-between 0 startMost (g .start) (four-of-4 c1 c2 c3 c4 counts) .1
 
   pub grid-sized : Sized g
   grid-sized =
@@ -135,10 +130,6 @@ module _ (g : Grid) (e : gridFits g ≡ true) where
   -- with the far edges within the limits, so are all four sides
   pub grid-edges : (np : ℕ) → inside np g ≡ true → Edges g
   grid-edges np h = edges-within np g grid-sized lat-size h
-
-  pub grid-marked : (s : Shared) → Marked s g
-  grid-marked S.Name = tt
-  grid-marked S.Rank = grid-sized
 
 -- a byte of a well-formed name is a byte
 alphabet : (b : ℕ) → nameByte b ≡ true → b < 256
@@ -157,7 +148,7 @@ alphabet b e =
     (λ p. omega (arith, eqb-true b 45 p))
     (or-cases ((leb 65 b && leb b 90) || (leb 97 b && leb b 122) || (leb 48 b && leb b 57) || eqb b 95) (eqb b 45) e)
 
-pub name-bytes : (n : Name) → nameFits n ≡ true → (k : ℕ) → k < 24 → getD (n .bytes) k 0 < 256
+pub name-bytes : (n : Name) → nameFits n ≡ true → (k : ℕ) → k < nameMost → getD (n .bytes) k 0 < 256
 unfolding nameFits byteFits
 name-bytes n e k l =
     let b = getD (n .bytes) k 0 in
@@ -165,7 +156,7 @@ name-bytes n e k l =
     (λ p. alphabet b (and-right (ltb k (n .len)) (nameByte b) p))
     (λ p. omega (arith, eqb-true b 0 (and-right (leb (n .len) k) (eqb b 0) p)))
     (or-cases (ltb k (n .len) && nameByte b) (leb (n .len) k && eqb b 0)
-    (every-at (byteFits n) 24 k (three-of-3 (leb 1 (n .len)) (leb (n .len) 24) (every (byteFits n) 24) e) l))
+    (every-at (byteFits n) nameMost k (three-of-3 (leb 1 (n .len)) (leb (n .len) nameMost) (every (byteFits n) nameMost) e) l))
 
 -- a group line within its limits
 module _ (g : Group) (e : headFits g ≡ true) where
@@ -174,28 +165,32 @@ module _ (g : Group) (e : headFits g ≡ true) where
   numbers-good = and-right (nameFits (g .name)) _ e
 
   abbrev h1 : Bool
-  h1 = between (pos 0) (pos 20) (pos (g .quantum))
+  h1 = between (pos 0) (pos quantumMost) (pos (g .quantum))
 
   abbrev h2 : Bool
-  h2 = between (pos 1) (pos 3) (pos (g .parameters))
+  h2 = between (pos 1) (pos parametersMost) (pos (g .parameters))
 
   abbrev h3 : Bool
-  h3 = between (pos 0) (pos 8) (pos (g .ramps))
+  h3 = between (pos 0) (pos rampsMost) (pos (g .ramps))
 
   abbrev h4 : Bool
-  h4 = between (pos 1) (pos 64) (pos (g .grids))
+  h4 = between (pos 1) (pos gridsMost) (pos (g .grids))
 
-  pub quantum-most : g .quantum ≤ 20
-  quantum-most = count-between 0 20 (g .quantum) (one-of-3 h1 h2 h3 (first-three h1 h2 h3 h4 numbers-good)) .1
+  pub quantum-most : g .quantum ≤ quantumMost
+  quantum-most = count-between 0 quantumMost (g .quantum) (one-of-3 h1 h2 h3 (first-three h1 h2 h3 h4 numbers-good)) .1
 
-  pub parameters-between : (1 ≤ g .parameters) × (g .parameters ≤ 3)
-  parameters-between = count-between 1 3 (g .parameters) (two-of-3 h1 h2 h3 (first-three h1 h2 h3 h4 numbers-good))
+  pub parameters-between : (1 ≤ g .parameters) × (g .parameters ≤ parametersMost)
+  parameters-between = count-between 1 parametersMost (g .parameters) (two-of-3 h1 h2 h3 (first-three h1 h2 h3 h4 numbers-good))
 
-  pub ramps-most : g .ramps ≤ 8
-  ramps-most = count-between 0 8 (g .ramps) (three-of-3 h1 h2 h3 (first-three h1 h2 h3 h4 numbers-good)) .1
+  pub ramps-most : g .ramps ≤ rampsMost
+  ramps-most = count-between 0 rampsMost (g .ramps) (three-of-3 h1 h2 h3 (first-three h1 h2 h3 h4 numbers-good)) .1
 
-  pub grids-between : (1 ≤ g .grids) × (g .grids ≤ 64)
-  grids-between = count-between 1 64 (g .grids) (four-of-4 h1 h2 h3 h4 numbers-good)
+  pub grids-between : (1 ≤ g .grids) × (g .grids ≤ gridsMost)
+  grids-between = count-between 1 gridsMost (g .grids) (four-of-4 h1 h2 h3 h4 numbers-good)
 
   pub head-sized : Head g
   head-sized = record { ramps = ramps-most; grids = grids-between .1; parameters = parameters-between .1 }
+
+-- what filling the flat lists relies on
+pub measured : (g : Group) → Head g → Grids g → Measured g
+measured g h f = record { grids = h .grids; parameters = h .parameters; sized = λ k l. grid-sized (gridAt g k) (f .fits k l) }

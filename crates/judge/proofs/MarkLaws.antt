@@ -1,6 +1,6 @@
 -- Laws of the marks: eight bytes as one number, marks stored in lists, and marks that agree exactly where two grids share what they may not.
 use Prim.Native.Nat.{ℕ, zero, suc, _+_, _*_, _-_, _^_, _<_, _≤_}
-use mathlib.Core.Path.{_≡_, refl, sym, _∙_}
+use mathlib.Core.Path.{_≡_, refl, sym, ap, _∙_}
 use mathlib.Core.Bool.{Bool, true, _&&_}
 use mathlib.Core.List.{List}
 use native.Mathlib.Nat.{pow-le-pow-right, pow-suc, mul-le-mul-right}
@@ -17,11 +17,15 @@ use Rattle.numbers.proofs.Bools.{and-left, and-right, both, same-test}
 use Rattle.numbers.proofs.FirstLaws.{every-at, all-every}
 use Rattle.group.specs.declared.Name.{Name}
 use Rattle.group.specs.declared.Group.{Group}
+use Rattle.group.specs.Numbers.{nameMost}
 use Rattle.group.specs.Record.{gridAt}
+use Rattle.extent.specs.declared.Sides.{Sides}
 use Rattle.extent.specs.Sides.{Edges}
 use Rattle.extent.proofs.SideLaws.{meet-sides}
+use Rattle.flat.specs.Rects.{rectAt}
+use Rattle.flat.specs.Lists.{Sided}
 use Rattle.judge.specs.Judge.{sameByte, sameName, sameRank}
-use Rattle.judge.specs.Marks.{packed, wordAt, marksOf, putFour, Listed, agree, clash}
+use Rattle.judge.specs.Marks.{packed, wordAt, marksOf, putFour, Listed, clash}
 use Rattle.judge.specs.declared.Marks.{Marks}
 use Rattle.judge.specs.declared.Shared.the-variants as S
 
@@ -117,12 +121,24 @@ listed-more marks i fours keys fours′ keys′ m h l s e p q =
       d = below-more (λ k. getD (putFour fours i m) (k * 4 + 3) 0 ≡ marks k .d) i (λ k n. put-before fours i m h (k * 4 + 3) (omega arith) ∙ s .d k n) (put-d fours i m h ∙ rw e);
     })
 
+-- sides and ranks are the marks by which ranks are compared
+pub sided-listed : (g : Group) (n : ℕ) (sides ranks : List ℕ) → Sided g n sides ranks → Listed (λ k. marksOf S.Rank (gridAt g k)) n sides ranks
+unfolding rectAt
+sided-listed g n sides ranks s =
+    record {
+      key = s .rank;
+      a = λ k l. ap (λ (t : Sides). t .west) (s .side k l);
+      b = λ k l. ap (λ (t : Sides). t .east) (s .side k l);
+      c = λ k l. ap (λ (t : Sides). t .south) (s .side k l);
+      d = λ k l. ap (λ (t : Sides). t .north) (s .side k l);
+    }
+
 -- names are the same exactly where their words are
-module _ (m n : Name) (f : (j : ℕ) → j < 24 → getD (m .bytes) j 0 < 256) (g : (j : ℕ) → j < 24 → getD (n .bytes) j 0 < 256) where
+module _ (m n : Name) (f : (j : ℕ) → j < nameMost → getD (m .bytes) j 0 < 256) (g : (j : ℕ) → j < nameMost → getD (n .bytes) j 0 < 256) where
   byte : (x : Name) (from j : ℕ) → ℕ
   byte x from j = getD (x .bytes) (from + j) 0
 
-  words : ((j : ℕ) → j < 24 → getD (m .bytes) j 0 ≡ getD (n .bytes) j 0) → (from : ℕ) → from ≤ 16 → eqb (wordAt m from) (wordAt n from) ≡ true
+  words : ((j : ℕ) → j < nameMost → getD (m .bytes) j 0 ≡ getD (n .bytes) j 0) → (from : ℕ) → from ≤ 16 → eqb (wordAt m from) (wordAt n from) ≡ true
   words e from h = eq-eqb (wordAt m from) (wordAt n from) (packed-same _ _ 8 (λ j l. e (from + j) (omega arith)))
 
   bytes : (from : ℕ) → from ≤ 16 → eqb (wordAt m from) (wordAt n from) ≡ true → (j : ℕ) → j < 8 → getD (m .bytes) (from + j) 0 ≡ getD (n .bytes) (from + j) 0
@@ -131,7 +147,7 @@ module _ (m n : Name) (f : (j : ℕ) → j < 24 → getD (m .bytes) j 0 < 256) (
 
   -- each byte by the word that it stands in
   same-byte : eqb (wordAt m 0) (wordAt n 0) ≡ true → eqb (wordAt m 8) (wordAt n 8) ≡ true → eqb (wordAt m 16) (wordAt n 16) ≡ true
-      → (j : ℕ) → j < 24 → getD (m .bytes) j 0 ≡ getD (n .bytes) j 0
+      → (j : ℕ) → j < nameMost → getD (m .bytes) j 0 ≡ getD (n .bytes) j 0
   same-byte a b c j l =
       elim (decLt j 8) [
         | yes x ↦ let k : 0 + j ≡ j = omega arith in rw k at (bytes 0 (omega arith) a j x)
@@ -142,17 +158,17 @@ module _ (m n : Name) (f : (j : ℕ) → j < 24 → getD (m .bytes) j 0 < 256) (
             ]
       ]
 
-  same-words : every (sameByte m n) 24 ≡ (eqb (wordAt m 0) (wordAt n 0) && eqb (wordAt m 8) (wordAt n 8) && eqb (wordAt m 16) (wordAt n 16) && eqb 0 0)
+  same-words : every (sameByte m n) nameMost ≡ (eqb (wordAt m 0) (wordAt n 0) && eqb (wordAt m 8) (wordAt n 8) && eqb (wordAt m 16) (wordAt n 16) && eqb 0 0)
   same-words =
-      same-test (every (sameByte m n) 24) (a && b && c && eqb 0 0)
+      same-test (every (sameByte m n) nameMost) (a && b && c && eqb 0 0)
       (λ e.
-      let s = words (λ j l. eqb-true (getD (m .bytes) j 0) (getD (n .bytes) j 0) (every-at (sameByte m n) 24 j e l)) in
+      let s = words (λ j l. eqb-true (getD (m .bytes) j 0) (getD (n .bytes) j 0) (every-at (sameByte m n) nameMost j e l)) in
       both
       (both (both (s 0 (omega arith)) (s 8 (omega arith))) (s 16 (omega arith))) (eq-eqb 0 0 refl))
       (λ e.
       let abc = and-left (a && b && c) (eqb 0 0) e in
       let ab = and-left (a && b) c abc in
-      all-every (sameByte m n) 24
+      all-every (sameByte m n) nameMost
       (λ j l.
       eq-eqb (getD (m .bytes) j 0) (getD (n .bytes) j 0)
       (same-byte (and-left a b ab) (and-right a b ab) (and-right (a && b) c abc) j l)))
@@ -169,7 +185,7 @@ module _ (m n : Name) (f : (j : ℕ) → j < 24 → getD (m .bytes) j 0 < 256) (
 -- two grids of a group, by the lists of their marks
 module _ (g : Group) (n : ℕ) (fours keys : List ℕ) (j k : ℕ) (hj : j < n) (hk : k < n) where
   pub clash-name : Listed (λ i. marksOf S.Name (gridAt g i)) n fours keys
-      → ((i b : ℕ) → i < n → b < 24 → getD (gridAt g i .name .bytes) b 0 < 256)
+      → ((i b : ℕ) → i < n → b < nameMost → getD (gridAt g i .name .bytes) b 0 < 256)
       → clash S.Name fours keys k j ≡ sameName (gridAt g j .name) (gridAt g k .name)
   unfolding clash sameName
   clash-name s f =

@@ -11,6 +11,7 @@ use Rattle.group.specs.declared.Group.{Group}
 use Rattle.group.specs.declared.Verdict.{Verdict}
 use Rattle.group.specs.declared.Verdict.the-variants.{Accepted, Refused}
 use Rattle.group.specs.Record.{rampAt, gridAt}
+use Rattle.group.specs.Numbers.{nameMost, rampsMost, gridsMost}
 use Rattle.group.specs.Limits.{rampFits, rampBlank, gridFits, gridBlank, headFits}
 use Rattle.extent.specs.Extent.{meet, inside}
 
@@ -33,7 +34,7 @@ abbrev pub sameByte : Name → Name → ℕ → Bool
 sameByte m n k = eqb (getD (m .bytes) k 0) (getD (n .bytes) k 0)
 
 unfoldable pub sameName : Name → Name → Bool
-sameName m n = eqb (m .len) (n .len) && every (sameByte m n) 24
+sameName m n = eqb (m .len) (n .len) && every (sameByte m n) nameMost
 
 abbrev pub namedEarlier : Group → ℕ → Bool
 namedEarlier g k = some (λ j. sameName (gridAt g j .name) (gridAt g k .name)) k
@@ -76,8 +77,8 @@ judgedLines g =
 unfoldable pub judged : Group → Verdict
 judged g =
     refuseIf (not (headFits g)) 2 1
-    (refuseIf (some (unusedRamp g) 8) 2 1
-    (refuseIf (some (unusedGrid g) 64) 2 1
+    (refuseIf (some (unusedRamp g) rampsMost) 2 1
+    (refuseIf (some (unusedGrid g) gridsMost) 2 1
     (judgedLines g)))
 
 -- what an accepted group is known to be
@@ -85,8 +86,8 @@ pub record Sound (g : Group) : Type 0 where
   pub head : headFits g ≡ true
   pub ramp : (k : ℕ) → k < g .ramps → rampFits (rampAt g k) ≡ true
   pub grid : (k : ℕ) → k < g .grids → gridFits (gridAt g k) ≡ true
-  pub no-ramp : (k : ℕ) → k < 8 → unusedRamp g k ≡ false
-  pub no-grid : (k : ℕ) → k < 64 → unusedGrid g k ≡ false
+  pub no-ramp : (k : ℕ) → k < rampsMost → unusedRamp g k ≡ false
+  pub no-grid : (k : ℕ) → k < gridsMost → unusedGrid g k ≡ false
   pub edges : (k : ℕ) → k < g .grids → inside (g .parameters) (gridAt g k) ≡ true
   pub names : (i k : ℕ) → i < g .grids → k < i → sameName (gridAt g k .name) (gridAt g i .name) ≡ false
   pub ranks : (i k : ℕ) → i < g .grids → k < i → sameRank (gridAt g k) (gridAt g i) ≡ false

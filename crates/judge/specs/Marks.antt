@@ -9,8 +9,8 @@ use Rattle.group.specs.declared.Name.{Name}
 use Rattle.group.specs.declared.Grid.{Grid}
 use Rattle.group.specs.declared.Group.{Group}
 use Rattle.group.specs.Record.{gridAt}
+use Rattle.extent.specs.declared.Sides.{Sides}
 use Rattle.extent.specs.Sides.{sidesOf, Edges}
-use Rattle.extent.specs.Extent.{Sized}
 use Rattle.judge.specs.Judge.{namedEarlier, rankedEarlier}
 use Rattle.judge.specs.declared.Marks.{Marks}
 use Rattle.judge.specs.declared.Shared.{Shared}
@@ -25,15 +25,17 @@ packed byte (suc n) = packed byte n * 256 + byte n
 abbrev pub wordAt : Name → ℕ → ℕ
 wordAt n from = packed (λ j. getD (n .bytes) (from + j) 0) 8
 
--- a name by its length and its 24 bytes; a rank with the extent's four sides
-abbrev pub marksOf : Shared → Grid → Marks
-marksOf S.Name g = record { key = g .name .len; a = wordAt (g .name) 0; b = wordAt (g .name) 8; c = wordAt (g .name) 16; d = 0 }
-marksOf S.Rank g =
-    record { key = g .rank; a = sidesOf g .west; b = sidesOf g .east; c = sidesOf g .south; d = sidesOf g .north }
+-- a name by its length and its 24 bytes
+abbrev pub nameMarks : Name → Marks
+nameMarks n = record { key = n .len; a = wordAt n 0; b = wordAt n 8; c = wordAt n 16; d = 0 }
 
-abbrev pub Marked : Shared → Grid → Type 0
-Marked S.Name g = Unit {0}
-Marked S.Rank g = Sized g
+-- a rank with the extent's four sides
+abbrev pub rankMarks : ℕ → Sides → Marks
+rankMarks rank s = record { key = rank; a = s .west; b = s .east; c = s .south; d = s .north }
+
+abbrev pub marksOf : Shared → Grid → Marks
+marksOf S.Name g = nameMarks (g .name)
+marksOf S.Rank g = rankMarks (g .rank) (sidesOf g)
 
 -- grid k shares with an earlier one what it may not
 abbrev pub sharesEarlier : Shared → Group → ℕ → Bool

@@ -7,6 +7,7 @@ use Rattle.group.specs.declared.Ramp.{Ramp}
 use Rattle.group.specs.declared.Grid.{Grid}
 use Rattle.group.specs.declared.Group.{Group}
 use Rattle.group.specs.Record.{rampAt, gridAt}
+use Rattle.group.specs.Numbers.{parametersMost, rampsMost, gridsMost}
 use Rattle.group.specs.Limits.{rampFits, rampBlank, gridFits, gridBlank}
 use Rattle.extent.specs.Extent.{inside, Sized}
 use Rattle.judge.specs.declared.RampRule.{RampRule}
@@ -34,13 +35,13 @@ gridBreaks rule g k = gridTest rule (leb (g .grids) k) (g .parameters) (gridAt g
 abbrev pub Ready : GridRule → ℕ → Grid → Type 0
 Ready G.Unused np g = Unit {0}
 Ready G.Limits np g = Unit {0}
-Ready G.FarEdge np g = (np ≤ 3) × Sized g
+Ready G.FarEdge np g = (np ≤ parametersMost) × Sized g
 
 -- what a group line within its limits says of the loops behind it
 pub record Head (g : Group) : Type 0 where
-  pub ramps : g .ramps ≤ 8
-  pub grids : g .grids ≤ 64
-  pub parameters : g .parameters ≤ 3
+  pub ramps : g .ramps ≤ rampsMost
+  pub grids : g .grids ≤ gridsMost
+  pub parameters : g .parameters ≤ parametersMost
 
 -- each grid line is within its limits
 pub record Grids (g : Group) : Type 0 where

@@ -7,11 +7,11 @@ ghost use lib.IntN.{pos};
 ghost use lib.ListN.{length, set, getD};
 ghost use Rattle.numbers.specs.First.{first, some};
 ghost use Rattle.group.specs.Record.{noRamp, gridAt};
+ghost use Rattle.group.specs.Numbers.{rampsMost, gridsMost};
 ghost use Rattle.group.specs.Limits.{nameFits, headNumbersFit};
 ghost use Rattle.judge.specs.Judge.{judgedGrids, judgedLines, judged};
 ghost use Rattle.judge.specs.Rules.{rampTest, gridTest, gridBreaks, Ready, Head, Grids};
-ghost use Rattle.judge.specs.Flat.{Sided, Ended};
-ghost use Rattle.judge.specs.Marks.{wordAt, marksOf, Marked, putFour, Listed, agree, clash, sharesEarlier, Comparable};
+ghost use Rattle.judge.specs.Marks.{wordAt, nameMarks, marksOf, putFour, Listed, agree, clash, sharesEarlier, Comparable};
 use group::Grid;
 use group::Group;
 use group::Name;
@@ -24,6 +24,11 @@ use group::head_numbers_fit;
 use group::name_fits;
 use group::ramp_blank;
 use group::ramp_fits;
+
+// The entries of a record, used or not.
+const RAMPS: u64 = group::RAMPS_MOST as u64;
+
+const GRIDS: u64 = group::GRIDS_MOST as u64;
 
 // What a ramp entry can break.
 enum RampRule {
@@ -67,8 +72,8 @@ fn ramp_breaks(rule: RampRule, r: Ramp, behind: bool) -> bool
 }
 
 // The first of n ramp entries that breaks a rule, n if none does; those before one are known to keep it.
-fn first_ramp(rule: RampRule, ramps: [Ramp; 8], used: u64, from: u64, n: u64) -> u64
-    requires { ⌜ (from ≤ n) × (n ≤ 8) × ((k : ℕ) → k < from → rampTest rule (leb used k) (getD ramps k noRamp) ≡ false) ⌝ }
+fn first_ramp(rule: RampRule, ramps: [Ramp; group::RAMPS_MOST], used: u64, from: u64, n: u64) -> u64
+    requires { ⌜ (from ≤ n) × (n ≤ rampsMost) × ((k : ℕ) → k < from → rampTest rule (leb used k) (getD ramps k noRamp) ≡ false) ⌝ }
     ensures { λ r. ⌜ r ≡ first (λ k. rampTest rule (leb used k) (getD ramps k noRamp)) n ⌝ }
 {
     let mut i: u64 = from;
@@ -100,7 +105,7 @@ fn grid_breaks(rule: GridRule, g: Grid, behind: bool, np: u64) -> bool
 
 // The first of n grid entries that breaks a rule, n if none does; those before one are known to keep it.
 fn first_grid(rule: GridRule, group: Group, from: u64, n: u64) -> u64
-    requires { ⌜ (from ≤ n) × (n ≤ 64) × ((k : ℕ) → k < from → gridBreaks rule group k ≡ false) × ((k : ℕ) → k < n → Ready rule (group .parameters) (gridAt group k)) ⌝ }
+    requires { ⌜ (from ≤ n) × (n ≤ gridsMost) × ((k : ℕ) → k < from → gridBreaks rule group k ≡ false) × ((k : ℕ) → k < n → Ready rule (group .parameters) (gridAt group k)) ⌝ }
     ensures { λ r. ⌜ r ≡ first (gridBreaks rule group) n ⌝ }
 {
     let used = group.grids;
@@ -138,32 +143,16 @@ fn word(name: Name, from: usize) -> u64
     w
 }
 
-// The numbers by which a grid is compared with the others.
-fn marks_of(shared: Shared, g: Grid) -> Marks
-    requires { ⌜ Marked shared g ⌝ }
-    ensures { λ r. ⌜ r ≡ marksOf shared g ⌝ }
+// The numbers by which a name is compared with the others.
+fn name_marks(name: Name) -> Marks
+    ensures { λ r. ⌜ r ≡ nameMarks name ⌝ }
 {
-    match shared {
-        Shared::Name => {
-            let name = g.name;
-            Marks {
-                key: name.len,
-                a: word(name, 0),
-                b: word(name, 8),
-                c: word(name, 16),
-                d: 0,
-            }
-        }
-        Shared::Rank => {
-            let s = extent::sides_of(g);
-            Marks {
-                key: g.rank,
-                a: s.west,
-                b: s.east,
-                c: s.south,
-                d: s.north,
-            }
-        }
+    Marks {
+        key: name.len,
+        a: word(name, 0),
+        b: word(name, 8),
+        c: word(name, 16),
+        d: 0,
     }
 }
 
@@ -180,19 +169,30 @@ fn put_marks(fours: &mut [u64], keys: &mut [u64], i: usize, m: Marks)
     keys[i] = m.key;
 }
 
-// Stores the marks of every grid of a group, four and a key for each.
-fn fill_marks(shared: Shared, group: Group, fours: &mut [u64], keys: &mut [u64])
-    requires { ⌜ Head group × Grids group × (256 ≤ length (now fours)) × (64 ≤ length (now keys)) ⌝ }
-    ensures { λ _. ⌜ Listed (λ k. marksOf shared (gridAt group k)) (group .grids) (now (fours .exit)) (now (keys .exit)) ⌝ }
+// Stores the marks of the names of a group's grids, four and a key for each.
+fn fill_names(group: Group, fours: &mut [u64], keys: &mut [u64])
+    requires { ⌜ (group .grids ≤ gridsMost) × (256 ≤ length (now fours)) × (64 ≤ length (now keys)) ⌝ }
+    ensures { λ _. ⌜ Listed (λ k. nameMarks (gridAt group k .name)) (group .grids) (now (fours .exit)) (now (keys .exit)) ⌝ }
 {
     let n = group.grids;
     let mut i: u64 = 0;
     while i < n {
         let at = i as usize;
         let g = group.grid[at];
-        let m = marks_of(shared, g);
+        let m = name_marks(g.name);
         put_marks(fours, keys, at, m);
         i += 1;
+    }
+}
+
+// Stores the marks of every grid of a group: of its name, or its rank with its sides.
+fn fill_marks(shared: Shared, group: Group, fours: &mut [u64], keys: &mut [u64])
+    requires { ⌜ Head group × Grids group × (256 ≤ length (now fours)) × (64 ≤ length (now keys)) ⌝ }
+    ensures { λ _. ⌜ Listed (λ k. marksOf shared (gridAt group k)) (group .grids) (now (fours .exit)) (now (keys .exit)) ⌝ }
+{
+    match shared {
+        Shared::Name => fill_names(group, fours, keys),
+        Shared::Rank => flat::fill_sides(group, fours, keys),
     }
 }
 
@@ -351,41 +351,17 @@ pub fn judge(group: Group) -> Verdict
     }
     let m = group.ramps;
     let ramps = group.ramp;
-    if first_ramp(RampRule::Unused, ramps, m, m, 8) < 8 {
+    if first_ramp(RampRule::Unused, ramps, m, m, RAMPS) < RAMPS {
         return Verdict::Refused(Refusal {
             number: 2,
             place: 1,
         });
     }
-    if first_grid(GridRule::Unused, group, group.grids, 64) < 64 {
+    if first_grid(GridRule::Unused, group, group.grids, GRIDS) < GRIDS {
         return Verdict::Refused(Refusal {
             number: 2,
             place: 1,
         });
     }
     judge_lines(group)
-}
-
-// Stores the sides of an accepted group's grids, west, east, south and north for each, and their ranks.
-pub fn fill_sides(group: Group, sides: &mut [u64], ranks: &mut [u64])
-    requires { ⌜ (judged group ≡ Verdict.Accepted) × (256 ≤ length (now sides)) × (64 ≤ length (now ranks)) ⌝ }
-    ensures { λ _. ⌜ Sided group (now (sides .exit)) (now (ranks .exit)) ⌝ }
-{
-    fill_marks(Shared::Rank, group, sides, ranks);
-}
-
-// Stores where the node range of each grid of an accepted group ends.
-pub fn fill_ends(group: Group, ends: &mut [u64])
-    requires { ⌜ (judged group ≡ Verdict.Accepted) × (64 ≤ length (now ends)) ⌝ }
-    ensures { λ _. ⌜ Ended group (group .grids) (now (ends .exit)) ⌝ }
-{
-    let n = group.grids;
-    let np = group.parameters;
-    let mut i: u64 = 0;
-    while i < n {
-        let at = i as usize;
-        let g = group.grid[at];
-        ends[at] = extent::node_end(g, np);
-        i += 1;
-    }
 }

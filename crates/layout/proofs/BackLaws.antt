@@ -9,12 +9,15 @@ use lib.IntN.{ℤ, pos}
 use lib.ListN.{length, List·getD-append}
 use lib.Seq.{getD-append-add}
 use Rattle.numbers.specs.Order.{between}
+use Rattle.group.specs.Numbers.{rampsMost, gridsMost}
+use Rattle.layout.specs.Words.{nameWords, headWords, rampWords, gridWords, rampPlace, gridPlace}
+use Rattle.group.specs.Numbers.{beyond}
 use Rattle.group.specs.declared.Name.{Name}
 use Rattle.group.specs.declared.Unit.{Unit}
 use Rattle.group.specs.declared.Unit.the-variants.{ArcSecond, Metre}
 use Rattle.group.specs.declared.Group.{Group}
 use Rattle.group.specs.Record.{noRamp, noGrid, rampAt, gridAt}
-use Rattle.layout.specs.Layout.{numberAt, beyond, countOf, countAt, nameOf, unitOf, rampOf, gridOf, groupOf, stored, unitNumber, joined, wordOf, nameNumber, rampNumbers, gridNumbers, headNumbers, numbersOf, most, KeptName, KeptGrid, Kept}
+use Rattle.layout.specs.Layout.{numberAt, countOf, countAt, nameOf, unitOf, rampOf, gridOf, groupOf, stored, unitNumber, joined, wordOf, nameNumber, rampNumbers, gridNumbers, headNumbers, numbersOf, most, KeptName, KeptGrid, Kept}
 use Rattle.layout.proofs.ListLaws.{length-joined, getD-joined, listOf-is}
 use Rattle.layout.proofs.WordLaws.{word-most, name-back}
 
@@ -31,59 +34,59 @@ unit-known Metre = refl
 
 module _ (g : Group) where
   ramps : List ℤ
-  ramps = joined (λ k. rampNumbers (rampAt g k)) 8
+  ramps = joined (λ k. rampNumbers (rampAt g k)) rampsMost
 
   grids : List ℤ
-  grids = joined (λ k. gridNumbers (gridAt g k)) 64
+  grids = joined (λ k. gridNumbers (gridAt g k)) gridsMost
 
-  ramps-length : length ramps ≡ 32
+  ramps-length : length ramps ≡ rampsMost * rampWords
   unfolding ramps
-  ramps-length = length-joined (λ k. rampNumbers (rampAt g k)) 4 8 (λ k l. refl)
+  ramps-length = length-joined (λ k. rampNumbers (rampAt g k)) rampWords rampsMost (λ k l. refl)
 
-  head-number : (j : ℕ) → j < 9 → numberAt (numbersOf g) j ≡ numberAt (headNumbers g) j
+  head-number : (j : ℕ) → j < headWords → numberAt (numbersOf g) j ≡ numberAt (headNumbers g) j
   unfolding numbersOf ramps grids
   head-number j l = List·getD-append (headNumbers g) (ramps ++ grids) (pos 0) j l
 
-  ramp-number : (k j : ℕ) → k < 8 → j < 4 → numberAt (numbersOf g) (k * 4 + (9 + j)) ≡ numberAt (rampNumbers (rampAt g k)) j
+  ramp-number : (k j : ℕ) → k < rampsMost → j < rampWords → numberAt (numbersOf g) (rampPlace k j) ≡ numberAt (rampNumbers (rampAt g k)) j
   unfolding numbersOf ramps grids
   ramp-number k j a b =
       let n = ramps-length in
-      let e : k * 4 + (9 + j) ≡ 9 + (k * 4 + j) = omega arith in
+      let e : rampPlace k j ≡ headWords + (k * rampWords + j) = omega arith in
       ap (λ (i : ℕ). numberAt (headNumbers g ++ (ramps ++ grids)) i) e
-      ∙ getD-append-add (headNumbers g) (ramps ++ grids) (k * 4 + j) (pos 0)
-      ∙ List·getD-append ramps grids (pos 0) (k * 4 + j) (omega arith)
-      ∙ getD-joined (λ i. rampNumbers (rampAt g i)) 4 8 (pos 0) (λ i. refl) k j a b
+      ∙ getD-append-add (headNumbers g) (ramps ++ grids) (k * rampWords + j) (pos 0)
+      ∙ List·getD-append ramps grids (pos 0) (k * rampWords + j) (omega arith)
+      ∙ getD-joined (λ i. rampNumbers (rampAt g i)) rampWords rampsMost (pos 0) (λ i. refl) k j a b
 
-  grid-number : (k j : ℕ) → k < 64 → j < 12 → numberAt (numbersOf g) (k * 12 + (41 + j)) ≡ numberAt (gridNumbers (gridAt g k)) j
+  grid-number : (k j : ℕ) → k < gridsMost → j < gridWords → numberAt (numbersOf g) (gridPlace k j) ≡ numberAt (gridNumbers (gridAt g k)) j
   unfolding numbersOf ramps grids
   grid-number k j a b =
       let n = ramps-length in
-      let e : k * 12 + (41 + j) ≡ 9 + (32 + (k * 12 + j)) = omega arith in
+      let e : gridPlace k j ≡ headWords + (rampsMost * rampWords + (k * gridWords + j)) = omega arith in
       ap (λ (i : ℕ). numberAt (headNumbers g ++ (ramps ++ grids)) i) e
-      ∙ getD-append-add (headNumbers g) (ramps ++ grids) (32 + (k * 12 + j)) (pos 0)
-      ∙ ap (λ (i : ℕ). numberAt (ramps ++ grids) (i + (k * 12 + j))) (sym n)
-      ∙ getD-append-add ramps grids (k * 12 + j) (pos 0)
-      ∙ getD-joined (λ i. gridNumbers (gridAt g i)) 12 64 (pos 0) (λ i. refl) k j a b
+      ∙ getD-append-add (headNumbers g) (ramps ++ grids) (rampsMost * rampWords + (k * gridWords + j)) (pos 0)
+      ∙ ap (λ (i : ℕ). numberAt (ramps ++ grids) (i + (k * gridWords + j))) (sym n)
+      ∙ getD-append-add ramps grids (k * gridWords + j) (pos 0)
+      ∙ getD-joined (λ i. gridNumbers (gridAt g i)) gridWords gridsMost (pos 0) (λ i. refl) k j a b
 
   -- the words of a name
-  words : (n : Name) (at : ℕ) → KeptName n → ((w : ℕ) → w < 3 → numberAt (numbersOf g) (at + w) ≡ nameNumber n w) → nameOf (numbersOf g) at (n .len) ≡ n
+  words : (n : Name) (at : ℕ) → KeptName n → ((w : ℕ) → w < nameWords → numberAt (numbersOf g) (at + w) ≡ nameNumber n w) → nameOf (numbersOf g) at (n .len) ≡ n
   words n at h e =
       name-back (numbersOf g) at n (h .bytes) (h .plain)
       (λ w l. count-back _ (wordOf (n .bytes) w) (word-most (n .bytes) (h .plain) w l) (e w l))
 
-  head-word : (w : ℕ) → w < 3 → numberAt (numbersOf g) (0 + w) ≡ nameNumber (g .name) w
+  head-word : (w : ℕ) → w < nameWords → numberAt (numbersOf g) (0 + w) ≡ nameNumber (g .name) w
   head-word zero l = head-number 0 (omega arith)
   head-word (suc zero) l = head-number 1 (omega arith)
   head-word (suc (suc zero)) l = head-number 2 (omega arith)
   head-word (suc (suc (suc w))) l = absurd (omega arith)
 
-  grid-word : (k : ℕ) → k < 64 → (w : ℕ) → w < 3 → numberAt (numbersOf g) (k * 12 + 41 + w) ≡ nameNumber (gridAt g k .name) w
+  grid-word : (k : ℕ) → k < gridsMost → (w : ℕ) → w < nameWords → numberAt (numbersOf g) (gridPlace k 0 + w) ≡ nameNumber (gridAt g k .name) w
   grid-word k m zero l = ap (numberAt (numbersOf g)) (omega arith) ∙ grid-number k 0 m (omega arith)
   grid-word k m (suc zero) l = ap (numberAt (numbersOf g)) (omega arith) ∙ grid-number k 1 m (omega arith)
   grid-word k m (suc (suc zero)) l = ap (numberAt (numbersOf g)) (omega arith) ∙ grid-number k 2 m (omega arith)
   grid-word k m (suc (suc (suc w))) l = absurd (omega arith)
 
-  ramp-back : (k : ℕ) → k < 8 → rampOf (numbersOf g) k ≡ rampAt g k
+  ramp-back : (k : ℕ) → k < rampsMost → rampOf (numbersOf g) k ≡ rampAt g k
   unfolding rampOf
   ramp-back k l =
       let a = ramp-number k 0 l (omega arith) in
@@ -92,13 +95,13 @@ module _ (g : Group) where
       let s1 = ramp-number k 3 l (omega arith) in
       λ i. record { a = a i; s0 = s0 i; b = b i; s1 = s1 i }
 
-  grid-back : (k : ℕ) → k < 64 → KeptGrid (gridAt g k) → gridOf (numbersOf g) k ≡ gridAt g k
+  grid-back : (k : ℕ) → k < gridsMost → KeptGrid (gridAt g k) → gridOf (numbersOf g) k ≡ gridAt g k
   unfolding gridOf
   grid-back k l h =
       let d = gridAt g k in
-      let at : (j : ℕ) → j < 12 → numberAt (numbersOf g) (k * 12 + (41 + j)) ≡ numberAt (gridNumbers d) j = λ j b. grid-number k j l b in
+      let at : (j : ℕ) → j < gridWords → numberAt (numbersOf g) (gridPlace k j) ≡ numberAt (gridNumbers d) j = λ j b. grid-number k j l b in
       let len = count-back _ (d .name .len) (h .name .len) (at 3 (omega arith)) in
-      let name = ap (nameOf (numbersOf g) (k * 12 + 41)) len ∙ words (d .name) (k * 12 + 41) (h .name) (grid-word k l) in
+      let name = ap (nameOf (numbersOf g) (gridPlace k 0)) len ∙ words (d .name) (gridPlace k 0) (h .name) (grid-word k l) in
       let lon = at 4 (omega arith) in
       let lat = at 5 (omega arith) in
       let dlon = at 6 (omega arith) in
@@ -132,8 +135,8 @@ module _ (g : Group) where
       let parameters = count-back _ (g .parameters) (h .parameters) (head-number 6 (omega arith)) in
       let rs = count-back _ (g .ramps) (h .ramps) (head-number 7 (omega arith)) in
       let gs = count-back _ (g .grids) (h .grids) (head-number 8 (omega arith)) in
-      let ramp = listOf-is (rampOf (numbersOf g)) noRamp 8 (g .ramp) (h .ramp) ramp-back in
-      let grid = listOf-is (gridOf (numbersOf g)) noGrid 64 (g .grid) (h .grid) (λ k l. grid-back k l (h .kept k l)) in
+      let ramp = listOf-is (rampOf (numbersOf g)) noRamp rampsMost (g .ramp) (h .ramp) ramp-back in
+      let grid = listOf-is (gridOf (numbersOf g)) noGrid gridsMost (g .grid) (h .grid) (λ k l. grid-back k l (h .kept k l)) in
       λ i. record {
         name = name i;
         unit = unit i;

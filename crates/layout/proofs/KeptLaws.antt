@@ -1,5 +1,5 @@
 -- An accepted group of 8 ramps, 64 grids and names of 24 bytes is read back as it was stored.
-use Prim.Native.Nat.{ℕ, _+_, _≤_, _<_}
+use Prim.Native.Nat.{ℕ, _<_}
 use mathlib.Core.Path.{_≡_, refl, sym, ap, _∙_}
 use mathlib.Core.Bool.{Bool, true, false, not, _&&_, _||_}
 use mathlib.Core.Logic.{⊎-elim}
@@ -8,9 +8,9 @@ use borrow.Author.Tests.{leb-true, leb-false, eqb-true, not-false}
 use lib.Dec.{leb, ltb, eqb}
 use lib.ListN.{length, getD}
 use Rattle.numbers.specs.First.{every}
-use Rattle.numbers.specs.Order.{within}
 use Rattle.numbers.proofs.Bools.{and-left, and-right, or-cases}
 use Rattle.numbers.proofs.FirstLaws.{every-at}
+use Rattle.group.specs.Numbers.{nameMost, rampsMost, gridsMost, isZero}
 use Rattle.group.specs.declared.Name.{Name}
 use Rattle.group.specs.declared.Grid.{Grid}
 use Rattle.group.specs.declared.Group.{Group}
@@ -46,25 +46,25 @@ plain-byte n k e =
     (λ p. let z = eqb-true b 0 (and-right (leb (n .len) k) (eqb b 0) p) in omega arith)
     (or-cases (ltb k (n .len) && nameByte b) (leb (n .len) k && eqb b 0) e)
 
-fitting-name : (n : Name) → length (n .bytes) ≡ 24 → nameFits n ≡ true → KeptName n
+fitting-name : (n : Name) → length (n .bytes) ≡ nameMost → nameFits n ≡ true → KeptName n
 unfolding nameFits
 fitting-name n b e =
-    let l = leb-true (n .len) 24 (and-right (leb 1 (n .len)) (leb (n .len) 24) (and-left (leb 1 (n .len) && leb (n .len) 24) (every (byteFits n) 24) e)) in
-    let h = and-right (leb 1 (n .len) && leb (n .len) 24) (every (byteFits n) 24) e in
-    record { bytes = b; plain = λ j m. plain-byte n j (every-at (byteFits n) 24 j h m); len = omega arith }
+    let l = leb-true (n .len) nameMost (and-right (leb 1 (n .len)) (leb (n .len) nameMost) (and-left (leb 1 (n .len) && leb (n .len) nameMost) (every (byteFits n) nameMost) e)) in
+    let h = and-right (leb 1 (n .len) && leb (n .len) nameMost) (every (byteFits n) nameMost) e in
+    record { bytes = b; plain = λ j m. plain-byte n j (every-at (byteFits n) nameMost j h m); len = omega arith }
 
-blank-name : (n : Name) → length (n .bytes) ≡ 24 → nameBlank n ≡ true → KeptName n
+blank-name : (n : Name) → length (n .bytes) ≡ nameMost → nameBlank n ≡ true → KeptName n
 unfolding nameBlank
 blank-name n b e =
-    let l = eqb-true (n .len) 0 (and-left (eqb (n .len) 0) (every (byteFits n) 24) e) in
-    let h = and-right (eqb (n .len) 0) (every (byteFits n) 24) e in
-    record { bytes = b; plain = λ j m. plain-byte n j (every-at (byteFits n) 24 j h m); len = omega arith }
+    let l = eqb-true (n .len) 0 (and-left (eqb (n .len) 0) (every (byteFits n) nameMost) e) in
+    let h = and-right (eqb (n .len) 0) (every (byteFits n) nameMost) e in
+    record { bytes = b; plain = λ j m. plain-byte n j (every-at (byteFits n) nameMost j h m); len = omega arith }
 
 head-name : (g : Group) → headFits g ≡ true → nameFits (g .name) ≡ true
 unfolding headFits
 head-name g e = and-left (nameFits (g .name)) _ e
 
-fitting-kept : (d : Grid) → length (d .name .bytes) ≡ 24 → gridFits d ≡ true → KeptGrid d
+fitting-kept : (d : Grid) → length (d .name .bytes) ≡ nameMost → gridFits d ≡ true → KeptGrid d
 fitting-kept d b e =
     record {
       name = fitting-name (d .name) b (name-good d e);
@@ -74,14 +74,14 @@ fitting-kept d b e =
       start = omega (arith, start-most d e);
     }
 
-blank-kept : (d : Grid) → length (d .name .bytes) ≡ 24 → gridBlank d ≡ true → KeptGrid d
+blank-kept : (d : Grid) → length (d .name .bytes) ≡ nameMost → gridBlank d ≡ true → KeptGrid d
 unfolding gridBlank
 blank-kept d b e =
     let i = eqb (d .ni) 0 in
     let j = eqb (d .nj) 0 in
     let r = eqb (d .rank) 0 in
     let s = eqb (d .start) 0 in
-    let o = within 0 (d .lon .0) && within 0 (d .lat .0) && within 0 (d .dlon) && within 0 (d .dlat) in
+    let o = isZero (d .lon .0) && isZero (d .lat .0) && isZero (d .dlon) && isZero (d .dlat) in
     let head = and-left (nameBlank (d .name) && o) (i && j && r && s) e in
     let counts = and-right (nameBlank (d .name) && o) (i && j && r && s) e in
     let name = and-left (nameBlank (d .name)) o head in
@@ -94,7 +94,7 @@ blank-kept d b e =
     }
 
 module _ (g : Group) (e : judged g ≡ Accepted) where
-  grid-kept : (k : ℕ) → k < 64 → length (gridAt g k .name .bytes) ≡ 24 → KeptGrid (gridAt g k)
+  grid-kept : (k : ℕ) → k < gridsMost → length (gridAt g k .name .bytes) ≡ nameMost → KeptGrid (gridAt g k)
   grid-kept k l b = go (leb (g .grids) k) refl
     where
       go : (t : Bool) → leb (g .grids) k ≡ t → KeptGrid (gridAt g k)
@@ -104,8 +104,8 @@ module _ (g : Group) (e : judged g ≡ Accepted) where
           (sym (ap (λ (t : Bool). t && not (gridBlank (gridAt g k))) q) ∙ accepted g e .no-grid k l))
       go false q = fitting-kept (gridAt g k) b (accepted g e .grid k (leb-false (g .grids) k q))
 
-  pub accepted-kept : length (g .name .bytes) ≡ 24 → length (g .ramp) ≡ 8 → length (g .grid) ≡ 64
-      → ((k : ℕ) → k < 64 → length (gridAt g k .name .bytes) ≡ 24) → Kept g
+  pub accepted-kept : length (g .name .bytes) ≡ nameMost → length (g .ramp) ≡ rampsMost → length (g .grid) ≡ gridsMost
+      → ((k : ℕ) → k < gridsMost → length (gridAt g k .name .bytes) ≡ nameMost) → Kept g
   accepted-kept b r d n =
       let h = accepted g e .head in
       record {

@@ -4,6 +4,7 @@ use mathlib.Core.Bool.{true, false, cond}
 use native.Mathlib.Omega.{arith}
 use borrow.Author.Tests.{ltb-true, le-leb, lt-leb}
 use Rattle.numbers.specs.Order.{between}
+use Rattle.group.specs.Numbers.{beyond}
 use Rattle.group.specs.declared.Unit.the-variants.{ArcSecond, Metre}
 use lib.IntN.{ℤ, pos, negsuc, natAbs}
 use lib.Signed.{ltZ, mag}
@@ -11,7 +12,7 @@ use mir.Syntax.{w64}
 use mir.Val.{toZ, ofZ}
 use mir.Facts.{toZ-ofZ}
 use Prim.Native.Nat.{ℕ, zero, suc, _<_, _^_}
-use Rattle.layout.specs.Layout.{beyond, countOf, unitOf}
+use Rattle.layout.specs.Layout.{countOf, unitOf}
 
 pub count-below : (z : ℤ) → ltZ z (pos 0) ≡ true → countOf z ≡ beyond
 count-below (pos n) e = absurd (let h = ltb-true n 0 e in omega arith)

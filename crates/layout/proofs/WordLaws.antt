@@ -1,10 +1,12 @@
 -- The 24 bytes of a name in three numbers: what was packed is read back.
 use Prim.Native.Nat.{ℕ, zero, suc, _+_, _*_, _/_, _%_, _≤_, _<_}
-use mathlib.Core.Path.{_≡_, refl, sym, ap, _∙_}
+use mathlib.Core.Path.{_≡_, refl, ap, _∙_}
 use mathlib.Core.List.{List, [], _∷_}
 use native.Mathlib.Omega.{arith}
 use lib.IntN.{ℤ}
 use lib.ListN.{length, getD}
+use Rattle.group.specs.Numbers.{nameMost}
+use Rattle.layout.specs.Words.{nameWords}
 use Rattle.group.specs.declared.Name.{Name}
 use Rattle.layout.specs.Layout.{byteAt, byteOf, countAt, fourOf, wordOf, nameOf, most}
 use Rattle.layout.proofs.ListLaws.{listOf-is}
@@ -33,14 +35,14 @@ picked bs i (suc (suc (suc (suc (suc (suc zero)))))) l = refl
 picked bs i (suc (suc (suc (suc (suc (suc (suc zero))))))) l = refl
 picked bs i (suc (suc (suc (suc (suc (suc (suc (suc j)))))))) l = absurd (omega arith)
 
-module _ (bs : List ℕ) (plain : (j : ℕ) → j < 24 → byteAt bs j < 128) where
-  byte : (w j : ℕ) → w < 3 → j < 8 → byteAt bs (w * 8 + j) < 256
+module _ (bs : List ℕ) (plain : (j : ℕ) → j < nameMost → byteAt bs j < 128) where
+  byte : (w j : ℕ) → w < nameWords → j < 8 → byteAt bs (w * 8 + j) < 256
   byte w j a b = let p = plain (w * 8 + j) (omega arith) in omega arith
 
-  low : (w : ℕ) → w < 3 → byteAt bs (w * 8) < 256
+  low : (w : ℕ) → w < nameWords → byteAt bs (w * 8) < 256
   low w a = let p = plain (w * 8) (omega arith) in omega arith
 
-  pub word-most : (w : ℕ) → w < 3 → wordOf bs w ≤ most
+  pub word-most : (w : ℕ) → w < nameWords → wordOf bs w ≤ most
   unfolding wordOf
   word-most w l =
       omega (
@@ -55,7 +57,7 @@ module _ (bs : List ℕ) (plain : (j : ℕ) → j < 24 → byteAt bs j < 128) wh
         plain (w * 8 + 7) (omega arith),
       )
 
-  word-byte : (w j : ℕ) → w < 3 → j < 8 → byteOf (wordOf bs w) j ≡ byteAt bs (w * 8 + j)
+  word-byte : (w j : ℕ) → w < nameWords → j < 8 → byteOf (wordOf bs w) j ≡ byteAt bs (w * 8 + j)
   unfolding wordOf
   word-byte w j l m =
       eight (byteAt bs (w * 8)) (byteAt bs (w * 8 + 1)) (byteAt bs (w * 8 + 2)) (byteAt bs (w * 8 + 3)) (byteAt bs (w * 8 + 4)) (byteAt bs (w * 8 + 5)) (byteAt bs (w * 8 + 6)) (byteAt bs (w * 8 + 7))
@@ -64,12 +66,12 @@ module _ (bs : List ℕ) (plain : (j : ℕ) → j < 24 → byteAt bs j < 128) wh
       ∙ picked bs (w * 8) j m
 
 -- a name whose words stand in a list from place k on
-pub name-back : (ns : List ℤ) (k : ℕ) (n : Name) → length (n .bytes) ≡ 24 → ((j : ℕ) → j < 24 → byteAt (n .bytes) j < 128)
-    → ((w : ℕ) → w < 3 → countAt ns (k + w) ≡ wordOf (n .bytes) w) → nameOf ns k (n .len) ≡ n
+pub name-back : (ns : List ℤ) (k : ℕ) (n : Name) → length (n .bytes) ≡ nameMost → ((j : ℕ) → j < nameMost → byteAt (n .bytes) j < 128)
+    → ((w : ℕ) → w < nameWords → countAt ns (k + w) ≡ wordOf (n .bytes) w) → nameOf ns k (n .len) ≡ n
 unfolding nameOf
 name-back ns k n e plain words =
     let b =
-    listOf-is (λ j. byteOf (countAt ns (k + j / 8)) (j % 8)) 0 24 (n .bytes) e
+    listOf-is (λ j. byteOf (countAt ns (k + j / 8)) (j % 8)) 0 nameMost (n .bytes) e
     (λ j l.
     ap (λ (x : ℕ). byteOf x (j % 8)) (words (j / 8) (omega arith)) ∙ word-byte (n .bytes) plain (j / 8) (j % 8) (omega arith) (omega arith)
     ∙ ap (byteAt (n .bytes)) (omega arith)) in

@@ -13,6 +13,8 @@ use Rattle.group.specs.declared.Ramp.{Ramp}
 use Rattle.group.specs.declared.Grid.{Grid}
 use Rattle.group.specs.declared.Group.{Group}
 use Rattle.group.specs.Record.{rampAt, gridAt}
+use Rattle.group.specs.Numbers.{nameMost, rampsMost, gridsMost, beyond}
+use Rattle.layout.specs.Words.{lengthPlace, unitPlace, quantumPlace, parametersPlace, rampsPlace, gridsPlace, rampPlace, gridPlace}
 
 -- ---- from the lists to the record
 
@@ -21,10 +23,6 @@ numberAt ns k = getD ns k (pos 0)
 
 abbrev pub byteAt : List ℕ → ℕ → ℕ
 byteAt bs k = getD bs k 0
-
--- beyond every limit
-abbrev pub beyond : ℕ
-beyond = 18446744073709551615
 
 -- a number where the record is unsigned: below zero it is beyond its limit
 abbrev pub countOf : ℤ → ℕ
@@ -43,9 +41,9 @@ listOf f (suc n) = f zero ∷ listOf (λ i. f (suc i)) n
 abbrev pub byteOf : ℕ → ℕ → ℕ
 byteOf w j = w / 2 ^ (8 * j) % 256
 
--- the name of a length whose 24 bytes stand in three numbers from place k on; one below zero holds no byte of a name
+-- the name of a length whose bytes stand in three numbers from place k on; one below zero holds no byte of a name
 unfoldable pub nameOf : List ℤ → ℕ → ℕ → Name
-nameOf ns k len = record { bytes = listOf (λ j. byteOf (countAt ns (k + j / 8)) (j % 8)) 24; len = len }
+nameOf ns k len = record { bytes = listOf (λ j. byteOf (countAt ns (k + j / 8)) (j % 8)) nameMost; len = len }
 
 -- 0 is arc-second, 1 is metre
 abbrev pub unitOf : ℤ → Unit
@@ -55,47 +53,51 @@ unitOf (negsuc n) = Metre
 
 -- a unit other than these two is refused as Q would be: 2 at line 1
 abbrev pub quantumOf : List ℤ → ℕ
-quantumOf ns = cond (between (pos 0) (pos 1) (numberAt ns 4)) (countAt ns 5) beyond
+quantumOf ns = cond (between (pos 0) (pos 1) (numberAt ns unitPlace)) (countAt ns quantumPlace) beyond
 
--- ramp k stands from number 9 + 4k on: A S0 B S1
+-- ramp k: A S0 B S1
 unfoldable pub rampOf : List ℤ → ℕ → Ramp
 rampOf ns k =
-    record { a = numberAt ns (k * 4 + 9); s0 = numberAt ns (k * 4 + 10); b = numberAt ns (k * 4 + 11); s1 = numberAt ns (k * 4 + 12) }
+    record { a = numberAt ns (rampPlace k 0); s0 = numberAt ns (rampPlace k 1); b = numberAt ns (rampPlace k 2); s1 = numberAt ns (rampPlace k 3) }
 
--- grid k stands from number 41 + 12k on: name, name length, LON LAT DLON DLAT NI NJ RANK START
+-- grid k: name, name length, LON LAT DLON DLAT NI NJ RANK START
 unfoldable pub gridOf : List ℤ → ℕ → Grid
 gridOf ns k =
     record {
-      name = nameOf ns (k * 12 + 41) (countAt ns (k * 12 + 44));
-      lon = record { 0 = numberAt ns (k * 12 + 45) };
-      lat = record { 0 = numberAt ns (k * 12 + 46) };
-      dlon = numberAt ns (k * 12 + 47);
-      dlat = numberAt ns (k * 12 + 48);
-      ni = countAt ns (k * 12 + 49);
-      nj = countAt ns (k * 12 + 50);
-      rank = countAt ns (k * 12 + 51);
-      start = countAt ns (k * 12 + 52);
+      name = nameOf ns (gridPlace k 0) (countAt ns (gridPlace k lengthPlace));
+      lon = record { 0 = numberAt ns (gridPlace k 4) };
+      lat = record { 0 = numberAt ns (gridPlace k 5) };
+      dlon = numberAt ns (gridPlace k 6);
+      dlat = numberAt ns (gridPlace k 7);
+      ni = countAt ns (gridPlace k 8);
+      nj = countAt ns (gridPlace k 9);
+      rank = countAt ns (gridPlace k 10);
+      start = countAt ns (gridPlace k 11);
     }
 
--- name, name length, unit, Q, NP, counts of ramps and grids, 8 ramps, 64 grids
+-- name, name length, unit, Q, NP, counts of ramps and grids, all ramps, all grids
 unfoldable pub groupOf : List ℤ → Group
 groupOf ns =
     record {
-      name = nameOf ns 0 (countAt ns 3);
-      unit = unitOf (numberAt ns 4);
+      name = nameOf ns 0 (countAt ns lengthPlace);
+      unit = unitOf (numberAt ns unitPlace);
       quantum = quantumOf ns;
-      parameters = countAt ns 6;
-      ramps = countAt ns 7;
-      grids = countAt ns 8;
-      ramp = listOf (rampOf ns) 8;
-      grid = listOf (gridOf ns) 64;
+      parameters = countAt ns parametersPlace;
+      ramps = countAt ns rampsPlace;
+      grids = countAt ns gridsPlace;
+      ramp = listOf (rampOf ns) rampsMost;
+      grid = listOf (gridOf ns) gridsMost;
     }
 
 -- ---- from the record to the list
 
+-- the greatest signed number
+abbrev pub most : ℕ
+most = 9223372036854775807
+
 -- an unsigned number as it is stored: one above the greatest signed number, which no accepted group has, as that greatest
 abbrev pub stored : ℕ → ℤ
-stored n = pos (min n 9223372036854775807)
+stored n = pos (min n most)
 
 abbrev pub unitNumber : Unit → ℤ
 unitNumber ArcSecond = pos 0
@@ -133,18 +135,15 @@ headNumbers g =
     nameNumber (g .name) 0 ∷ nameNumber (g .name) 1 ∷ nameNumber (g .name) 2 ∷ stored (g .name .len)
     ∷ unitNumber (g .unit) ∷ stored (g .quantum) ∷ stored (g .parameters) ∷ stored (g .ramps) ∷ stored (g .grids) ∷ []
 
--- the 809 numbers of a group
+-- the numbers of a group
 unfoldable pub numbersOf : Group → List ℤ
-numbersOf g = headNumbers g ++ (joined (λ k. rampNumbers (rampAt g k)) 8 ++ joined (λ k. gridNumbers (gridAt g k)) 64)
+numbersOf g = headNumbers g ++ (joined (λ k. rampNumbers (rampAt g k)) rampsMost ++ joined (λ k. gridNumbers (gridAt g k)) gridsMost)
 
--- ---- what makes a group the same again: 8 ramps, 64 grids, names of 24 bytes below 128, and no unsigned number above the greatest signed one
-
-abbrev pub most : ℕ
-most = 9223372036854775807
+-- ---- what makes a group the same again: all ramps and grids, whole names of bytes below 128, and no unsigned number above the greatest signed one
 
 pub record KeptName (n : Name) : Type 0 where
-  pub bytes : length (n .bytes) ≡ 24
-  pub plain : (j : ℕ) → j < 24 → byteAt (n .bytes) j < 128
+  pub bytes : length (n .bytes) ≡ nameMost
+  pub plain : (j : ℕ) → j < nameMost → byteAt (n .bytes) j < 128
   pub len : n .len ≤ most
 
 pub record KeptGrid (g : Grid) : Type 0 where
@@ -156,10 +155,10 @@ pub record KeptGrid (g : Grid) : Type 0 where
 
 pub record Kept (g : Group) : Type 0 where
   pub name : KeptName (g .name)
-  pub ramp : length (g .ramp) ≡ 8
-  pub grid : length (g .grid) ≡ 64
+  pub ramp : length (g .ramp) ≡ rampsMost
+  pub grid : length (g .grid) ≡ gridsMost
   pub quantum : g .quantum ≤ most
   pub parameters : g .parameters ≤ most
   pub ramps : g .ramps ≤ most
   pub grids : g .grids ≤ most
-  pub kept : (k : ℕ) → k < 64 → KeptGrid (gridAt g k)
+  pub kept : (k : ℕ) → k < gridsMost → KeptGrid (gridAt g k)

@@ -1,2 +1,3 @@
 -- The definitions of the crate `layout`.
+pub mod Words
 pub mod Layout

@@ -1,17 +1,83 @@
-// A group as the C interface passes it, a list of 809 numbers: from the list to the record and back.
+// A group as the C interface passes it, a list of numbers: from the list to the record and back.
 ghost use mathlib.Core.Path.{_≡_};
 ghost use Prim.Native.Nat.{_+_, _*_, _≤_, _<_};
 ghost use lib.ListN.{length, getD};
 ghost use lib.Seq.{sets};
 ghost use Rattle.group.specs.Record.{noRamp, noGrid};
+ghost use Rattle.group.specs.Numbers.{rampsMost, gridsMost};
+ghost use Rattle.layout.specs.Words.{nameWords, headWords, gridsFrom, groupWords};
 ghost use Rattle.layout.specs.Layout.{numberAt, countOf, countAt, listOf, byteOf, nameOf, unitOf, quantumOf, rampOf, gridOf, groupOf, stored, unitNumber, fourOf, nameNumber, rampNumbers, gridNumbers, headNumbers, joined, numbersOf};
+use group::BEYOND;
+use group::GRIDS_MOST;
 use group::Grid;
 use group::Group;
 use group::Latitude;
 use group::Longitude;
+use group::NAME_MOST;
 use group::Name;
+use group::RAMPS_MOST;
 use group::Ramp;
 use group::Unit;
+
+// The numbers that hold a name, a group line, a ramp and a grid.
+const NAME_WORDS: usize = NAME_MOST / 8;
+
+const HEAD_WORDS: usize = 9;
+
+const RAMP_WORDS: usize = 4;
+
+const GRID_WORDS: usize = 12;
+
+// Where the grids begin, and the numbers of a group.
+const GRIDS_FROM: usize = HEAD_WORDS + RAMPS_MOST * RAMP_WORDS;
+
+pub const GROUP_WORDS: usize = GRIDS_FROM + GRIDS_MOST * GRID_WORDS;
+
+// The places of the group line's numbers, behind its name.
+const LENGTH: usize = NAME_WORDS;
+
+const UNIT: usize = 4;
+
+const QUANTUM: usize = 5;
+
+const PARAMETERS: usize = 6;
+
+const RAMPS: usize = 7;
+
+const GRIDS: usize = 8;
+
+// The places of the first ramp's numbers.
+const A: usize = HEAD_WORDS;
+
+const S0: usize = HEAD_WORDS + 1;
+
+const B: usize = HEAD_WORDS + 2;
+
+const S1: usize = HEAD_WORDS + 3;
+
+// The places of the first grid's numbers, behind its name.
+const GRID_LENGTH: usize = GRIDS_FROM + LENGTH;
+
+const LON: usize = GRIDS_FROM + 4;
+
+const LAT: usize = GRIDS_FROM + 5;
+
+const DLON: usize = GRIDS_FROM + 6;
+
+const DLAT: usize = GRIDS_FROM + 7;
+
+const NI: usize = GRIDS_FROM + 8;
+
+const NJ: usize = GRIDS_FROM + 9;
+
+const RANK: usize = GRIDS_FROM + 10;
+
+const START: usize = GRIDS_FROM + 11;
+
+// The greatest signed number, and the number above it.
+const MOST: i64 = 9223372036854775807;
+
+const ABOVE: u64 = MOST as u64 + 1;
 
 // Number k of a list, 0 past its end.
 pub fn number_at(numbers: &[i64], k: usize) -> i64
@@ -28,7 +94,7 @@ pub fn count_of(x: i64) -> u64
     ensures { λ r. ⌜ r ≡ countOf x ⌝ }
 {
     if numbers::negative(x) {
-        return 18446744073709551615;
+        return BEYOND;
     }
     numbers::magnitude(x)
 }
@@ -48,14 +114,14 @@ fn byte_of(word: u64, j: u64) -> u8
     ((word >> (8 * j)) % 256) as u8
 }
 
-// The name of a length whose 24 bytes stand in three numbers from place k on.
+// The name of a length whose bytes stand in three numbers from place k on.
 fn name_of(numbers: &[i64], k: usize, len: u64) -> Name
-    requires { ⌜ k < 809 ⌝ }
+    requires { ⌜ k < groupWords ⌝ }
     ensures { λ r. ⌜ r ≡ nameOf (now (numbers .entry)) k len ⌝ }
 {
-    let mut bytes = [0u8; 24];
+    let mut bytes = [0u8; NAME_MOST];
     let mut i = 0;
-    while i < 24 {
+    while i < NAME_MOST {
         bytes[i] = byte_of(count_at(numbers, k + i / 8), (i % 8) as u64);
         i += 1;
     }
@@ -79,53 +145,57 @@ fn unit_of(x: i64) -> Unit
 fn quantum_of(numbers: &[i64]) -> u64
     ensures { λ r. ⌜ r ≡ quantumOf (now (numbers .entry)) ⌝ }
 {
-    let u = number_at(numbers, 4);
+    let u = number_at(numbers, UNIT);
     if (0 <= u) & (u <= 1) {
-        return count_at(numbers, 5);
+        return count_at(numbers, QUANTUM);
     }
-    18446744073709551615
+    BEYOND
 }
 
 // Ramp k of a group's numbers.
 fn ramp_of(numbers: &[i64], k: usize) -> Ramp
-    requires { ⌜ k < 8 ⌝ }
+    requires { ⌜ k < rampsMost ⌝ }
     ensures { λ r. ⌜ r ≡ rampOf (now (numbers .entry)) k ⌝ }
 {
     Ramp {
-        a: number_at(numbers, k * 4 + 9),
-        s0: number_at(numbers, k * 4 + 10),
-        b: number_at(numbers, k * 4 + 11),
-        s1: number_at(numbers, k * 4 + 12),
+        a: number_at(numbers, k * RAMP_WORDS + A),
+        s0: number_at(numbers, k * RAMP_WORDS + S0),
+        b: number_at(numbers, k * RAMP_WORDS + B),
+        s1: number_at(numbers, k * RAMP_WORDS + S1),
     }
 }
 
 // Grid k of a group's numbers.
 fn grid_of(numbers: &[i64], k: usize) -> Grid
-    requires { ⌜ k < 64 ⌝ }
+    requires { ⌜ k < gridsMost ⌝ }
     ensures { λ r. ⌜ r ≡ gridOf (now (numbers .entry)) k ⌝ }
 {
-    let name = name_of(numbers, k * 12 + 41, count_at(numbers, k * 12 + 44));
+    let name = name_of(
+        numbers,
+        k * GRID_WORDS + GRIDS_FROM,
+        count_at(numbers, k * GRID_WORDS + GRID_LENGTH),
+    );
     Grid {
         name: name,
-        lon: Longitude(number_at(numbers, k * 12 + 45)),
-        lat: Latitude(number_at(numbers, k * 12 + 46)),
-        dlon: number_at(numbers, k * 12 + 47),
-        dlat: number_at(numbers, k * 12 + 48),
-        ni: count_at(numbers, k * 12 + 49),
-        nj: count_at(numbers, k * 12 + 50),
-        rank: count_at(numbers, k * 12 + 51),
-        start: count_at(numbers, k * 12 + 52),
+        lon: Longitude(number_at(numbers, k * GRID_WORDS + LON)),
+        lat: Latitude(number_at(numbers, k * GRID_WORDS + LAT)),
+        dlon: number_at(numbers, k * GRID_WORDS + DLON),
+        dlat: number_at(numbers, k * GRID_WORDS + DLAT),
+        ni: count_at(numbers, k * GRID_WORDS + NI),
+        nj: count_at(numbers, k * GRID_WORDS + NJ),
+        rank: count_at(numbers, k * GRID_WORDS + RANK),
+        start: count_at(numbers, k * GRID_WORDS + START),
     }
 }
 
-// The eight ramps of a group's numbers.
-fn ramps_of(numbers: &[i64]) -> [Ramp; 8]
-    ensures { λ r. ⌜ r ≡ listOf (rampOf (now (numbers .entry))) 8 ⌝ }
+// The ramps of a group's numbers.
+fn ramps_of(numbers: &[i64]) -> [Ramp; RAMPS_MOST]
+    ensures { λ r. ⌜ r ≡ listOf (rampOf (now (numbers .entry))) rampsMost ⌝ }
 {
     let blank = group::blank_ramp();
-    let mut ramps = [blank; 8];
+    let mut ramps = [blank; RAMPS_MOST];
     let mut i = 0;
-    while i < 8 {
+    while i < RAMPS_MOST {
         let ramp = ramp_of(numbers, i);
         ramps[i] = ramp;
         i += 1;
@@ -133,14 +203,14 @@ fn ramps_of(numbers: &[i64]) -> [Ramp; 8]
     ramps
 }
 
-// The 64 grids of a group's numbers.
-fn grids_of(numbers: &[i64]) -> [Grid; 64]
-    ensures { λ r. ⌜ r ≡ listOf (gridOf (now (numbers .entry))) 64 ⌝ }
+// The grids of a group's numbers.
+fn grids_of(numbers: &[i64]) -> [Grid; GRIDS_MOST]
+    ensures { λ r. ⌜ r ≡ listOf (gridOf (now (numbers .entry))) gridsMost ⌝ }
 {
     let blank = group::blank_grid();
-    let mut grids = [blank; 64];
+    let mut grids = [blank; GRIDS_MOST];
     let mut i = 0;
-    while i < 64 {
+    while i < GRIDS_MOST {
         let grid = grid_of(numbers, i);
         grids[i] = grid;
         i += 1;
@@ -152,16 +222,16 @@ fn grids_of(numbers: &[i64]) -> [Grid; 64]
 pub fn group_of(numbers: &[i64]) -> Group
     ensures { λ r. ⌜ r ≡ groupOf (now (numbers .entry)) ⌝ }
 {
-    let name = name_of(numbers, 0, count_at(numbers, 3));
+    let name = name_of(numbers, 0, count_at(numbers, LENGTH));
     let ramp = ramps_of(numbers);
     let grid = grids_of(numbers);
     Group {
         name: name,
-        unit: unit_of(number_at(numbers, 4)),
+        unit: unit_of(number_at(numbers, UNIT)),
         quantum: quantum_of(numbers),
-        parameters: count_at(numbers, 6),
-        ramps: count_at(numbers, 7),
-        grids: count_at(numbers, 8),
+        parameters: count_at(numbers, PARAMETERS),
+        ramps: count_at(numbers, RAMPS),
+        grids: count_at(numbers, GRIDS),
         ramp: ramp,
         grid: grid,
     }
@@ -171,10 +241,10 @@ pub fn group_of(numbers: &[i64]) -> Group
 pub fn as_stored(n: u64) -> i64
     ensures { λ r. ⌜ r ≡ stored n ⌝ }
 {
-    if n < 9223372036854775808 {
+    if n < ABOVE {
         return n as i64;
     }
-    9223372036854775807
+    MOST
 }
 
 // Stores numbers from place k on.
@@ -205,7 +275,7 @@ fn four(a: u8, b: u8, c: u8, d: u8) -> u64
 
 // Number w of the three that hold the bytes of a name.
 fn name_number(name: Name, w: usize) -> i64
-    requires { ⌜ w < 3 ⌝ }
+    requires { ⌜ w < nameWords ⌝ }
     ensures { λ r. ⌜ r ≡ nameNumber name w ⌝ }
 {
     let i = w * 8;
@@ -235,7 +305,7 @@ fn unit_number(unit: Unit) -> i64
 }
 
 // The numbers of a group's line.
-fn head_numbers(group: Group) -> [i64; 9]
+fn head_numbers(group: Group) -> [i64; HEAD_WORDS]
     ensures { λ r. ⌜ r ≡ headNumbers group ⌝ }
 {
     let unit = group.unit;
@@ -254,7 +324,7 @@ fn head_numbers(group: Group) -> [i64; 9]
 }
 
 // The numbers of a grid's line.
-fn grid_numbers(g: Grid) -> [i64; 12]
+fn grid_numbers(g: Grid) -> [i64; GRID_WORDS]
     ensures { λ r. ⌜ r ≡ gridNumbers g ⌝ }
 {
     let name = g.name;
@@ -274,37 +344,37 @@ fn grid_numbers(g: Grid) -> [i64; 12]
     ]
 }
 
-// Stores the numbers of eight ramps.
-fn put_ramps(out: &mut [i64], ramps: [Ramp; 8])
-    requires { ⌜ 41 ≤ length (now out) ⌝ }
-    ensures { λ _. ⌜ now (out .exit) ≡ sets (now (out .entry)) 9 (joined (λ k. rampNumbers (getD ramps k noRamp)) 8) ⌝ }
+// Stores the numbers of all ramps.
+fn put_ramps(out: &mut [i64], ramps: [Ramp; RAMPS_MOST])
+    requires { ⌜ gridsFrom ≤ length (now out) ⌝ }
+    ensures { λ _. ⌜ now (out .exit) ≡ sets (now (out .entry)) headWords (joined (λ k. rampNumbers (getD ramps k noRamp)) rampsMost) ⌝ }
 {
     let mut i = 0;
-    while i < 8 {
+    while i < RAMPS_MOST {
         let r = ramps[i];
         let numbers = [r.a, r.s0, r.b, r.s1];
-        put_numbers(out, i * 4 + 9, &numbers);
+        put_numbers(out, i * RAMP_WORDS + HEAD_WORDS, &numbers);
         i += 1;
     }
 }
 
-// Stores the numbers of 64 grids.
-fn put_grids(out: &mut [i64], grids: [Grid; 64])
-    requires { ⌜ 809 ≤ length (now out) ⌝ }
-    ensures { λ _. ⌜ now (out .exit) ≡ sets (now (out .entry)) 41 (joined (λ k. gridNumbers (getD grids k noGrid)) 64) ⌝ }
+// Stores the numbers of all grids.
+fn put_grids(out: &mut [i64], grids: [Grid; GRIDS_MOST])
+    requires { ⌜ groupWords ≤ length (now out) ⌝ }
+    ensures { λ _. ⌜ now (out .exit) ≡ sets (now (out .entry)) gridsFrom (joined (λ k. gridNumbers (getD grids k noGrid)) gridsMost) ⌝ }
 {
     let mut i = 0;
-    while i < 64 {
+    while i < GRIDS_MOST {
         let g = grids[i];
         let numbers = grid_numbers(g);
-        put_numbers(out, i * 12 + 41, &numbers);
+        put_numbers(out, i * GRID_WORDS + GRIDS_FROM, &numbers);
         i += 1;
     }
 }
 
 // Stores a group from place 0 on.
 fn put_group(out: &mut [i64], group: Group)
-    requires { ⌜ 809 ≤ length (now out) ⌝ }
+    requires { ⌜ groupWords ≤ length (now out) ⌝ }
     ensures { λ _. ⌜ now (out .exit) ≡ sets (now (out .entry)) 0 (numbersOf group) ⌝ }
 {
     let head = head_numbers(group);
@@ -315,11 +385,11 @@ fn put_group(out: &mut [i64], group: Group)
     put_grids(out, grids);
 }
 
-// The 809 numbers of a group.
-pub fn numbers_of(group: Group) -> [i64; 809]
+// The numbers of a group.
+pub fn numbers_of(group: Group) -> [i64; GROUP_WORDS]
     ensures { λ r. ⌜ r ≡ numbersOf group ⌝ }
 {
-    let mut out = [0i64; 809];
+    let mut out = [0i64; GROUP_WORDS];
     put_group(&mut out, group);
     out
 }

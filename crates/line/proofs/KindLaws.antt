@@ -1,5 +1,5 @@
 -- The three kinds of line are written and read again, as far as their numbers are within their limits, and read and written again.
-use Prim.Native.Nat.{ℕ, _+_, _<_}
+use Prim.Native.Nat.{ℕ, _<_}
 use mathlib.Core.Path.{_≡_, refl, sym, ap, _∙_}
 use mathlib.Core.Bool.{Bool, true, cond, _&&_}
 use mathlib.Core.List.{List, [], _∷_, _++_, map}
@@ -11,6 +11,7 @@ use borrow.Author.Tests.{ne-eqb}
 use Rattle.numbers.proofs.Bools.{and-left, and-right}
 use Rattle.text.specs.Decimal.{intText}
 use Rattle.text.proofs.PartLaws.{Free}
+use Rattle.group.specs.Numbers.{nameMost}
 use Rattle.group.specs.Limits.{nameFits, originFits, countsFit, rampFits, gridFits}
 use Rattle.group.specs.declared.Name.{Name}
 use Rattle.group.specs.declared.Unit as U
@@ -62,7 +63,7 @@ ramp-kind = body-kind (limited rampFits (refusal 2)) (λ n. fields 0 4 rampTexts
 -- a grid whose name is well formed
 pub record GridFormed (g : Grid) : Type 0 where
   pub name : nameFits (g .name) ≡ true
-  pub room : length (g .name .bytes) ≡ 24
+  pub room : length (g .name .bytes) ≡ nameMost
 
 grid-free : (c : ℕ) → c < 45 → Free c gridWord
 grid-free c l = (ne-eqb 103 c (omega arith), (ne-eqb 114 c (omega arith), (ne-eqb 105 c (omega arith), (ne-eqb 100 c (omega arith), tt))))
@@ -129,7 +130,7 @@ grid-kind = body-kind (limited gridFits (refusal 2)) (λ n. fields 1 8 gridTexts
 -- a group line whose name is well formed
 pub record HeadFormed (h : Head) : Type 0 where
   pub name : nameFits (h .name) ≡ true
-  pub room : length (h .name .bytes) ≡ 24
+  pub room : length (h .name .bytes) ≡ nameMost
 
 abbrev pub headWithin : Head → Bool
 headWithin h = headFit (headInts h)

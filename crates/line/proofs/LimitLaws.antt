@@ -1,7 +1,6 @@
 -- What the limits of each line say of the sizes of its numbers.
 use Prim.Native.Nat.{ℕ, _<_, _≤_}
 use mathlib.Core.Path.{_≡_, refl, sym}
-use mathlib.Core.Logic.{⊎-elim}
 use mathlib.Core.Bool.{true, false, _&&_, and-false}
 use mathlib.Core.List.{List, [], _∷_}
 use native.Mathlib.Omega.{arith}
@@ -10,10 +9,12 @@ use lib.ListN.{length}
 use lib.IntN.{ℤ, pos, negsuc, natAbs}
 use lib.Signed.{leZ, ltZ}
 use borrow.Author.Tests.{leb-true, lt-leb, ltb-true}
-use Rattle.numbers.specs.Order.{between, within}
-use Rattle.numbers.proofs.Bools.{and-left, and-right, or-cases}
+use Rattle.numbers.specs.Order.{between}
+use Rattle.numbers.proofs.Bools.{and-right}
 use Rattle.numbers.proofs.OrderLaws.{within-size}
 use Rattle.text.proofs.FieldLaws.{false-not-true, and-parts}
+use Rattle.group.specs.Numbers.{lonEdgeMost, latEdgeMost, lonEdgeFits, latEdgeFits, quantumMost, parametersMost, rampsMost, gridsMost, spacingMost, nodesLeast, nodesMost, rankMost, startMost, dayMost, dayFits, rampFactorMost, rampFactorFits, beyond}
+use Rattle.group.proofs.LimitLaws.{spacing-size}
 use Rattle.group.specs.Limits.{spacingFits, headNumbersFit, rampNumbersFit, originFits, countsFit, nameFits, gridFits}
 use Rattle.group.specs.declared.Name.{Name}
 use Rattle.group.specs.declared.Unit as U
@@ -25,42 +26,35 @@ pub count-in : (lo hi : ℕ) (z : ℤ) → between (pos lo) (pos hi) z ≡ true 
 count-in lo hi (pos n) e = (leb-true n hi (and-right (leb lo n) (leb n hi) e), refl)
 count-in lo hi (negsuc n) e = false-not-true e
 
-spacing-size : (z : ℤ) → spacingFits z ≡ true → natAbs z ≤ 1000000
-spacing-size z e = ⊎-elim (λ w. below z w) (λ w. count-in 1 1000000 z w .0) (or-cases (between (negsuc 999999) (negsuc 0) z) (between (pos 1) (pos 1000000) z) e)
-  where
-    below : (z : ℤ) → between (negsuc 999999) (negsuc 0) z ≡ true → natAbs z ≤ 1000000
-    below (pos n) w = false-not-true w
-    below (negsuc n) w = let h = leb-true n 999999 (and-left (leb n 999999) (leb 0 n) w) in omega arith
-
 module _ (a b c d : ℤ) where
-  pub head-sizes : headNumbersFit a b c d ≡ true → ((natAbs a ≤ 20) × (pos (natAbs a) ≡ a)) × ((natAbs b ≤ 3) × (pos (natAbs b) ≡ b)) × ((natAbs c ≤ 8) × (pos (natAbs c) ≡ c)) × ((natAbs d ≤ 64) × (pos (natAbs d) ≡ d))
+  pub head-sizes : headNumbersFit a b c d ≡ true → ((natAbs a ≤ quantumMost) × (pos (natAbs a) ≡ a)) × ((natAbs b ≤ parametersMost) × (pos (natAbs b) ≡ b)) × ((natAbs c ≤ rampsMost) × (pos (natAbs c) ≡ c)) × ((natAbs d ≤ gridsMost) × (pos (natAbs d) ≡ d))
   head-sizes e =
-      let p = and-parts (between (pos 0) (pos 20) a && between (pos 1) (pos 3) b && between (pos 0) (pos 8) c) (between (pos 1) (pos 64) d) e in
-      let q = and-parts (between (pos 0) (pos 20) a && between (pos 1) (pos 3) b) (between (pos 0) (pos 8) c) (p .0) in
-      let r = and-parts (between (pos 0) (pos 20) a) (between (pos 1) (pos 3) b) (q .0) in
-      (count-in 0 20 a (r .0), count-in 1 3 b (r .1), count-in 0 8 c (q .1), count-in 1 64 d (p .1))
+      let p = and-parts (between (pos 0) (pos quantumMost) a && between (pos 1) (pos parametersMost) b && between (pos 0) (pos rampsMost) c) (between (pos 1) (pos gridsMost) d) e in
+      let q = and-parts (between (pos 0) (pos quantumMost) a && between (pos 1) (pos parametersMost) b) (between (pos 0) (pos rampsMost) c) (p .0) in
+      let r = and-parts (between (pos 0) (pos quantumMost) a) (between (pos 1) (pos parametersMost) b) (q .0) in
+      (count-in 0 quantumMost a (r .0), count-in 1 parametersMost b (r .1), count-in 0 rampsMost c (q .1), count-in 1 gridsMost d (p .1))
 
-  pub ramp-sizes : rampNumbersFit a b c d ≡ true → (natAbs a ≤ 1000000) × (natAbs b ≤ 10000000) × (natAbs c ≤ 1000000) × (natAbs d ≤ 10000000)
+  pub ramp-sizes : rampNumbersFit a b c d ≡ true → (natAbs a ≤ dayMost) × (natAbs b ≤ rampFactorMost) × (natAbs c ≤ dayMost) × (natAbs d ≤ rampFactorMost)
   ramp-sizes e =
-      let o = and-parts (within 1000000 a && within 10000000 b && within 1000000 c && within 10000000 d) (leZ a c) e in
-      let p = and-parts (within 1000000 a && within 10000000 b && within 1000000 c) (within 10000000 d) (o .0) in
-      let q = and-parts (within 1000000 a && within 10000000 b) (within 1000000 c) (p .0) in
-      let r = and-parts (within 1000000 a) (within 10000000 b) (q .0) in
-      (within-size 1000000 a (r .0), within-size 10000000 b (r .1), within-size 1000000 c (q .1), within-size 10000000 d (p .1))
+      let o = and-parts (dayFits a && rampFactorFits b && dayFits c && rampFactorFits d) (leZ a c) e in
+      let p = and-parts (dayFits a && rampFactorFits b && dayFits c) (rampFactorFits d) (o .0) in
+      let q = and-parts (dayFits a && rampFactorFits b) (dayFits c) (p .0) in
+      let r = and-parts (dayFits a) (rampFactorFits b) (q .0) in
+      (within-size dayMost a (r .0), within-size rampFactorMost b (r .1), within-size dayMost c (q .1), within-size rampFactorMost d (p .1))
 
-  pub origin-sizes : originFits a b c d ≡ true → (natAbs a ≤ 1296000000) × (natAbs b ≤ 324000000) × (natAbs c ≤ 1000000) × (natAbs d ≤ 1000000)
+  pub origin-sizes : originFits a b c d ≡ true → (natAbs a ≤ lonEdgeMost) × (natAbs b ≤ latEdgeMost) × (natAbs c ≤ spacingMost) × (natAbs d ≤ spacingMost)
   origin-sizes e =
-      let p = and-parts (within 1296000000 a && within 324000000 b && spacingFits c) (spacingFits d) e in
-      let q = and-parts (within 1296000000 a && within 324000000 b) (spacingFits c) (p .0) in
-      let r = and-parts (within 1296000000 a) (within 324000000 b) (q .0) in
-      (within-size 1296000000 a (r .0), within-size 324000000 b (r .1), spacing-size c (q .1), spacing-size d (p .1))
+      let p = and-parts (lonEdgeFits a && latEdgeFits b && spacingFits c) (spacingFits d) e in
+      let q = and-parts (lonEdgeFits a && latEdgeFits b) (spacingFits c) (p .0) in
+      let r = and-parts (lonEdgeFits a) (latEdgeFits b) (q .0) in
+      (within-size lonEdgeMost a (r .0), within-size latEdgeMost b (r .1), spacing-size c (q .1), spacing-size d (p .1))
 
-  pub counts-sizes : countsFit a b c d ≡ true → ((natAbs a ≤ 16384) × (pos (natAbs a) ≡ a)) × ((natAbs b ≤ 16384) × (pos (natAbs b) ≡ b)) × ((natAbs c ≤ 1000) × (pos (natAbs c) ≡ c)) × ((natAbs d ≤ 16777215) × (pos (natAbs d) ≡ d))
+  pub counts-sizes : countsFit a b c d ≡ true → ((natAbs a ≤ nodesMost) × (pos (natAbs a) ≡ a)) × ((natAbs b ≤ nodesMost) × (pos (natAbs b) ≡ b)) × ((natAbs c ≤ rankMost) × (pos (natAbs c) ≡ c)) × ((natAbs d ≤ startMost) × (pos (natAbs d) ≡ d))
   counts-sizes e =
-      let p = and-parts (between (pos 2) (pos 16384) a && between (pos 2) (pos 16384) b && between (pos 1) (pos 1000) c) (between (pos 0) (pos 16777215) d) e in
-      let q = and-parts (between (pos 2) (pos 16384) a && between (pos 2) (pos 16384) b) (between (pos 1) (pos 1000) c) (p .0) in
-      let r = and-parts (between (pos 2) (pos 16384) a) (between (pos 2) (pos 16384) b) (q .0) in
-      (count-in 2 16384 a (r .0), count-in 2 16384 b (r .1), count-in 1 1000 c (q .1), count-in 0 16777215 d (p .1))
+      let p = and-parts (between (pos nodesLeast) (pos nodesMost) a && between (pos nodesLeast) (pos nodesMost) b && between (pos 1) (pos rankMost) c) (between (pos 0) (pos startMost) d) e in
+      let q = and-parts (between (pos nodesLeast) (pos nodesMost) a && between (pos nodesLeast) (pos nodesMost) b) (between (pos 1) (pos rankMost) c) (p .0) in
+      let r = and-parts (between (pos nodesLeast) (pos nodesMost) a) (between (pos nodesLeast) (pos nodesMost) b) (q .0) in
+      (count-in nodesLeast nodesMost a (r .0), count-in nodesLeast nodesMost b (r .1), count-in 1 rankMost c (q .1), count-in 0 startMost d (p .1))
 
 -- ---- the numbers of a line within its limits are told apart
 
@@ -85,15 +79,15 @@ grid-small =
 
 -- ---- a number below zero is judged as one beyond every limit
 
-between-counted : (lo hi : ℕ) (z : ℤ) → hi < 18446744073709551615 → between (pos lo) (pos hi) (pos (counted z)) ≡ between (pos lo) (pos hi) z
+between-counted : (lo hi : ℕ) (z : ℤ) → hi < beyond → between (pos lo) (pos hi) (pos (counted z)) ≡ between (pos lo) (pos hi) z
 between-counted lo hi (pos n) h = refl
-between-counted lo hi (negsuc n) h = simp (lt-leb 18446744073709551615 hi h, and-false)
+between-counted lo hi (negsuc n) h = simp (lt-leb beyond hi h, and-false)
 
 counted-in : (z : ℤ) → pos (natAbs z) ≡ z → counted z ≡ natAbs z
 counted-in (pos n) e = refl
 counted-in (negsuc n) e = let x : _≡_ {A = ℕ} 0 1 = cc in absurd (omega arith)
 
-pub counted-below : (z : ℤ) → ltZ z (pos 0) ≡ true → counted z ≡ 18446744073709551615
+pub counted-below : (z : ℤ) → ltZ z (pos 0) ≡ true → counted z ≡ beyond
 counted-below (pos n) e = absurd (let h = ltb-true n 0 e in omega arith)
 counted-below (negsuc n) e = refl
 
@@ -103,10 +97,10 @@ counted-above (negsuc n) e = false-not-true (sym e)
 
 module _ (a b c d : ℤ) where
   pub head-counted : headNumbersFit (pos (counted a)) (pos (counted b)) (pos (counted c)) (pos (counted d)) ≡ headNumbersFit a b c d
-  head-counted = rw (between-counted 0 20 a (omega arith), between-counted 1 3 b (omega arith), between-counted 0 8 c (omega arith), between-counted 1 64 d (omega arith))
+  head-counted = rw (between-counted 0 quantumMost a (omega arith), between-counted 1 parametersMost b (omega arith), between-counted 0 rampsMost c (omega arith), between-counted 1 gridsMost d (omega arith))
 
   counts-counted : countsFit (pos (counted a)) (pos (counted b)) (pos (counted c)) (pos (counted d)) ≡ countsFit a b c d
-  counts-counted = rw (between-counted 2 16384 a (omega arith), between-counted 2 16384 b (omega arith), between-counted 1 1000 c (omega arith), between-counted 0 16777215 d (omega arith))
+  counts-counted = rw (between-counted nodesLeast nodesMost a (omega arith), between-counted nodesLeast nodesMost b (omega arith), between-counted 1 rankMost c (omega arith), between-counted 0 startMost d (omega arith))
 
   pub head-made : (n : Name) (u : U.Unit) → headNumbersFit a b c d ≡ true → countedHead n u a b c d ≡ headOf (n, u) (a ∷ b ∷ c ∷ d ∷ [])
   head-made n u e =

@@ -17,6 +17,7 @@ use Rattle.numbers.proofs.Bools.{and-left, and-right}
 use Rattle.text.specs.Fields.{same}
 use Rattle.text.proofs.PartLaws.{Free}
 use Rattle.text.proofs.FieldLaws.{false-not-true, and-parts, same-true}
+use Rattle.group.specs.Numbers.{nameMost}
 use Rattle.group.specs.Limits.{nameByte, byteFits, nameFits, nameBlank}
 use Rattle.group.specs.declared.Name.{Name}
 use Rattle.group.specs.declared.Unit as U
@@ -39,42 +40,42 @@ pub name-empty : (s : List ℕ) → length s < 1 → isName s ≡ false
 unfolding isName
 name-empty s h = rw (lt-leb 1 (length s) h)
 
-pub name-long : (s : List ℕ) → 24 < length s → isName s ≡ false
+pub name-long : (s : List ℕ) → nameMost < length s → isName s ≡ false
 unfolding isName
-name-long s h = simp (lt-leb (length s) 24 h, and-false)
+name-long s h = simp (lt-leb (length s) nameMost h, and-false)
 
-pub name-bytes : (s : List ℕ) → 1 ≤ length s → length s ≤ 24 → isName s ≡ nameBytes s
+pub name-bytes : (s : List ℕ) → 1 ≤ length s → length s ≤ nameMost → isName s ≡ nameBytes s
 unfolding isName
-name-bytes s h k = rw (le-leb 1 (length s) h, le-leb (length s) 24 k)
+name-bytes s h k = rw (le-leb 1 (length s) h, le-leb (length s) nameMost k)
 
-pub name-length : (s : List ℕ) → isName s ≡ true → (1 ≤ length s) × (length s ≤ 24)
+pub name-length : (s : List ℕ) → isName s ≡ true → (1 ≤ length s) × (length s ≤ nameMost)
 unfolding isName
 name-length s e =
     let p = and-parts _ _ e in
     let q = and-parts _ _ (p .0) in
-    (leb-true 1 (length s) (q .0), leb-true (length s) 24 (q .1))
+    (leb-true 1 (length s) (q .0), leb-true (length s) nameMost (q .1))
 
 -- the name of a text, as text again
 pub nameText-nameOf : (s : List ℕ) → nameText (nameOf s) ≡ s
-nameText-nameOf s = take-at s (replicate (24 - length s) 0) (length s) refl
+nameText-nameOf s = take-at s (replicate (nameMost - length s) 0) (length s) refl
 
 -- a name with zeros behind it, from its text again
-pub nameOf-nameText : (n : Name) → n .len ≤ length (n .bytes) → drop (n .len) (n .bytes) ≡ replicate (24 - n .len) 0 → nameOf (nameText n) ≡ n
+pub nameOf-nameText : (n : Name) → n .len ≤ length (n .bytes) → drop (n .len) (n .bytes) ≡ replicate (nameMost - n .len) 0 → nameOf (nameText n) ≡ n
 nameOf-nameText n h z =
     let l : length (nameText n) ≡ n .len = length-take-le (n .len) (n .bytes) h in
-    let b : nameText n ++ replicate (24 - length (nameText n)) 0 ≡ n .bytes =
-    ap (λ (k : ℕ). nameText n ++ replicate (24 - k) 0) l ∙ ap (λ (t : List ℕ). nameText n ++ t) (sym z) ∙ take-append-drop (n .len) (n .bytes) in
+    let b : nameText n ++ replicate (nameMost - length (nameText n)) 0 ≡ n .bytes =
+    ap (λ (k : ℕ). nameText n ++ replicate (nameMost - k) 0) l ∙ ap (λ (t : List ℕ). nameText n ++ t) (sym z) ∙ take-append-drop (n .len) (n .bytes) in
     λ i. record { bytes = b i; len = l i }
 
 -- a step of the copy
-pub name-step : (s : List ℕ) (i : ℕ) → i < length s → length s ≤ 24 → set (take i s ++ replicate (24 - i) 0) i (getD s i 0) ≡ take (i + 1) s ++ replicate (24 - (i + 1)) 0
+pub name-step : (s : List ℕ) (i : ℕ) → i < length s → length s ≤ nameMost → set (take i s ++ replicate (nameMost - i) 0) i (getD s i 0) ≡ take (i + 1) s ++ replicate (nameMost - (i + 1)) 0
 name-step s i h k =
     let l = length-take-le i s (omega arith) in
-    let m : 24 - i ≡ suc (24 - (i + 1)) = omega arith in
+    let m : nameMost - i ≡ suc (nameMost - (i + 1)) = omega arith in
     ap (λ (n : ℕ). set (take i s ++ replicate n 0) i (getD s i 0)) m
-    ∙ set-at (take i s) 0 (replicate (24 - (i + 1)) 0) (getD s i 0) i l
-    ∙ sym (append-snoc (take i s) (getD s i 0) (replicate (24 - (i + 1)) 0))
-    ∙ ap (λ (t : List ℕ). t ++ replicate (24 - (i + 1)) 0) (sym (take-suc s i 0 h) ∙ ap (λ (j : ℕ). take j s) (sym (add-one i)))
+    ∙ set-at (take i s) 0 (replicate (nameMost - (i + 1)) 0) (getD s i 0) i l
+    ∙ sym (append-snoc (take i s) (getD s i 0) (replicate (nameMost - (i + 1)) 0))
+    ∙ ap (λ (t : List ℕ). t ++ replicate (nameMost - (i + 1)) 0) (sym (take-suc s i 0 h) ∙ ap (λ (j : ℕ). take j s) (sym (add-one i)))
 
 -- ---- a name as text is a name as a record
 
@@ -109,47 +110,47 @@ unfolding nameFits
 isName-fits f e =
     let l = name-length f e in
     let b : nameBytes f ≡ true = sym (name-bytes f (l .0) (l .1)) ∙ e in
-    rw (le-leb 1 (length f) (l .0), le-leb (length f) 24 (l .1))
-    (all-every (byteFits (nameOf f)) 24 (λ k h. elim (decLt k (length f)) [ yes i ↦ inside b k i | no i ↦ behind k (omega arith) ]))
+    rw (le-leb 1 (length f) (l .0), le-leb (length f) nameMost (l .1))
+    (all-every (byteFits (nameOf f)) nameMost (λ k h. elim (decLt k (length f)) [ yes i ↦ inside b k i | no i ↦ behind k (omega arith) ]))
   where
     inside : nameBytes f ≡ true → (k : ℕ) → k < length f → byteFits (nameOf f) k ≡ true
-    inside b k i = byte-in (nameOf f) k i ∙ ap nameByte (List·getD-append f (replicate (24 - length f) 0) 0 k i) ∙ bytes-at f k b i
+    inside b k i = byte-in (nameOf f) k i ∙ ap nameByte (List·getD-append f (replicate (nameMost - length f) 0) 0 k i) ∙ bytes-at f k b i
 
     behind : (k : ℕ) → length f ≤ k → byteFits (nameOf f) k ≡ true
     behind k i =
         let j : length f + (k - length f) ≡ k = omega arith in
-        let z : getD (f ++ replicate (24 - length f) 0) k 0 ≡ 0 =
-        ap (λ (m : ℕ). getD (f ++ replicate (24 - length f) 0) m 0) (sym j) ∙ getD-append-add f (replicate (24 - length f) 0) (k - length f) 0 ∙ zeros-at (24 - length f) (k - length f) in
+        let z : getD (f ++ replicate (nameMost - length f) 0) k 0 ≡ 0 =
+        ap (λ (m : ℕ). getD (f ++ replicate (nameMost - length f) 0) m 0) (sym j) ∙ getD-append-add f (replicate (nameMost - length f) 0) (k - length f) 0 ∙ zeros-at (nameMost - length f) (k - length f) in
         byte-behind (nameOf f) k i ∙ rw z
 
-pub name-len : (n : Name) → nameFits n ≡ true → (1 ≤ n .len) × (n .len ≤ 24)
+pub name-len : (n : Name) → nameFits n ≡ true → (1 ≤ n .len) × (n .len ≤ nameMost)
 unfolding nameFits
 name-len n e =
     let p = and-parts _ _ e in
     let q = and-parts _ _ (p .0) in
-    (leb-true 1 (n .len) (q .0), leb-true (n .len) 24 (q .1))
+    (leb-true 1 (n .len) (q .0), leb-true (n .len) nameMost (q .1))
 
--- of a name that has its 24 bytes
-module _ (n : Name) (room : length (n .bytes) ≡ 24) where
-  all-fit : nameFits n ≡ true → every (byteFits n) 24 ≡ true
+-- of a name that has all its bytes
+module _ (n : Name) (room : length (n .bytes) ≡ nameMost) where
+  all-fit : nameFits n ≡ true → every (byteFits n) nameMost ≡ true
   unfolding nameFits
-  all-fit e = and-right (leb 1 (n .len) && leb (n .len) 24) (every (byteFits n) 24) e
+  all-fit e = and-right (leb 1 (n .len) && leb (n .len) nameMost) (every (byteFits n) nameMost) e
 
-  zeros-behind : n .len ≤ 24 → every (byteFits n) 24 ≡ true → drop (n .len) (n .bytes) ≡ replicate (24 - n .len) 0
+  zeros-behind : n .len ≤ nameMost → every (byteFits n) nameMost ≡ true → drop (n .len) (n .bytes) ≡ replicate (nameMost - n .len) 0
   zeros-behind l e =
       let d = length-drop (n .len) (n .bytes) in
-      ext-getD 0 (drop (n .len) (n .bytes)) (replicate (24 - n .len) 0) (d ∙ ap (λ (k : ℕ). k - n .len) room ∙ sym (length-replicate (24 - n .len) 0))
-      (λ i h. getD-drop (n .len) (n .bytes) i 0 ∙ zero-at i (omega arith) ∙ sym (zeros-at (24 - n .len) i))
+      ext-getD 0 (drop (n .len) (n .bytes)) (replicate (nameMost - n .len) 0) (d ∙ ap (λ (k : ℕ). k - n .len) room ∙ sym (length-replicate (nameMost - n .len) 0))
+      (λ i h. getD-drop (n .len) (n .bytes) i 0 ∙ zero-at i (omega arith) ∙ sym (zeros-at (nameMost - n .len) i))
     where
-      zero-at : (i : ℕ) → n .len + i < 24 → getD (n .bytes) (n .len + i) 0 ≡ 0
-      zero-at i h = eqb-true _ _ (sym (byte-behind n (n .len + i) (omega arith)) ∙ every-at (byteFits n) 24 (n .len + i) e h)
+      zero-at : (i : ℕ) → n .len + i < nameMost → getD (n .bytes) (n .len + i) 0 ≡ 0
+      zero-at i h = eqb-true _ _ (sym (byte-behind n (n .len + i) (omega arith)) ∙ every-at (byteFits n) nameMost (n .len + i) e h)
 
   pub fits-isName : nameFits n ≡ true → isName (nameText n) ≡ true
   fits-isName e =
       let l = name-len n e in
       let k = length-take-le (n .len) (n .bytes) (omega arith) in
       name-bytes (nameText n) (omega arith) (omega arith)
-      ∙ bytes-all (nameText n) (λ i h. ap nameByte (getD-take (n .len) (n .bytes) i 0 (omega arith)) ∙ sym (byte-in n i (omega arith)) ∙ every-at (byteFits n) 24 i (all-fit e) (omega arith))
+      ∙ bytes-all (nameText n) (λ i h. ap nameByte (getD-take (n .len) (n .bytes) i 0 (omega arith)) ∙ sym (byte-in n i (omega arith)) ∙ every-at (byteFits n) nameMost i (all-fit e) (omega arith))
 
   pub fits-back : nameFits n ≡ true → nameOf (nameText n) ≡ n
   fits-back e = let l = name-len n e in nameOf-nameText n (omega arith) (zeros-behind (l .1) (all-fit e))
@@ -160,8 +161,8 @@ module _ (n : Name) (room : length (n .bytes) ≡ 24) where
   pub blank-name : nameBlank n ≡ true → n ≡ blankName
   unfolding nameBlank
   blank-name e =
-      let z : n .len ≡ 0 = eqb-true _ _ (and-left (eqb (n .len) 0) (every (byteFits n) 24) e) in
-      let b : n .bytes ≡ replicate 24 0 = ap (λ (k : ℕ). drop k (n .bytes)) (sym z) ∙ zeros-behind (omega arith) (and-right (eqb (n .len) 0) (every (byteFits n) 24) e) ∙ ap (λ (k : ℕ). replicate (24 - k) 0) z in
+      let z : n .len ≡ 0 = eqb-true _ _ (and-left (eqb (n .len) 0) (every (byteFits n) nameMost) e) in
+      let b : n .bytes ≡ replicate nameMost 0 = ap (λ (k : ℕ). drop k (n .bytes)) (sym z) ∙ zeros-behind (omega arith) (and-right (eqb (n .len) 0) (every (byteFits n) nameMost) e) ∙ ap (λ (k : ℕ). replicate (nameMost - k) 0) z in
       λ i. record { bytes = b i; len = z i }
 
 -- a field that is a name, as text again

@@ -1,9 +1,9 @@
 -- The record of a line that is read has a name of 24 bytes, and counts of ramps and grids within the two arrays.
-use Prim.Native.Nat.{ℕ, _+_, _-_, _≤_}
+use Prim.Native.Nat.{ℕ, _-_, _≤_}
 use mathlib.Core.Path.{_≡_, refl, sym, ap, _∙_, subst}
 use mathlib.Core.Bool.{Bool, true, false, cond}
-use mathlib.Core.List.{List, [], _++_}
-use mathlib.Core.Logic.{_⊎_, ⊎-elim}
+use mathlib.Core.List.{List, []}
+use mathlib.Core.Logic.{⊎-elim}
 use mathlib.Core.Option.{Option, none, some}
 use native.Mathlib.Omega.{arith}
 use lib.ListN.{length, getD, replicate, length-append, length-replicate}
@@ -13,7 +13,7 @@ use Rattle.group.specs.declared.Name.{Name}
 use Rattle.group.specs.declared.Grid.{Grid}
 use Rattle.group.specs.Refusals.{refusal}
 use Rattle.line.specs.declared.Head.{Head}
-use Rattle.line.specs.Line.{Line, bad, good}
+use Rattle.line.specs.Line.{bad, good}
 use Rattle.line.specs.Names.{isName, nameOf, readName, readUnit}
 use Rattle.line.specs.Lines.{fields, lineOf, at, groupWord, headTexts, headFit, headOf, headLine, gridWord, gridTexts, gridFit, gridOf, gridLine}
 use Rattle.line.proofs.LineLaws.{keyed-good, Good, fields-good}

@@ -9,6 +9,7 @@ use lib.IntN.{ℤ, pos, negsuc, natAbs}
 use Rattle.text.specs.Parts.{split, join}
 use Rattle.text.specs.Decimal.{intText}
 use Rattle.text.specs.Fields.{same, readInts}
+use Rattle.group.specs.Numbers.{beyond}
 use Rattle.group.specs.Limits.{headNumbersFit, rampNumbersFit, originFits, countsFit}
 use Rattle.group.specs.declared.Refusal.{Refusal}
 use Rattle.group.specs.declared.Name.{Name}
@@ -147,7 +148,7 @@ gridText g = join 9 (gridWord ∷ nameText (g .name) ∷ map intText (gridInts g
 
 abbrev pub counted : ℤ → ℕ
 counted (pos n) = n
-counted (negsuc n) = 18446744073709551615
+counted (negsuc n) = beyond
 
 abbrev pub countedHead : Name → U.Unit → ℤ → ℤ → ℤ → ℤ → Head
 countedHead n u a b c d =

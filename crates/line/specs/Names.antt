@@ -6,6 +6,7 @@ use mathlib.Core.Option.{Option, none, some}
 use lib.Dec.{leb}
 use lib.ListN.{length, take, replicate}
 use Rattle.text.specs.Fields.{same}
+use Rattle.group.specs.Numbers.{nameMost}
 use Rattle.group.specs.Limits.{nameByte}
 use Rattle.group.specs.declared.Name.{Name}
 use Rattle.group.specs.declared.Unit as U
@@ -15,13 +16,13 @@ abbrev pub nameBytes : List ℕ → Bool
 nameBytes [] = true
 nameBytes (x ∷ xs) = nameByte x && nameBytes xs
 
--- 1 to 24 bytes that may stand in a name
+-- 1 to nameMost bytes that may stand in a name
 unfoldable pub isName : List ℕ → Bool
-isName f = leb 1 (length f) && leb (length f) 24 && nameBytes f
+isName f = leb 1 (length f) && leb (length f) nameMost && nameBytes f
 
 -- the name with zeros behind it
 abbrev pub nameOf : List ℕ → Name
-nameOf f = record { bytes = f ++ replicate (24 - length f) 0; len = length f }
+nameOf f = record { bytes = f ++ replicate (nameMost - length f) 0; len = length f }
 
 abbrev pub nameText : Name → List ℕ
 nameText n = take (n .len) (n .bytes)

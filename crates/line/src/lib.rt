@@ -6,6 +6,7 @@ ghost use lib.ListN.{length, take};
 ghost use Rattle.text.specs.Parts.{fieldOf};
 ghost use Rattle.text.specs.Fields.{same};
 ghost use Rattle.text.specs.Put.{Wrote};
+ghost use Rattle.group.specs.Numbers.{nameMost};
 ghost use Rattle.line.specs.Names.{isName, nameOf, nameText, readUnit, unitText};
 ghost use Rattle.group.specs.Refusals.{refusal};
 ghost use Rattle.line.specs.Line.{bad};
@@ -87,7 +88,7 @@ fn name_form(s: &[u8]) -> Form
     if s.len() < 1 {
         return Form::Malformed;
     }
-    if 24 < s.len() {
+    if group::NAME_MOST < s.len() {
         return Form::Malformed;
     }
     let mut i = 0;
@@ -102,10 +103,10 @@ fn name_form(s: &[u8]) -> Form
 
 // A field as a name, with zeros behind it.
 fn read_name(s: &[u8]) -> Name
-    requires { ⌜ length (now s) ≤ 24 ⌝ }
+    requires { ⌜ length (now s) ≤ nameMost ⌝ }
     ensures { λ r. ⌜ r ≡ nameOf (now (s .entry)) ⌝ }
 {
-    let mut bytes = [0u8; 24];
+    let mut bytes = [0u8; group::NAME_MOST];
     let mut i = 0;
     while i < s.len() {
         bytes[i] = s[i];
@@ -142,7 +143,7 @@ fn count_of(z: i64) -> u64
     ensures { λ r. ⌜ r ≡ counted z ⌝ }
 {
     if numbers::negative(z) {
-        return 18446744073709551615;
+        return group::BEYOND;
     }
     numbers::magnitude(z)
 }
@@ -347,8 +348,8 @@ pub fn put_front(s: &[u8], n: usize, out: &mut [u8], at: usize) -> usize
 }
 
 // Writes the first n bytes of a name.
-fn put_letters(bytes: &[u8; 24], n: usize, out: &mut [u8], at: usize) -> usize
-    requires { ⌜ (n ≤ 24) × (at + length (take n (now bytes)) ≤ length (now out)) ⌝ }
+fn put_letters(bytes: &[u8; group::NAME_MOST], n: usize, out: &mut [u8], at: usize) -> usize
+    requires { ⌜ (n ≤ nameMost) × (at + length (take n (now bytes)) ≤ length (now out)) ⌝ }
     ensures { λ r. ⌜ Wrote at (take n (now (bytes .entry))) (now (out .entry)) r (now (out .exit)) ⌝ }
 {
     put_front(bytes, n, out, at)
@@ -356,7 +357,7 @@ fn put_letters(bytes: &[u8; 24], n: usize, out: &mut [u8], at: usize) -> usize
 
 // Writes a tab and a name.
 fn put_name(name: Name, out: &mut [u8], at: usize) -> usize
-    requires { ⌜ (name .len ≤ 24) × (at + length (9 ∷ nameText name) ≤ length (now out)) ⌝ }
+    requires { ⌜ (name .len ≤ nameMost) × (at + length (9 ∷ nameText name) ≤ length (now out)) ⌝ }
     ensures { λ r. ⌜ Wrote at (9 ∷ nameText name) (now (out .entry)) r (now (out .exit)) ⌝ }
 {
     let p = text::put_byte(9, out, at);
@@ -378,7 +379,7 @@ fn put_unit(unit: Unit, out: &mut [u8], at: usize) -> usize
 
 // Writes a group line with its line feed.
 pub fn put_head(head: Head, out: &mut [u8], at: usize) -> usize
-    requires { ⌜ (head .name .len ≤ 24) × (at + length (headText head ++ (10 ∷ [])) ≤ length (now out)) ⌝ }
+    requires { ⌜ (head .name .len ≤ nameMost) × (at + length (headText head ++ (10 ∷ [])) ≤ length (now out)) ⌝ }
     ensures { λ r. ⌜ Wrote at (headText head ++ (10 ∷ [])) (now (out .entry)) r (now (out .exit)) ⌝ }
 {
     let p = text::put_bytes(b"group", out, at);
@@ -408,7 +409,7 @@ pub fn put_ramp(ramp: Ramp, out: &mut [u8], at: usize) -> usize
 
 // Writes a grid line with its line feed.
 pub fn put_grid(grid: Grid, out: &mut [u8], at: usize) -> usize
-    requires { ⌜ (grid .name .len ≤ 24) × (at + length (gridText grid ++ (10 ∷ [])) ≤ length (now out)) ⌝ }
+    requires { ⌜ (grid .name .len ≤ nameMost) × (at + length (gridText grid ++ (10 ∷ [])) ≤ length (now out)) ⌝ }
     ensures { λ r. ⌜ Wrote at (gridText grid ++ (10 ∷ [])) (now (out .entry)) r (now (out .exit)) ⌝ }
 {
     let p = text::put_bytes(b"grid", out, at);

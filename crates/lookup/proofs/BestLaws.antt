@@ -13,7 +13,7 @@ use Rattle.extent.specs.Extent.{holds}
 use Rattle.extent.proofs.SideLaws.{holds-meet}
 use Rattle.judge.specs.Judge.{judged, sameRank}
 use Rattle.judge.proofs.Accepted.{accepted}
-use Rattle.choice.specs.InGroup.{chosenIn}
+use Rattle.ingroup.specs.InGroup.{chosenIn}
 use Rattle.choice.proofs.ChoiceLaws.{chosen-best, chosen-none}
 use Rattle.lookup.specs.Demand2.{BestGrid, NoneHolds}
 

@@ -6,26 +6,29 @@ use native.Mathlib.Omega.{arith}
 use borrow.Author.Tests.{ltb-false}
 use lib.IntN.{ℤ, natAbs}
 use lib.ListN.{length}
-use Rattle.numbers.specs.Order.{within}
 use Rattle.numbers.proofs.Bools.{and-left, and-right}
 use Rattle.numbers.proofs.FirstLaws.{none-at}
 use Rattle.numbers.proofs.OrderLaws.{within-size}
 use Rattle.group.specs.declared.Group.{Group}
 use Rattle.group.specs.declared.Point.{Point}
+use Rattle.group.specs.Numbers.{lonMost, latMost, lonZero, latZero, lonAdmitted, latAdmitted}
 use Rattle.group.specs.Record.{gridAt}
 use Rattle.extent.specs.Sides.{lonFromLeast, latFromLeast}
-use Rattle.judge.specs.Flat.{Sided}
+use Rattle.flat.specs.Lists.{Sided}
 use Rattle.judge.proofs.Accepted.{accepted-head}
-use Rattle.choice.specs.Rect.{at}
+use Rattle.numbers.specs.Lists.{at}
 use Rattle.choice.proofs.ChoiceLaws.{chosen≤}
-use Rattle.choice.proofs.InGroupLaws.{flat-holds, flat-chosen}
+use Rattle.ingroup.proofs.InGroupLaws.{chosen-most, flat-holds, flat-chosen}
 use Rattle.fix.specs.declared.Place.{Place}
 use Rattle.fix.specs.Fix.{Placed, Listed, fixIn}
-use Rattle.choice.specs.InGroup.{chosenIn}
-use Rattle.lookup.specs.declared.Frame.{Frame}
+use Rattle.ingroup.specs.InGroup.{chosenIn}
+use Rattle.flat.specs.declared.Frame.{Frame}
 use Rattle.lookup.specs.Lookup.{endsEarly, placeOf, fixAt, Ready}
-use Rattle.lookup.specs.Flat.{frameAt, Framed, placeIn, fixFlat, Laid, fixRanked, LaidRows, RankedRows}
-use Rattle.lookup.proofs.RankLaws.{ranked-chosen, row-owner}
+use Rattle.flat.specs.Frames.{frameAt}
+use Rattle.flat.specs.Lists.{Framed}
+use Rattle.flat.specs.Order.{RankedRows}
+use Rattle.lookup.specs.Flat.{placeIn, fixFlat, Laid, fixRanked, LaidRows}
+use Rattle.ingroup.proofs.RankLaws.{ranked-chosen, row-owner}
 use Rattle.lookup.proofs.PlaceLaws.{place-placed, place-seen}
 
 -- places that agree in each grid that can be chosen
@@ -36,18 +39,18 @@ fix-at-same zero n place seat nodes f h e = refl
 fix-at-same (suc k) n place seat nodes f h e = ap (λ (l : Place). fixIn l nodes f (suc k)) (e k (omega arith))
 
 module _ (g : Group) (nodes : List ℤ) (p : Point) (t : ℤ) (r : Ready g (length nodes) p t) (sides ranks frames : List ℕ)
-    (sd : Sided g sides ranks) (fr : Framed g (g .grids) frames) where
+    (sd : Sided g (g .grids) sides ranks) (fr : Framed g (g .grids) frames) where
   x : ℕ
   x = lonFromLeast (p .lon .0)
 
   y : ℕ
   y = latFromLeast (p .lat .0)
 
-  lon-small : natAbs (p .lon .0) ≤ 1296000000
-  lon-small = within-size 1296000000 (p .lon .0) (and-left (within 1296000000 (p .lon .0)) (within 324000000 (p .lat .0)) (r .point))
+  lon-small : natAbs (p .lon .0) ≤ lonZero
+  lon-small = omega (arith, within-size lonMost (p .lon .0) (and-left (lonAdmitted (p .lon .0)) (latAdmitted (p .lat .0)) (r .point)))
 
-  lat-small : natAbs (p .lat .0) ≤ 324000000
-  lat-small = within-size 324000000 (p .lat .0) (and-right (within 1296000000 (p .lon .0)) (within 324000000 (p .lat .0)) (r .point))
+  lat-small : natAbs (p .lat .0) ≤ latZero
+  lat-small = omega (arith, within-size latMost (p .lat .0) (and-right (lonAdmitted (p .lon .0)) (latAdmitted (p .lat .0)) (r .point)))
 
   seen : (k : ℕ) → k < g .grids → placeIn (frameAt frames k) (g .parameters) x y ≡ placeOf (gridAt g k) (g .parameters) p
   unfolding x y
@@ -63,9 +66,7 @@ module _ (g : Group) (nodes : List ℤ) (p : Point) (t : ℤ) (r : Ready g (leng
   unfolding x y
   laid-here a b c =
       record {
-        grids-most = accepted-head g (r .accepted) .grids;
-        sides-room = a;
-        ranks-room = b;
+        room = record { few = accepted-head g (r .accepted) .grids; sides-room = a; ranks-room = b };
         frames-room = c;
         placed = λ k l h.
             subst Placed (sym (seen k l))
@@ -95,7 +96,7 @@ module _ (g : Group) (nodes : List ℤ) (p : Point) (t : ℤ) (r : Ready g (leng
           chosen = λ q m h.
               let w = row-owner sides ranks rows owners (g .grids) count o q m in
               record {
-                number = omega (arith, l .grids-most);
+                number = omega (arith, l .room .few);
                 room = omega arith;
                 placed = λ z. l .placed (at owners q - 1) (omega arith) (w .2 x y h);
                 listed = λ z. l .listed (at owners q - 1) (omega arith);
@@ -104,12 +105,12 @@ module _ (g : Group) (nodes : List ℤ) (p : Point) (t : ℤ) (r : Ready g (leng
 
     ranked-fix-here : (f : ℤ) → fixRanked rows owners frames count (g .parameters) nodes f x y
         ≡ fixAt (chosenIn g (p .lon .0) (p .lat .0)) (λ k. placeOf (gridAt g k) (g .parameters) p) nodes f
-    unfolding x y chosenIn
+    unfolding x y
     ranked-fix-here f =
         ap (λ (c : ℕ). fixAt c (λ k. placeIn (frameAt frames k) (g .parameters) x y) nodes f)
         (ranked-chosen g (r .accepted) sides ranks sd rows owners count o (p .lon .0) (p .lat .0) lon-small lat-small)
         ∙ fix-at-same _ (g .grids) (λ k. placeIn (frameAt frames k) (g .parameters) x y) (λ k. placeOf (gridAt g k) (g .parameters) p) nodes f
-        (chosen≤ _ _ (g .grids)) seen
+        (chosen-most g (p .lon .0) (p .lat .0)) seen
 
     module _ {a b : ℕ} (ea : a ≡ lonFromLeast (p .lon .0)) (eb : b ≡ latFromLeast (p .lat .0)) where
       pub ranked-laid : count * 4 ≤ length rows → count ≤ length owners → g .grids * 4 ≤ length sides → g .grids ≤ length ranks → g .grids * 7 ≤ length frames

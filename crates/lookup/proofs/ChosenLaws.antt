@@ -1,13 +1,13 @@
 -- What the lists of a group say of the grid that the choice takes: it holds the point.
-use Prim.Native.Nat.{ℕ, suc, _-_, _*_, _≤_, _<_}
+use Prim.Native.Nat.{ℕ, _-_, _<_}
 use mathlib.Core.Path.{_≡_, refl, sym, _∙_, subst}
-use mathlib.Core.Bool.{true}
 use mathlib.Core.List.{List}
 use native.Mathlib.Omega.{arith}
 use native.Mathlib.Decide.{decLt}
 use Rattle.numbers.specs.First.{first}
 use Rattle.numbers.proofs.FirstLaws.{first-hit}
-use Rattle.choice.specs.Rect.{at, holds}
+use Rattle.numbers.specs.Lists.{at}
+use Rattle.choice.specs.Rect.{holds}
 use Rattle.choice.specs.Choice.{chosen}
 use Rattle.choice.specs.Holder.{holder}
 use Rattle.choice.proofs.ChoiceLaws.{Best, chosen-best, chosen≤}
@@ -19,7 +19,7 @@ module _ (sides ranks frames : List ℕ) (grids np count x y : ℕ) (l : Laid si
   laid-chosen c e =
       let m = chosen≤ (λ i. holds sides i x y) (at ranks) grids in
       record {
-        number = omega (arith, l .grids-most);
+        number = omega (arith, l .room .few);
         room = omega (arith, l .frames-room);
         placed = λ h. let b = best h in l .placed (c - 1) (b .among) (b .inside);
         listed = λ h. l .listed (c - 1) (best h .among);

@@ -14,8 +14,9 @@ use Rattle.group.specs.declared.Verdict.{Verdict}
 use Rattle.group.specs.declared.Verdict.the-variants.{Accepted, Refused}
 use Rattle.group.specs.Record.{gridAt}
 use Rattle.judge.specs.Judge.{judged}
-use Rattle.choice.specs.InGroup.{chosenIn}
-use Rattle.cell.specs.Cell.{isMark, isBeyond}
+use Rattle.ingroup.specs.InGroup.{chosenIn}
+use Rattle.group.specs.Numbers.{isMark, dayFits}
+use Rattle.cell.specs.Cell.{isBeyond}
 use Rattle.day.specs.Day.{factorOf}
 use Rattle.fix.specs.declared.Place.{Place}
 use Rattle.fix.specs.declared.Fix.{Fix}
@@ -23,7 +24,7 @@ use Rattle.fix.specs.declared.Lookup.{Lookup}
 use Rattle.fix.specs.declared.Lookup.the-variants as L
 use Rattle.fix.specs.Answers.{resultIn}
 use Rattle.fix.specs.Fix.{cornerSome, resultAt, refuseIf, fixIn}
-use Rattle.lookup.specs.Lookup.{pointFits, dayFits, endsEarly, placeOf, fixAt, unlessRefused, lookedIn, looked, Ready}
+use Rattle.lookup.specs.Lookup.{pointFits, endsEarly, placeOf, fixAt, unlessRefused, lookedIn, looked, Ready}
 
 -- a stage that leads to a fix did not refuse
 stage : (b : Bool) (n q : ℕ) (next : Lookup) (f : Fix) → refuseIf b n q next ≡ L.Fix f → (b ≡ false) × (next ≡ L.Fix f)

@@ -1,10 +1,7 @@
--- The laws of the lookup: frames, choice, places, stages and promises.
-pub mod FrameLaws
+-- The laws of the lookup: choice, places, stages and promises.
 pub mod PlaceLaws
 pub mod FixAtLaws
 pub mod ChosenLaws
-pub mod RowLaws
-pub mod RankLaws
 pub mod BridgeLaws
 pub mod StageLaws
 pub mod TableLaws

@@ -8,7 +8,7 @@ use borrow.Author.Tests.{leb-true}
 use lib.Dec.{T, leb}
 use lib.IntN.{ℤ, pos, negsuc, _+ℤ_, _-ℤ_, _*ℤ_, natAbs}
 use lib.Signed.{leZ}
-use Rattle.numbers.specs.Order.{between, within, minZ, maxZ}
+use Rattle.numbers.specs.Order.{between, minZ, maxZ}
 use Rattle.numbers.proofs.Bools.{and-left, and-right}
 use Rattle.numbers.proofs.OrderLaws.{size-mul, within-size}
 use Rattle.numbers.proofs.Diff.{up, dn, up-or-dn, natAbs-diff, diff-self, diff-+, diff--, ≤-diff}
@@ -17,6 +17,7 @@ use Rattle.group.specs.declared.Grid.{Grid}
 use Rattle.group.specs.declared.Group.{Group}
 use Rattle.group.specs.declared.Point.{Point}
 use Rattle.group.specs.declared.Verdict.the-variants.{Accepted}
+use Rattle.group.specs.Numbers.{lonMost, latMost, lonZero, latZero, lonAdmitted, latAdmitted, lonEdgeFits, latEdgeFits, spacingMost, listMost}
 use Rattle.group.specs.Limits.{spacingFits}
 use Rattle.group.specs.Record.{gridAt}
 use Rattle.extent.specs.Extent.{lonAxis, latAxis, farEdge, spanOf, lonSpan, latSpan, lonHolds, latHolds, holds, nodeEnd, inside}
@@ -25,7 +26,8 @@ use Rattle.judge.proofs.Accepted.{accepted, accepted-head, accepted-sized}
 use Rattle.judge.proofs.LimitLaws.{lon-size, lat-size, dlon-good, dlat-good}
 use Rattle.fix.specs.Fix.{Placed}
 use Rattle.lookup.specs.Lookup.{pointFits, placeOf}
-use Rattle.lookup.specs.Flat.{frameOf, placeIn}
+use Rattle.flat.specs.Frames.{frameOf}
+use Rattle.lookup.specs.Flat.{placeIn}
 use Rattle.extent.specs.Sides.{lonFromLeast, latFromLeast}
 
 -- ---- along one axis
@@ -58,7 +60,7 @@ module _ (a s x : ℤ) (n : ℕ) where
   axis-distance h = let k = by (leZ a far) refl h in let m = size-mul (pos n) s in omega arith
 
 spacing-least : (d : ℤ) → spacingFits d ≡ true → 0 < natAbs d
-spacing-least (pos n) e = leb-true 1 n (and-left (leb 1 n) (leb n 1000000) e)
+spacing-least (pos n) e = leb-true 1 n (and-left (leb 1 n) (leb n spacingMost) e)
 spacing-least (negsuc n) e = omega arith
 
 -- ---- in a grid
@@ -72,9 +74,9 @@ module _ (g : Grid) (x y : ℤ) (h : holds g x y ≡ true) where
   unfolding holds latSpan spanOf farEdge
   lat-distance = axis-distance (g .lat .0) (g .dlat) y (g .nj - 1) (and-right (lonHolds (lonSpan g) x) (latHolds (latSpan g) y) h)
 
-range-end : (np : ℕ) (g : Grid) → inside np g ≡ true → nodeEnd np g ≤ 16777216
+range-end : (np : ℕ) (g : Grid) → inside np g ≡ true → nodeEnd np g ≤ listMost
 unfolding inside
-range-end np g e = leb-true _ _ (and-right (within 1296000000 (farEdge (lonAxis g)) && within 324000000 (farEdge (latAxis g))) _ e)
+range-end np g e = leb-true _ _ (and-right (lonEdgeFits (farEdge (lonAxis g)) && latEdgeFits (farEdge (latAxis g))) _ e)
 
 -- ---- in an accepted group
 
@@ -102,11 +104,11 @@ module _ (g : Group) (a : judged g ≡ Accepted) (p : Point) (k : ℕ) (l : k < 
   unfolding placeOf
   place-seen h =
       let e = gridAt g k in let f = accepted g a .grid k l in
-      let u = within 1296000000 (p .lon .0) in let v = within 324000000 (p .lat .0) in
+      let u = lonAdmitted (p .lon .0) in let v = latAdmitted (p .lat .0) in
       let x =
-      raised-apart 1296000000 (p .lon .0) (e .lon .0) (within-size 1296000000 (p .lon .0) (and-left u v h)) (lon-size e f) in
+      raised-apart lonZero (p .lon .0) (e .lon .0) (omega (arith, within-size lonMost (p .lon .0) (and-left u v h))) (omega (arith, lon-size e f)) in
       let y =
-      raised-apart 324000000 (p .lat .0) (e .lat .0) (within-size 324000000 (p .lat .0) (and-right u v h)) (lat-size e f) in
+      raised-apart latZero (p .lat .0) (e .lat .0) (omega (arith, within-size latMost (p .lat .0) (and-right u v h))) (omega (arith, lat-size e f)) in
       λ i.
       record {
         dx = sym x i;

@@ -3,7 +3,7 @@ use Prim.Native.Nat.{ℕ, zero, suc, _+_, _<_}
 use mathlib.Core.Path.{_≡_, refl, sym, ap, _∙_, subst}
 use mathlib.Core.Bool.{Bool, true, false, not, _&&_}
 use mathlib.Core.List.{List}
-use mathlib.Core.Logic.{_⊎_, inl, inr, ⊎-elim, _↔_}
+use mathlib.Core.Logic.{inl, inr, ⊎-elim, _↔_}
 use native.Mathlib.Omega.{arith}
 use native.Mathlib.Decide.{decLt}
 use borrow.Author.Tests.{ltb-true, ltb-false, lt-ltb, leb-false, lt-leb, not-true, not-false}
@@ -21,8 +21,9 @@ use Rattle.group.specs.declared.Verdict.{Verdict}
 use Rattle.group.specs.declared.Verdict.the-variants.{Accepted, Refused}
 use Rattle.group.specs.Refusals.{refusal, verdictRefusal}
 use Rattle.judge.specs.Judge.{judged}
-use Rattle.choice.specs.InGroup.{chosenIn}
-use Rattle.cell.specs.Cell.{mark, isMark, isBeyond}
+use Rattle.ingroup.specs.InGroup.{chosenIn}
+use Rattle.group.specs.Numbers.{lonMost, latMost, lonAdmitted, latAdmitted, valueMost, mark, isMark, dayMost, dayFits}
+use Rattle.cell.specs.Cell.{isBeyond}
 use Rattle.cell.proofs.ValueLaws.{is-mark, is-beyond}
 use Rattle.day.specs.Day.{factorOf}
 use Rattle.fix.specs.declared.Lookup.{Lookup}
@@ -30,7 +31,7 @@ use Rattle.fix.specs.declared.Lookup.the-variants as L
 use Rattle.fix.specs.Answers.{lookupRefusal}
 use Rattle.fix.specs.Fix.{cornerSome, resultAt, refuseIf, fixIn}
 use Rattle.fix.proofs.FixLaws.{corner-some, some-corner}
-use Rattle.lookup.specs.Lookup.{pointFits, dayFits, endsEarly, placeOf, fixAt, fixOf, unlessRefused, lookedIn, looked}
+use Rattle.lookup.specs.Lookup.{pointFits, endsEarly, placeOf, fixAt, fixOf, unlessRefused, lookedIn, looked}
 use Rattle.lookup.specs.Demand2.{seenFrom, BestGrid, PointOutside, NoneHolds, UsedCorner, DayOutside, EndsBefore, Judged, Row, ShortList, Nothing, _then_, Refuses}
 use Rattle.lookup.proofs.BestLaws.{chosen-is-best, none-chosen-holds, one-best}
 
@@ -68,16 +69,16 @@ inside : (m : ℕ) (z : ℤ) → within m z ≡ true → m < natAbs z → ⊥
 inside m z e h = true-false e (within-test m z ∙ lt-leb (natAbs z) m h)
 
 point-outside : (p : Point) → pointFits p ≡ false → PointOutside p
-point-outside p e = pick (within 1296000000 (p .lon .0)) refl e
+point-outside p e = pick (lonAdmitted (p .lon .0)) refl e
   where
-    pick : (b : Bool) → within 1296000000 (p .lon .0) ≡ b → (b && within 324000000 (p .lat .0)) ≡ false → PointOutside p
-    pick true w e = inr (outside 324000000 (p .lat .0) e)
-    pick false w e = inl (outside 1296000000 (p .lon .0) w)
+    pick : (b : Bool) → lonAdmitted (p .lon .0) ≡ b → (b && latAdmitted (p .lat .0)) ≡ false → PointOutside p
+    pick true w e = inr (outside latMost (p .lat .0) e)
+    pick false w e = inl (outside lonMost (p .lon .0) w)
 
 point-inside : (p : Point) → pointFits p ≡ true → PointOutside p → ⊥
 point-inside p e =
-    let x = within 1296000000 (p .lon .0) in let y = within 324000000 (p .lat .0) in
-    ⊎-elim (inside 1296000000 (p .lon .0) (and-left x y e)) (inside 324000000 (p .lat .0) (and-right x y e))
+    let x = lonAdmitted (p .lon .0) in let y = latAdmitted (p .lat .0) in
+    ⊎-elim (inside lonMost (p .lon .0) (and-left x y e)) (inside latMost (p .lat .0) (and-right x y e))
 
 module _ (g : Group) (nodes : List ℤ) where
   abbrev early : ℕ → Bool
@@ -121,7 +122,7 @@ module _ (g : Group) (nodes : List ℤ) where
 
 module _ (g : Group) (nodes : List ℤ) (p : Point) (t : ℤ) where
   abbrev From11 : Refusal → Type 0
-  From11 = Row 11 (UsedCorner (λ v. 4000000 < natAbs v) g nodes p) then Nothing
+  From11 = Row 11 (UsedCorner (λ v. valueMost < natAbs v) g nodes p) then Nothing
 
   abbrev From8 : Refusal → Type 0
   From8 = Row 8 (UsedCorner (λ v. v ≡ mark) g nodes p) then From11
@@ -150,8 +151,8 @@ module _ (g : Group) (nodes : List ℤ) (p : Point) (t : ℤ) where
         second = resultAt (seenFrom g p k) nodes factor 1;
         third = resultAt (seenFrom g p k) nodes factor 2;
       }))
-      (corner-used g nodes p isBeyond (λ v. 4000000 < natAbs v) is-beyond k b)
-      (corner-unused g nodes p isBeyond (λ v. 4000000 < natAbs v) is-beyond k b)
+      (corner-used g nodes p isBeyond (λ v. valueMost < natAbs v) is-beyond k b)
+      (corner-unused g nodes p isBeyond (λ v. valueMost < natAbs v) is-beyond k b)
       (λ f. refl))
 
   in-choice : judged g ≡ Accepted → (c : ℕ) → chosenIn g (p .lon .0) (p .lat .0) ≡ c → (factor : ℤ)
@@ -173,7 +174,7 @@ module _ (g : Group) (nodes : List ℤ) (p : Point) (t : ℤ) where
       (λ a.
       row-stage _ From9 (not (pointFits p)) 6 _ (λ e. point-outside p (not-true _ e)) (λ e. point-inside p (not-false _ e))
       (λ b.
-      row-stage _ From13 (not (dayFits t)) 9 _ (λ e. outside 1000000 t (not-true _ e)) (λ e. inside 1000000 t (not-false _ e))
+      row-stage _ From13 (not (dayFits t)) 9 _ (λ e. outside dayMost t (not-true _ e)) (λ e. inside dayMost t (not-false _ e))
       (λ c.
       stage (ShortList g nodes) From7 (some (early g nodes) (g .grids)) 13 (first (early g nodes) (g .grids) + 1) (fixOf g nodes p t)
       (λ e. (first (early g nodes) (g .grids), ap (refusal 13) (omega arith), first-ends g nodes e))

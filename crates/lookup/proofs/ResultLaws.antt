@@ -9,6 +9,7 @@ use lib.IntN.{ℤ, pos, _+ℤ_, _-ℤ_, _*ℤ_, natAbs, +ℤ-comm, +ℤ-negℤ-c
 use Rattle.numbers.proofs.OrderLaws.{size-mul}
 use Rattle.group.specs.declared.Group.{Group}
 use Rattle.group.specs.declared.Point.{Point}
+use Rattle.group.specs.Numbers.{resultMost}
 use Rattle.group.specs.Record.{gridAt}
 use Rattle.judge.proofs.Accepted.{accepted, accepted-head}
 use Rattle.cell.proofs.ValueLaws.{value-half-step, value-least, value-most}
@@ -65,7 +66,7 @@ module _ (g : Group) (nodes : List ℤ) (p : Point) (t : ℤ) (f : Fix) (e : loo
         most = value-most c v;
         plain = λ none. r ∙ ap (resultOf (valueIn l nodes q)) (factor-none (g .ramp) t (g .ramps) none) ∙ result-plain (valueIn l nodes q);
         small =
-            subst (λ (z : ℤ). natAbs z ≤ 320000000) (sym r)
+            subst (λ (z : ℤ). natAbs z ≤ resultMost) (sym r)
             (result-bound (valueIn l nodes q) _ (P.value-most placed nodes (w .no-beyond) q (in-place q h))
             (factor-bound (g .ramp) t (g .ramps) (accepted-head g a .ramps) (accepted g a .ramp)));
       }

@@ -13,7 +13,8 @@ use Rattle.group.specs.declared.Verdict.the-variants.{Accepted, Refused}
 use Rattle.judge.specs.Judge.{judged}
 use Rattle.fix.specs.declared.Lookup.the-variants as L
 use Rattle.fix.specs.Fix.{refuseIf}
-use Rattle.lookup.specs.Lookup.{pointFits, dayFits, endsEarly, fixOf, lookedIn, looked, Ready}
+use Rattle.group.specs.Numbers.{dayFits}
+use Rattle.lookup.specs.Lookup.{pointFits, endsEarly, fixOf, lookedIn, looked, Ready}
 
 module _ (g : Group) (nodes : List ℤ) (p : Point) (t : ℤ) where
   pub looked-group : (r : Refusal) → judged g ≡ Refused r → looked g nodes p t ≡ L.Refused r

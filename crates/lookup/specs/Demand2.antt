@@ -12,11 +12,12 @@ use Rattle.group.specs.declared.Group.{Group}
 use Rattle.group.specs.declared.Point.{Point}
 use Rattle.group.specs.declared.Refusal.{Refusal}
 use Rattle.group.specs.declared.Verdict.the-variants.{Refused}
+use Rattle.group.specs.Numbers.{lonMost, latMost, dayMost, valueMost, resultMost, mark}
 use Rattle.group.specs.Record.{gridAt}
 use Rattle.group.specs.Refusals.{refusal, noRefusal}
 use Rattle.extent.specs.Extent.{holds, nodeEnd}
 use Rattle.judge.specs.Judge.{judged}
-use Rattle.cell.specs.Cell.{mark, weightedSum}
+use Rattle.cell.specs.Cell.{weightedSum}
 use Rattle.cell.specs.Used.{EachUsed, SomeUsed}
 use Rattle.day.specs.Day.{factorOf, resultOf}
 use Rattle.fix.specs.declared.Place.{Place}
@@ -42,7 +43,7 @@ pub record BestGrid (g : Group) (p : Point) (k : ℕ) : Type 0 where
 
 -- 6: the point is outside the limits
 abbrev pub PointOutside : Point → Type 0
-PointOutside p = (1296000000 < natAbs (p .lon .0)) ⊎ (324000000 < natAbs (p .lat .0))
+PointOutside p = (lonMost < natAbs (p .lon .0)) ⊎ (latMost < natAbs (p .lat .0))
 
 -- 7: no grid holds the point
 abbrev pub NoneHolds : Group → Point → Type 0
@@ -58,7 +59,7 @@ pub record UsedCorner (P : ℤ → Type 0) (g : Group) (nodes : List ℤ) (p : P
 
 -- 9: the day is outside the limit
 abbrev pub DayOutside : ℤ → Type 0
-DayOutside t = 1000000 < natAbs t
+DayOutside t = dayMost < natAbs t
 
 -- 13: the node list ends before the range of grid k does, and of no lower grid
 pub record EndsBefore (g : Group) (nodes : List ℤ) (k : ℕ) : Type 0 where
@@ -98,7 +99,7 @@ Refuses g nodes p t =
     then ShortList g nodes
     then Row 7 (NoneHolds g p)
     then Row 8 (UsedCorner (λ v. v ≡ mark) g nodes p)
-    then Row 11 (UsedCorner (λ v. 4000000 < natAbs v) g nodes p)
+    then Row 11 (UsedCorner (λ v. valueMost < natAbs v) g nodes p)
     then Nothing
 
 -- ---- an accepted lookup
@@ -116,7 +117,7 @@ pub record Answered (g : Group) (nodes : List ℤ) (p : Point) (t : ℤ) (l : Pl
   -- with no ramps the result is the value
   pub plain : g .ramps ≡ 0 → r ≡ valueIn l nodes q
   -- 64 bits suffice
-  pub small : natAbs r ≤ 320000000
+  pub small : natAbs r ≤ resultMost
 
 -- r answers the lookup: the best grid that holds the point, NP results in it, the rest 0
 pub record LookedUp (g : Group) (nodes : List ℤ) (p : Point) (t : ℤ) (r : Lookup) : Type 0 where
@@ -147,11 +148,12 @@ pub record SameChoice (g other : Group) (nodes others : List ℤ) (p : Point) (t
 -- ---- the whole
 
 pub record Demand2 (g : Group) (nodes : List ℤ) (p : Point) (t : ℤ) : Type 0 where
-  -- each refusal exactly when its row applies and none before it does, and number 0 exactly when no row applies
+  -- each refusal exactly when its row applies and none before it does
   pub refused : (r : Refusal) → (lookupRefusal (looked g nodes p t) ≡ r) ↔ Refuses g nodes p t r
-  -- number 0 is a fix
-  pub fixed : (lookupRefusal (looked g nodes p t) .number ≡ 0) ↔ ((f : Fix) × (looked g nodes p t ≡ L.Fix f))
-  -- and keeps these promises
+  -- where no row applies, and only there, there is a fix
+  pub fixed : Refuses g nodes p t noRefusal ↔ ((f : Fix) × (looked g nodes p t ≡ L.Fix f))
+  -- the number is 0 exactly for a fix, which then keeps these promises
+  pub zero : (lookupRefusal (looked g nodes p t) .number ≡ 0) ↔ ((f : Fix) × (looked g nodes p t ≡ L.Fix f))
   pub accepted : lookupRefusal (looked g nodes p t) .number ≡ 0 → LookedUp g nodes p t (looked g nodes p t)
   -- what is neither in a used corner of the chosen grid nor in its record changes nothing
   pub same : (other : Group) (others : List ℤ) → SameChoice g other nodes others p t → looked g nodes p t ≡ looked other others p t

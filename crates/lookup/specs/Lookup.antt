@@ -7,16 +7,16 @@ use lib.Dec.{ltb}
 use lib.IntN.{ℤ, _-ℤ_, natAbs}
 use lib.ListN.{length}
 use Rattle.numbers.specs.First.{first, some}
-use Rattle.numbers.specs.Order.{within}
 use Rattle.group.specs.declared.Grid.{Grid}
 use Rattle.group.specs.declared.Group.{Group}
 use Rattle.group.specs.declared.Point.{Point}
 use Rattle.group.specs.declared.Verdict.{Verdict}
 use Rattle.group.specs.declared.Verdict.the-variants.{Accepted, Refused}
+use Rattle.group.specs.Numbers.{lonAdmitted, latAdmitted, dayFits}
 use Rattle.group.specs.Record.{gridAt}
 use Rattle.extent.specs.Extent.{nodeEnd}
 use Rattle.judge.specs.Judge.{judged}
-use Rattle.choice.specs.InGroup.{chosenIn}
+use Rattle.ingroup.specs.InGroup.{chosenIn}
 use Rattle.day.specs.Day.{factorOf}
 use Rattle.fix.specs.declared.Place.{Place}
 use Rattle.fix.specs.declared.Lookup.{Lookup}
@@ -25,11 +25,7 @@ use Rattle.fix.specs.Fix.{refuseIf, fixIn}
 
 -- 6: the point is within the limits
 abbrev pub pointFits : Point → Bool
-pointFits p = within 1296000000 (p .lon .0) && within 324000000 (p .lat .0)
-
--- 9: the day is within the limit
-abbrev pub dayFits : ℤ → Bool
-dayFits t = within 1000000 t
+pointFits p = lonAdmitted (p .lon .0) && latAdmitted (p .lat .0)
 
 -- 13: a list of so many nodes ends before grid k's range does
 abbrev pub endsEarly : Group → (count k : ℕ) → Bool

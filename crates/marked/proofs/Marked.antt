@@ -6,13 +6,14 @@ use Rattle.group.specs.Limits.{byteFits, nameFits, nameBlank, headFits, gridFit
 use Rattle.extent.specs.Extent.{farEdge, spanOf, lonSpan, latSpan, holds, meet, inside}
 use Rattle.judge.specs.Judge.{sameName, sameRank, refuseIf, refuseFirst, judgedGrids, judgedLines, judged}
 use Rattle.choice.specs.Choice.{betterOf, chosen}
-use Rattle.choice.specs.InGroup.{chosenIn}
+use Rattle.ingroup.specs.InGroup.{chosenIn}
 use Rattle.cell.specs.Cell.{cellIndex, cellAlong, weightsOf, usedSome, valueOf}
 use Rattle.day.specs.Day.{rampFactor, sumOf, factorOf, resultOf}
 use Rattle.fix.specs.Fix as F
 use Rattle.lookup.specs.Lookup.{placeOf, fixAt, lookedIn, looked}
 use Rattle.region.specs.First.{firstInRow, firstInRows, firstIn}
-use Rattle.coverage.specs.InForce.{ofRank, byRank, entriesOf}
+use Rattle.flat.specs.Order.{ofRank, byRank}
+use Rattle.coverage.specs.InForce.{entriesOf}
 use Rattle.inforce.specs.Area.{areaFits}
 use Rattle.inforce.specs.InForce.{inForceOf}
 use Rattle.marked.specs.Marked.{Holds, AllHold, table}

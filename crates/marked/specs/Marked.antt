@@ -13,7 +13,7 @@ use Rattle.group.specs.declared.Point.{Point}
 use Rattle.group.specs.declared.Refusal.{Refusal}
 use Rattle.group.specs.Refusals.{refusal, noRefusal, verdictRefusal}
 use Rattle.group.specs.Blank.{blankRamp, blankGrid}
-use Rattle.cell.specs.Cell.{mark}
+use Rattle.group.specs.Numbers.{mark}
 use Rattle.day.specs.Day.{factorOf}
 use Rattle.fix.specs.declared.Lookup.{Lookup}
 use Rattle.fix.specs.Answers.{lookupRefusal, gridOf, resultsOf}

@@ -5,6 +5,7 @@ use fix::Lookup;
 use group::Group;
 use group::Latitude;
 use group::Longitude;
+use group::MARK;
 use group::Point;
 use group::Refusal;
 use group::Verdict;
@@ -13,9 +14,6 @@ use inforce::GridInForce;
 use inforce::InForce;
 use libc::STDOUT_FILENO;
 use nodes::Loaded;
-
-// The no-data mark.
-const MARK: i32 = -2147483648;
 
 // The group of an accepted header text.
 fn read(text: &[u8]) -> Group {
@@ -47,14 +45,6 @@ fn m12() -> Group {
     read(
         b"group\tdock\tmetre\t13\t1\t0\t3\ngrid\tG1\t0\t0\t10\t10\t3\t2\t3\t0\ngrid\tG2\t0\t0\t10\t10\t2\t2\t1\t0\ngrid\tG3\t12\t0\t10\t10\t2\t2\t2\t0\n",
     )
-}
-
-// A point, in mas.
-fn point(lon: i64, lat: i64) -> Point {
-    Point {
-        lon: Longitude(lon),
-        lat: Latitude(lat),
-    }
 }
 
 // An area by its sides, in mas.
@@ -108,10 +98,12 @@ fn say_refused(r: Refusal) {
     }
 }
 
-// A verdict: accepted, or the refusal.
-fn say_verdict(label: &[u8], verdict: Verdict) {
+// What reading a header text answers: accepted, or the refusal.
+fn header(label: &[u8], text: &[u8]) {
     say(label);
     say(b": ");
+    let reading = header::read_header(text);
+    let verdict = reading.verdict;
     match verdict {
         Verdict::Accepted => say(b"accepted"),
         Verdict::Refused(r) => say_refused(r),
@@ -119,15 +111,12 @@ fn say_verdict(label: &[u8], verdict: Verdict) {
     say(b"\n");
 }
 
-// What reading a header text answers.
-fn header(label: &[u8], text: &[u8]) {
-    let reading = header::read_header(text);
-    let verdict = reading.verdict;
-    say_verdict(label, verdict);
-}
-
-// A lookup's answer: the chosen grid's number and its first result, or the refusal.
-fn looked(label: &[u8], group: Group, nodes: &[i32], p: Point, day: i64) {
+// A lookup's answer at a point in mas: the chosen grid's number and its first result, or the refusal.
+fn looked(label: &[u8], group: Group, nodes: &[i32], lon: i64, lat: i64, day: i64) {
+    let p = Point {
+        lon: Longitude(lon),
+        lat: Latitude(lat),
+    };
     say(label);
     say(b" ");
     say_point(p.lon, p.lat);
@@ -145,8 +134,8 @@ fn looked(label: &[u8], group: Group, nodes: &[i32], p: Point, day: i64) {
 }
 
 // The answer in grid `basin` with no ramps, where the day plays no part.
-fn looked_plain(label: &[u8], nodes: &[i32], p: Point) {
-    looked(label, plain(), nodes, p, 0);
+fn looked_plain(label: &[u8], nodes: &[i32], lon: i64, lat: i64) {
+    looked(label, plain(), nodes, lon, lat, 0);
 }
 
 // Writes an entry of the grids in force, behind a comma if it isn't the first.
@@ -203,63 +192,36 @@ fn loaded(label: &[u8], x: f32) {
     say(b"\n");
 }
 
-// Header texts that 5, 2, 3 and 4 refuse, and a record that 2 refuses.
-fn refused_groups() {
-    header(
-        b"M11 with G2 and G3 of equal ranks",
-        b"group\tdock\tmetre\t13\t1\t0\t3\ngrid\tG1\t0\t0\t10\t10\t3\t2\t3\t0\ngrid\tG2\t0\t0\t10\t10\t2\t2\t1\t0\ngrid\tG3\t10\t0\t10\t10\t2\t2\t1\t0\n",
-    );
-    header(
-        b"a ramp with A above B",
-        b"group\tdock\tmetre\t13\t1\t1\t1\nramp\t200\t0\t100\t1000000\ngrid\tbasin\t0\t0\t10\t10\t3\t2\t1\t0\n",
-    );
-    header(
-        b"a grid name that stands earlier",
-        b"group\tdock\tmetre\t13\t1\t0\t2\ngrid\tbasin\t0\t0\t10\t10\t3\t2\t1\t0\ngrid\tbasin\t0\t0\t10\t10\t3\t2\t2\t0\n",
-    );
-    header(
-        b"a far edge one mas beyond the limit",
-        b"group\tdock\tmetre\t13\t1\t0\t1\ngrid\tbasin\t1295999981\t0\t10\t10\t3\t2\t1\t0\n",
-    );
-    let mut unused = plain();
-    let first = unused.grid[0];
-    unused.grid[63] = first;
-    say_verdict(
-        b"an unused grid entry that is not zero",
-        judge::judge(unused),
-    );
-}
-
 // M1 to M3.
 fn lookups() {
     let nodes = [0, 10, 20, 100, 110, 120];
-    looked_plain(b"M1", &nodes, point(5, 5));
-    looked_plain(b"M2", &nodes, point(20, 10));
-    looked_plain(b"M3", &nodes, point(21, 10));
+    looked_plain(b"M1", &nodes, 5, 5);
+    looked_plain(b"M2", &nodes, 20, 10);
+    looked_plain(b"M3", &nodes, 21, 10);
 }
 
 // M4 to M7: ties go to the even step.
 fn ties() {
-    looked_plain(b"M4", &[0, 1, 0, 0, 1, 0], point(5, 5));
-    looked_plain(b"M5", &[1, 2, 0, 1, 2, 0], point(5, 5));
-    looked_plain(b"M6", &[0, -1, 0, 0, -1, 0], point(5, 5));
-    looked_plain(b"M7", &[-1, -2, 0, -1, -2, 0], point(5, 5));
+    looked_plain(b"M4", &[0, 1, 0, 0, 1, 0], 5, 5);
+    looked_plain(b"M5", &[1, 2, 0, 1, 2, 0], 5, 5);
+    looked_plain(b"M6", &[0, -1, 0, 0, -1, 0], 5, 5);
+    looked_plain(b"M7", &[-1, -2, 0, -1, -2, 0], 5, 5);
 }
 
 // M8 and M9, with the mark at node (1, 0), and a latitude beyond the limit.
 fn marks() {
     let nodes = [0, MARK, 20, 100, 110, 120];
-    looked_plain(b"M8", &nodes, point(0, 5));
-    looked_plain(b"M9", &nodes, point(1, 5));
-    looked_plain(b"a latitude beyond the limit", &nodes, point(5, 324000001));
+    looked_plain(b"M8", &nodes, 0, 5);
+    looked_plain(b"M9", &nodes, 1, 5);
+    looked_plain(b"a latitude beyond the limit", &nodes, 5, 324000001);
 }
 
 // M10: where every node is 1,000,000, the result is the day factor.
 fn factors() {
     let nodes = [1000000; 6];
-    looked(b"M10, day 99", basin(), &nodes, point(5, 5), 99);
-    looked(b"M10, day 133", basin(), &nodes, point(5, 5), 133);
-    looked(b"M10, day 200", basin(), &nodes, point(5, 5), 200);
+    looked(b"M10, day 99", basin(), &nodes, 5, 5, 99);
+    looked(b"M10, day 133", basin(), &nodes, 5, 5, 133);
+    looked(b"M10, day 200", basin(), &nodes, 5, 5, 200);
 }
 
 // M11 and M12, and M11 in the area of longitudes ±648,000,000 and latitudes ±324,000,000.
@@ -271,6 +233,14 @@ fn areas() {
     in_force(b"M11 in the whole earth", m11(), earth);
 }
 
+// M11 with G2 and G3 of equal ranks.
+fn equal_ranks() {
+    header(
+        b"M11 with G2 and G3 of equal ranks",
+        b"group\tdock\tmetre\t13\t1\t0\t3\ngrid\tG1\t0\t0\t10\t10\t3\t2\t3\t0\ngrid\tG2\t0\t0\t10\t10\t2\t2\t1\t0\ngrid\tG3\t10\t0\t10\t10\t2\t2\t1\t0\n",
+    );
+}
+
 // Every marked case, one line each.
 fn main() {
     lookups();
@@ -278,7 +248,7 @@ fn main() {
     marks();
     factors();
     areas();
-    refused_groups();
+    equal_ranks();
     loaded(b"0.5 at Q 0", 0.5);
     loaded(b"1.5 at Q 0", 1.5);
 }

@@ -3,13 +3,13 @@ use Prim.Native.Nat.{ℕ, suc, _*_, _^_}
 use mathlib.Core.Bool.{Bool, true, false, not, cond, _&&_, _||_}
 use mathlib.Core.List.{List, map}
 use lib.Dec.{ltb, eqb}
-use lib.IntN.{ℤ, pos, negsuc, negℤ}
+use lib.IntN.{ℤ, pos, negℤ}
 use lib.ListN.{length, getD}
 use lib.Ieee.{Float, nan, inf, fin, binary32, isNan, toBits, up, down}
 use Rattle.numbers.specs.Round.{roundZ}
-use Rattle.numbers.specs.Order.{within}
 use Rattle.numbers.specs.First.{first}
 use Rattle.group.specs.declared.Refusal.{Refusal}
+use Rattle.group.specs.Numbers.{quantumMost, mark, valueFits}
 use Rattle.group.specs.Refusals.{refusal, noRefusal}
 use Rattle.nodes.specs.declared.Loaded.{Loaded}
 use Rattle.nodes.specs.declared.Loaded.the-variants.{Done, Refused}
@@ -18,10 +18,6 @@ use Rattle.nodes.specs.declared.Loaded.the-variants.{Done, Refused}
 abbrev pub signed : Bool → ℕ → ℤ
 signed false n = pos n
 signed true n = negℤ (pos n)
-
--- the no-data mark
-abbrev pub mark : ℤ
-mark = negsuc 2147483647
 
 -- x becomes the mark: a NaN, or bits equal to the flag's; a NaN as the flag adds nothing
 unfoldable pub marks : Float → Float → Bool
@@ -38,9 +34,9 @@ infinite nan = false
 infinite (inf s) = true
 infinite (fin s m e) = false
 
--- refusal 11: not loaded as the mark, and infinite or rounded beyond ±4,000,000
+-- refusal 11: not loaded as the mark, and infinite or rounded beyond the limit of node values
 unfoldable pub refused : ℕ → Float → Float → Bool
-refused q flag x = not (marks flag x) && (infinite x || not (within 4000000 (steps q x)))
+refused q flag x = not (marks flag x) && (infinite x || not (valueFits (steps q x)))
 
 -- the node of a float that is not refused
 unfoldable pub nodeOf : ℕ → Float → Float → ℤ
@@ -54,7 +50,7 @@ firstRefused q flag floats = first (λ i. refused q flag (getD floats i nan)) (l
 unfoldable pub loaded : ℕ → Float → List Float → ℕ → Loaded
 loaded q flag floats n =
     let k = firstRefused q flag floats in
-    cond (ltb 20 q) (Refused (refusal 2 0))
+    cond (ltb quantumMost q) (Refused (refusal 2 0))
     (cond (not (eqb (length floats) n)) (Refused (refusal 12 0))
     (cond (ltb k (length floats)) (Refused (refusal 11 (suc k))) Done))
 

@@ -7,14 +7,18 @@ ghost use lib.Dec.{T};
 ghost use lib.Ieee.{binary32, ofBits, isNan};
 ghost use lib.ListN.{length};
 ghost use Rattle.numbers.specs.Round.{nearest};
+ghost use Rattle.group.specs.Numbers.{quantumMost};
 ghost use Rattle.nodes.specs.Load.{signed, marks, refused, nodeOf, firstRefused, loaded, nodesAfter};
 ghost use Rattle.nodes.specs.Size.{sizeOf};
 
 // The greatest size of a node, in steps.
-const LIMIT: u64 = 4000000;
+const LIMIT: u64 = group::VALUE_MOST as u64;
 
 // The size of an infinity, and of all from 2^31 on.
 const BEYOND: u64 = 2147483648;
+
+// The bit of a float's sign.
+const SIGN: u64 = 2147483648;
 
 // What loading answers: all nodes are written, or nothing is.
 pub enum Loaded {
@@ -55,10 +59,10 @@ fn scaled(digits: u64, up: u64) -> u64
 
 // The size, in steps of 2^-q, of the float with the bits b, rounded, but no more than BEYOND.
 fn size(b: u64, q: u64) -> u64
-    requires { ⌜ (q ≤ 20) × T (not (isNan (ofBits binary32 b))) ⌝ }
+    requires { ⌜ (q ≤ quantumMost) × T (not (isNan (ofBits binary32 b))) ⌝ }
     ensures { λ r. ⌜ r ≡ sizeOf q (ofBits binary32 b) ⌝ }
 {
-    let field = b % 2147483648 / 8388608;
+    let field = b % SIGN / 8388608;
     let digits = b % 8388608;
     if field == 255 {
         return BEYOND;
@@ -79,7 +83,7 @@ fn with_sign(below: bool, n: u64) -> i32
 
 // Whether x is refused: no mark, and infinite or rounded beyond the limit.
 fn refuses(x: f32, flag: f32, q: u64) -> bool
-    requires { ⌜ q ≤ 20 ⌝ }
+    requires { ⌜ q ≤ quantumMost ⌝ }
     ensures { λ r. ⌜ r ≡ refused q flag x ⌝ }
 {
     if marked(x, flag) {
@@ -90,19 +94,19 @@ fn refuses(x: f32, flag: f32, q: u64) -> bool
 
 // The node of a float that isn't refused, in steps.
 fn node(x: f32, flag: f32, q: u64) -> i32
-    requires { ⌜ (q ≤ 20) × (refused q flag x ≡ false) ⌝ }
+    requires { ⌜ (q ≤ quantumMost) × (refused q flag x ≡ false) ⌝ }
     ensures { λ r. ⌜ r ≡ nodeOf q flag x ⌝ }
 {
     if marked(x, flag) {
-        return -2147483648;
+        return group::MARK;
     }
     let b = f32::to_bits(x) as u64;
-    with_sign(2147483648 <= b, size(b, q))
+    with_sign(SIGN <= b, size(b, q))
 }
 
 // The index of the first float that is refused, and the count of floats where none is.
 fn first_refused(floats: &[f32], flag: f32, q: u64) -> usize
-    requires { ⌜ q ≤ 20 ⌝ }
+    requires { ⌜ q ≤ quantumMost ⌝ }
     ensures { λ r. ⌜ r ≡ firstRefused q flag (now (floats .entry)) ⌝ }
 {
     let mut i = 0;
@@ -117,7 +121,7 @@ fn first_refused(floats: &[f32], flag: f32, q: u64) -> usize
 
 // Writes the node of each float.
 fn fill(floats: &[f32], flag: f32, q: u64, nodes: &mut [i32])
-    requires { ⌜ (q ≤ 20) × (length (now floats) ≡ length (now nodes)) × (firstRefused q flag (now floats) ≡ length (now floats)) ⌝ }
+    requires { ⌜ (q ≤ quantumMost) × (length (now floats) ≡ length (now nodes)) × (firstRefused q flag (now floats) ≡ length (now floats)) ⌝ }
     ensures { λ _. ⌜ now (nodes .exit) ≡ map (nodeOf q flag) (now (floats .entry)) ⌝ }
 {
     let mut k = 0;
@@ -127,15 +131,15 @@ fn fill(floats: &[f32], flag: f32, q: u64, nodes: &mut [i32])
     }
 }
 
-// Turns each float into a node, in steps of 2^-quantum: a NaN, or bits equal to the flag's, into the mark -2147483648, any other float into
+// Turns each float into a node, in steps of 2^-quantum: a NaN, or bits equal to the flag's, into the mark, any other float into
 // the nearest whole number of steps, a tie into the even one (0.5 at quantum 0 into 0, 1.5 into 2). Refused, with no node written: a quantum
-// above 20 (2), nodes of another count than the floats (12), and a float that is infinite or rounds beyond ±4,000,000 (11, at the first
+// above QUANTUM_MOST (2), nodes of another count than the floats (12), and a float that is infinite or rounds beyond ±VALUE_MOST (11, at the first
 // such float's position, from 1).
 pub fn load_nodes(floats: &[f32], flag: f32, quantum: u64, nodes: &mut [i32]) -> Loaded
     ensures { λ r. ⌜ r ≡ loaded quantum flag (now (floats .entry)) (length (now (nodes .entry))) ⌝ }
     ensures { λ _. ⌜ now (nodes .exit) ≡ nodesAfter quantum flag (now (floats .entry)) (now (nodes .entry)) ⌝ }
 {
-    if 20 < quantum {
+    if group::QUANTUM_MOST < quantum {
         return Loaded::Refused(group::Refusal {
             number: 2,
             place: 0,

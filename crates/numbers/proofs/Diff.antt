@@ -196,9 +196,6 @@ less-of x a b e = diff-one (diff-of x a b e) (diff-as (diff-- (diff-pos a) (diff
 pub diff-join : {x y : ℤ} {a a′ b : ℕ} → Diff x a b → a ≡ a′ → Diff y a′ b → x ≡ y
 diff-join p e q = let f = p .diff in let g = q .diff in diff-≡ (omega arith)
 
-pub diff-join-r : {x y : ℤ} {a b b′ : ℕ} → Diff x a b → b ≡ b′ → Diff y a b′ → x ≡ y
-diff-join-r p e q = let f = p .diff in let g = q .diff in diff-≡ (omega arith)
-
 pub diff-scale-r : (w : ℕ) {x : ℤ} {a b : ℕ} → Diff x a b → Diff (x *ℤ pos w) (a * w) (b * w)
 diff-scale-r w {x} {a} {b} d =
     subst (λ (z : ℤ). Diff z (a * w) (b * w)) (*ℤ-comm (pos w) x)

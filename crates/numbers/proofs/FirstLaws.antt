@@ -7,7 +7,7 @@ use native.Mathlib.Nat.{le-of-suc-le-suc, not-suc-le-zero}
 use borrow.Author.Count.{below-more, below-none}
 use lib.Dec.{leb}
 use native.Mathlib.Decide.{decLt}
-use borrow.Author.Tests.{leb-true, ltb-true, not-false, lt-ltb, le-ltb, lt-leb, le-leb}
+use borrow.Author.Tests.{leb-true, ltb-true, not-false, lt-ltb, le-ltb, le-leb}
 use Rattle.numbers.proofs.Bools.{and-left, and-right, both, same-test, true-false}
 use Rattle.numbers.specs.First.{first, every, some}
 
@@ -101,12 +101,6 @@ module _ (p : ℕ → Bool) (n i : ℕ) where
 
   pub passed-some : Passed p n i → n ≤ i → false ≡ some p n
   passed-some a l = sym (le-ltb _ _ (subst (λ (m : ℕ). n ≤ m) (passed-end p n i a l) l))
-
-  pub found-every : Passed (λ k. not (p k)) n i → i < n → not (p i) ≡ true → false ≡ every p n
-  found-every a l t = sym (lt-leb _ _ (subst (λ (m : ℕ). m < n) (passed-found (λ k. not (p k)) n i a l t) l))
-
-  pub passed-every : Passed (λ k. not (p k)) n i → n ≤ i → true ≡ every p n
-  passed-every a l = sym (le-leb _ _ (subst (λ (m : ℕ). n ≤ m) (passed-end (λ k. not (p k)) n i a l) l))
 
 pub all-every : (p : ℕ → Bool) (n : ℕ) → ((k : ℕ) → k < n → p k ≡ true) → every p n ≡ true
 all-every p n h =

@@ -1,3 +1,4 @@
+-- The laws of rounding, of signed numbers as unsigned ones, and of the first index at which a test holds.
 pub mod Bools
 pub mod Nearest
 pub mod RoundZ
@@ -5,3 +6,5 @@ pub mod Diff
 pub mod Machine
 pub mod FirstLaws
 pub mod OrderLaws
+pub mod Lists
+pub mod KeptLaws

@@ -4,15 +4,15 @@ use mathlib.Core.Path.{_≡_, sym, ap, _∙_, subst}
 use mathlib.Core.Logic.{⊎-elim}
 use native.Mathlib.Omega.{arith}
 use lib.IntN.{ℤ, pos, _-ℤ_, natAbs}
-use mathlib.Core.Bool.{Bool, true, false, not}
+use mathlib.Core.Bool.{true}
 use native.Mathlib.Nat.{one-mul}
 use lib.Dec.{T, lit<}
 use lib.Pow.{shl-exact}
-use lib.Signed.{ltZ, ltZ-yes, ltZ-no}
+use lib.Signed.{ltZ, ltZ-yes}
 use mir.Syntax.{Width}
 use mir.Val.{SFits, toZ, ofZ, hbits}
 use mir.ValLaws.{toZ-ofZ}
-use Rattle.numbers.proofs.Diff.{up, dn, Diff, up-or-dn, up-mag, diff-≡, diff-of, diff--, diff-pos, less-of, natAbs-diff, up-pos, dn-pos, <-diff, ≤-diff}
+use Rattle.numbers.proofs.Diff.{up, dn, Diff, up-or-dn, up-mag, diff-≡, diff-of, diff--, diff-pos, less-of, natAbs-diff, up-pos, dn-pos, <-diff}
 use Rattle.numbers.proofs.OrderLaws.{raised-is}
 use Rattle.numbers.specs.Order.{raised}
 
@@ -42,12 +42,6 @@ below-zero v e =
     let h = <-diff (ltZ-yes {a = v} {b = pos 0} (subst T (sym e) tt)) in
     let u = up-pos 0 in let d = dn-pos 0 in
     ⊎-elim (λ p. (omega arith, omega arith)) (λ p. absurd (omega arith)) (up-or-dn v)
-
-pub not-below-zero : (v : ℤ) → ltZ v (pos 0) ≡ false → dn v ≡ 0
-not-below-zero v e =
-    let h = ≤-diff (ltZ-no {a = v} {b = pos 0} (subst (λ (t : Bool). T (not t)) (sym e) tt)) in
-    let u = up-pos 0 in let d = dn-pos 0 in
-    ⊎-elim (λ p. omega arith) (λ p. p) (up-or-dn v)
 
 -- a number and the same raised
 pub diff-raised : (m : ℕ) (z : ℤ) → natAbs z ≤ m → Diff z (raised m z) m

@@ -106,28 +106,6 @@ round-half-step z d h =
         let u1 = up-negsuc n in let v1 = dn-negsuc n in
         rw (u, v) (omega arith)
 
--- ---- a product, by the signs
-
-pub product-pos-pos : (v f : ℤ) (d : ℕ) → dn v ≡ 0 → dn f ≡ 0 → roundZ (v *ℤ f) d ≡ pos (nearest (natAbs v * natAbs f) d)
-product-pos-pos (pos m) (pos n) d h k = round-pos (m * n) d
-product-pos-pos (pos m) (negsuc n) d h k = absurd (omega (arith, dn-negsuc n))
-product-pos-pos (negsuc m) f d h k = absurd (omega (arith, dn-negsuc m))
-
-pub product-neg-neg : (v f : ℤ) (d : ℕ) → 0 < dn v → 0 < dn f → roundZ (v *ℤ f) d ≡ pos (nearest (natAbs v * natAbs f) d)
-product-neg-neg (negsuc m) (negsuc n) d h k = round-pos (suc m * suc n) d
-product-neg-neg (negsuc m) (pos n) d h k = absurd (omega (arith, dn-pos n))
-product-neg-neg (pos m) f d h k = absurd (omega (arith, dn-pos m))
-
-pub product-pos-neg : (v f : ℤ) (d : ℕ) → dn v ≡ 0 → 0 < dn f → roundZ (v *ℤ f) d ≡ negℤ (pos (nearest (natAbs v * natAbs f) d))
-product-pos-neg (pos m) (negsuc n) d h k = round-negpos (m * suc n) d
-product-pos-neg (pos m) (pos n) d h k = absurd (omega (arith, dn-pos n))
-product-pos-neg (negsuc m) f d h k = absurd (omega (arith, dn-negsuc m))
-
-pub product-neg-pos : (v f : ℤ) (d : ℕ) → 0 < dn v → dn f ≡ 0 → roundZ (v *ℤ f) d ≡ negℤ (pos (nearest (natAbs v * natAbs f) d))
-product-neg-pos (negsuc m) (pos n) d h k = round-negpos (suc m * n) d
-product-neg-pos (negsuc m) (negsuc n) d h k = absurd (omega (arith, dn-negsuc n))
-product-neg-pos (pos m) f d h k = absurd (omega (arith, dn-pos m))
-
 -- the size of a rounded number is its rounded size
 pub round-size : (z : ℤ) (d : ℕ) → natAbs (roundZ z d) ≡ nearest (natAbs z) d
 unfolding roundZ

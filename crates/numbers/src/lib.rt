@@ -1,6 +1,6 @@
 // Rounding to the nearest whole number, ties to even, and signed numbers as unsigned ones.
 ghost use mathlib.Core.Path.{_≡_};
-ghost use Prim.Native.Nat.{_+_, _*_, _≤_, _<_, _^_};
+ghost use Prim.Native.Nat.{_+_, _*_, _≤_, _<_, _^_, max, min};
 ghost use lib.IntN.{natAbs, pos, _+ℤ_};
 ghost use lib.Signed.{ltZ};
 ghost use Rattle.numbers.specs.Round.{gain, nearest};
@@ -91,4 +91,18 @@ pub fn lowered(a: u64, b: u64) -> i64
     ensures { λ r. ⌜ r +ℤ pos b ≡ pos a ⌝ }
 {
     a as i64 - b as i64
+}
+
+// The greater of two numbers.
+pub fn larger(a: u64, b: u64) -> u64
+    ensures { λ r. ⌜ r ≡ max a b ⌝ }
+{
+    if a < b { b } else { a }
+}
+
+// The lesser of two numbers.
+pub fn smaller(a: u64, b: u64) -> u64
+    ensures { λ r. ⌜ r ≡ min a b ⌝ }
+{
+    if a < b { a } else { b }
 }

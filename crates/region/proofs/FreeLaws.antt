@@ -10,7 +10,8 @@ use lib.Dec.{ltb}
 use Rattle.numbers.specs.First.{some}
 use Rattle.numbers.proofs.FirstLaws.{some-by, by-some}
 use Rattle.numbers.proofs.Bools.{and-left, and-right, both, true-false, untrue}
-use Rattle.choice.specs.Rect.{at, eastOf, northOf, holds, size}
+use Rattle.numbers.specs.Lists.{at}
+use Rattle.choice.specs.Rect.{eastOf, northOf, holds, size}
 use Rattle.choice.proofs.RectLaws.{Holds, holds-true, true-holds}
 use Rattle.region.specs.Free.{stands, free, NextBlocker}
 

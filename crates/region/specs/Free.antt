@@ -5,7 +5,8 @@ use mathlib.Core.List.{List}
 use Prim.Native.Nat.{ℕ, _≤_, _<_}
 use lib.Dec.{ltb}
 use Rattle.numbers.specs.First.{some}
-use Rattle.choice.specs.Rect.{at, holds, size}
+use Rattle.numbers.specs.Lists.{at}
+use Rattle.choice.specs.Rect.{holds, size}
 use Rattle.region.specs.declared.Row.{Row}
 use Rattle.region.specs.declared.Row.the-variants.{Open, Shut}
 

@@ -1,2 +1,3 @@
+-- What the contracts of `region` cite.
 pub mod First
 pub mod Free

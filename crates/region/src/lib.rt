@@ -2,8 +2,9 @@
 // west, east, south, north, sides included; each has a key in a list of its own, and is a blocker below t if its key is below t.
 use choice::holds;
 use choice::size_of;
+use numbers::smaller;
 ghost use mathlib.Core.Path.{_≡_};
-ghost use Prim.Native.Nat.{_<_, _≤_, max, min};
+ghost use Prim.Native.Nat.{_<_, _≤_};
 ghost use Rattle.choice.specs.Rect.{size};
 ghost use Rattle.region.specs.First.{earlier, firstIn};
 ghost use Rattle.region.specs.Free.{NextBlocker, RowAnswer, free, stands};
@@ -26,20 +27,6 @@ pub struct Area {
 enum Row {
     Open(u64),
     Shut(u64),
-}
-
-// The greater of two numbers.
-pub fn larger(a: u64, b: u64) -> u64
-    ensures { λ r. ⌜ r ≡ max a b ⌝ }
-{
-    if a < b { b } else { a }
-}
-
-// The lesser of two numbers.
-pub fn smaller(a: u64, b: u64) -> u64
-    ensures { λ r. ⌜ r ≡ min a b ⌝ }
-{
-    if a < b { a } else { b }
 }
 
 // Whether rectangle i is a blocker below t and holds (x, y).

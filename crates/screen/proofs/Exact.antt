@@ -14,6 +14,7 @@ use lib.Ieee.Back.{round-whole, whole-unique}
 use lib.Ieee.Fits.{up-pos, down-pos, mul-fits}
 use lib.Ieee.Scale.{round-same}
 use borrow.Author.Tests.{ne-eqb}
+use Rattle.group.specs.Numbers.{quantumMost}
 use Rattle.screen.specs.Screen.{plusZero, negPower, shiftOf}
 use Rattle.screen.specs.Shown.{below, Times}
 
@@ -88,9 +89,9 @@ pub like : (s : Bool) → unlike s false ≡ s
 like true = refl
 like false = refl
 
--- The shift of a whole result n has n's sign and the exact size |n| / 2^q, for every size up to 2^53. A lookup's results are far below: a node
--- of at most 4,000,000 steps times a factor of at most 80,000,000 millionths is at most 320,000,000 steps.
-pub shift-exact : (n : ℤ) (q : ℕ) → natAbs n ≤ 2 ^ 53 → q ≤ 20 → Times (shiftOf q n) (2 ^ q) n
+-- The shift of a whole result n has n's sign and the exact size |n| / 2^q, for every size up to 2^53. A lookup's results are far below: they
+-- are at most resultMost.
+pub shift-exact : (n : ℤ) (q : ℕ) → natAbs n ≤ 2 ^ 53 → q ≤ quantumMost → Times (shiftOf q n) (2 ^ q) n
 unfolding shiftOf
 shift-exact n q h k =
     subst (λ (x : Float). HasValue x (below n) (natAbs n) (2 ^ q))
@@ -108,7 +109,7 @@ zero-over (fin s m e) c h v =
     (v .0, mul-one (m * up e) ∙ eq-of-mul-eq-mul-right c h (m * up e) 0 (v .1 ∙ zero-mul (down e) ∙ sym (zero-mul c)) ∙ sym (zero-mul (down e)))
 
 -- a result 0, as a lookup has it for a missing parameter, shows +0 by itself
-pub shift-zero : (q : ℕ) → q ≤ 20 → shiftOf q (pos 0) ≡ plusZero
+pub shift-zero : (q : ℕ) → q ≤ quantumMost → shiftOf q (pos 0) ≡ plusZero
 unfolding shiftOf fits
 shift-zero q k =
     whole-unique binary64 (shiftOf q (pos 0)) plusZero false 0 (mul-fits binary64 (ofInt binary64 (pos 0)) (negPower q)) tt

@@ -8,7 +8,7 @@ use Rattle.fix.specs.declared.Lookup.{Lookup}
 use Rattle.fix.specs.declared.Lookup.the-variants as L
 use Rattle.screen.specs.declared.ScreenAnswer.{ScreenAnswer}
 use Rattle.screen.specs.declared.ScreenAnswer.the-variants.{Fix, Refused}
-use Rattle.screen.specs.Screen.{admitted, handedOn, shown, answerOf}
+use Rattle.screen.specs.Screen.{admitted, shown, answerOf}
 
 abbrev pub InTable : ScreenAnswer → Type 0
 InTable (Fix a b c) = Unit {0}

@@ -7,6 +7,7 @@ use lib.IntN.{ℤ, pos}
 use lib.Ieee.{Float, fin, binary64, ofInt, mul, div}
 use Rattle.group.specs.declared.Point.{Point}
 use Rattle.group.specs.declared.Refusal.{Refusal}
+use Rattle.group.specs.Numbers.{masInDegree, quantumMost, parametersMost}
 use Rattle.group.specs.Refusals.{refusal, noRefusal, inTable}
 use Rattle.fix.specs.declared.Lookup.{Lookup}
 use Rattle.fix.specs.declared.Lookup.the-variants as lookup
@@ -31,11 +32,11 @@ shownShift q np p n = cond (ltb p np) (shiftOf q n) plusZero
 
 -- milliarcseconds as degrees, by one float division
 unfoldable pub degreesOf : ℤ → Float
-degreesOf mas = div binary64 (ofInt binary64 mas) (ofInt binary64 (pos 3600000))
+degreesOf mas = div binary64 (ofInt binary64 mas) (ofInt binary64 (pos masInDegree))
 
 -- the limits of Q and NP
 abbrev pub admitted : ℕ → ℕ → Bool
-admitted q np = leb q 20 && (leb 1 np && leb np 3)
+admitted q np = leb q quantumMost && (leb 1 np && leb np parametersMost)
 
 -- a lookup's refusal, handed on with its place; a number outside the table is itself outside its limit: 2 with place 0
 abbrev pub handedOn : Refusal → Refusal

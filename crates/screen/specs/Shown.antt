@@ -7,6 +7,7 @@ use lib.ListN.{getD}
 use lib.Ieee.{Float, binary64, round}
 use lib.Ieee.Exact.{HasValue}
 use Rattle.group.specs.declared.Point.{Point}
+use Rattle.group.specs.Numbers.{masInDegree}
 use Rattle.group.specs.Refusals.{noRefusal}
 use Rattle.screen.specs.declared.ScreenAnswer.{ScreenAnswer}
 use Rattle.screen.specs.declared.ScreenRecord.{ScreenRecord}
@@ -39,8 +40,8 @@ pub record ShowsResults (results : ℕ → ℤ) (q np : ℕ) (s : ScreenAnswer) 
 
 -- d shows a point in degrees, for every longitude and latitude of size at most 2^53, all admitted ones among them, beside the shifts of s
 pub record ShowsPoint (point : Point) (s : ScreenAnswer) (d : ScreenRecord) : Type 0 where
-  pub longitude : natAbs (point .lon .0) ≤ 2 ^ 53 → d .longitude ≡ nearestTo (point .lon .0) 3600000
-  pub latitude : natAbs (point .lat .0) ≤ 2 ^ 53 → d .latitude ≡ nearestTo (point .lat .0) 3600000
+  pub longitude : natAbs (point .lon .0) ≤ 2 ^ 53 → d .longitude ≡ nearestTo (point .lon .0) masInDegree
+  pub latitude : natAbs (point .lat .0) ≤ 2 ^ 53 → d .latitude ≡ nearestTo (point .lat .0) masInDegree
   pub first : d .first ≡ shiftAt s 0
   pub second : d .second ≡ shiftAt s 1
   pub third : d .third ≡ shiftAt s 2

@@ -1,7 +1,11 @@
 // What the screen shows of a lookup's answer: document 01, 'Loading and showing'.
 ghost use mathlib.Core.Path.{_≡_};
 ghost use Prim.Native.Nat.{_≤_};
+ghost use Rattle.group.specs.Numbers.{quantumMost};
 ghost use Rattle.screen.specs.Screen.{admitted, negPower, shiftOf, shownShift, degreesOf, handedOn, answerOf, recordOf};
+
+// Milliarcseconds in a degree.
+const DEGREE: f64 = group::MAS_IN_DEGREE as f64;
 
 // What the screen answers: three shifts in the group's unit, or the refusal.
 pub enum ScreenAnswer {
@@ -22,12 +26,12 @@ pub struct ScreenRecord {
 fn admits(quantum: u64, parameters: u64) -> bool
     ensures { λ r. ⌜ r ≡ admitted quantum parameters ⌝ }
 {
-    (quantum <= 20) & ((1 <= parameters) & (parameters <= 3))
+    (quantum <= group::QUANTUM_MOST) & ((1 <= parameters) & (parameters <= group::PARAMETERS_MOST))
 }
 
 // 2 to the power -q.
 fn power(q: u64) -> f64
-    requires { ⌜ q ≤ 20 ⌝ }
+    requires { ⌜ q ≤ quantumMost ⌝ }
     ensures { λ r. ⌜ r ≡ negPower q ⌝ }
 {
     1.0 / ((1u64 << q) as f64)
@@ -35,7 +39,7 @@ fn power(q: u64) -> f64
 
 // A whole result, in steps of 2^-q, as a float in the unit.
 fn shift(steps: i64, q: u64) -> f64
-    requires { ⌜ q ≤ 20 ⌝ }
+    requires { ⌜ q ≤ quantumMost ⌝ }
     ensures { λ r. ⌜ r ≡ shiftOf q steps ⌝ }
 {
     std::num::nearest_i64_to_f64(steps) * power(q)
@@ -43,7 +47,7 @@ fn shift(steps: i64, q: u64) -> f64
 
 // The shift of parameter p, from 0, and +0 if there are no more than p.
 fn shown_shift(parameters: u64, p: u64, steps: i64, q: u64) -> f64
-    requires { ⌜ q ≤ 20 ⌝ }
+    requires { ⌜ q ≤ quantumMost ⌝ }
     ensures { λ r. ⌜ r ≡ shownShift q parameters p steps ⌝ }
 {
     if p < parameters { shift(steps, q) } else { 0.0 }
@@ -53,7 +57,7 @@ fn shown_shift(parameters: u64, p: u64, steps: i64, q: u64) -> f64
 fn degrees(mas: i64) -> f64
     ensures { λ r. ⌜ r ≡ degreesOf mas ⌝ }
 {
-    std::num::nearest_i64_to_f64(mas) / 3600000.0
+    std::num::nearest_i64_to_f64(mas) / DEGREE
 }
 
 // A lookup's refusal as the screen hands it on; a number outside the table of refusals is refused by 2 with place 0.
@@ -70,8 +74,8 @@ fn handed_on(r: group::Refusal) -> group::Refusal
 }
 
 // The shifts of a fix in the unit, each the whole result times 2 to the power -quantum, +0 for a parameter that the group doesn't have; or
-// the lookup's refusal with its place. A quantum above 20, parameters other than 1 to 3, or a refusal's number outside 1 to 13 are refused by
-// 2 with place 0.
+// the lookup's refusal with its place. A quantum above QUANTUM_MOST, parameters other than 1 to PARAMETERS_MOST, or a
+// refusal's number outside the table are refused by 2 with place 0.
 pub fn screen_answer(found: fix::Lookup, quantum: u64, parameters: u64) -> ScreenAnswer
     ensures { λ r. ⌜ r ≡ answerOf found quantum parameters ⌝ }
 {

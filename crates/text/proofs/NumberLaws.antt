@@ -91,8 +91,8 @@ pub value-le : (o : Option ℕ) (m : ℕ) → naturalOf o ≡ Value m → m ≤ 
 value-le none m e = let q : _≡_ {A = ℕ} 0 1 = cc in absurd (omega arith)
 value-le (some n) m e = let q : min n most ≡ m = cc in omega arith
 
-neg-min : (n : ℕ) → negℤ (pos (min (suc n) most)) ≡ negsuc (min n 999999999999999999)
-neg-min n = let e : min (suc n) most ≡ suc (min n 999999999999999999) = omega arith in rw e
+neg-min : (n : ℕ) → negℤ (pos (min (suc n) most)) ≡ negsuc (min n (most - 1))
+neg-min n = let e : min (suc n) most ≡ suc (min n (most - 1)) = omega arith in rw e
 
 pub below-some : (o : Option ℕ) (m : ℕ) → naturalOf o ≡ Value m → (m ≡ 0 → ⊥) → numberOf (below o) ≡ Whole (negℤ (pos m))
 below-some none m e z = let q : _≡_ {A = ℕ} 0 1 = cc in absurd (omega arith)

@@ -1,5 +1,5 @@
 -- What the functions that read a number answer.
-use Prim.Native.Nat.{ℕ, min}
+use Prim.Native.Nat.{ℕ, _-_, min}
 use mathlib.Core.Option.{Option, none, some}
 use lib.IntN.{ℤ, pos, negsuc}
 use Rattle.text.specs.declared.Number.{Number}
@@ -18,7 +18,7 @@ naturalOf (some n) = Value (min n most)
 -- the number, or most or −most where it is beyond them
 abbrev pub clamp : ℤ → ℤ
 clamp (pos n) = pos (min n most)
-clamp (negsuc n) = negsuc (min n 999999999999999999)
+clamp (negsuc n) = negsuc (min n (most - 1))
 
 abbrev pub numberOf : Option ℤ → Number
 numberOf none = Malformed

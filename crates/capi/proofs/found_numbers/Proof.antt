@@ -1,7 +1,6 @@
 -- `found_numbers` meets its contract.
 use mathlib.Core.Path.{refl, sym, ap, _∙_}
 use mathlib.Core.List.{[], _∷_}
-use lib.IntN.{pos}
 use Rattle.layout.proofs.NumberLaws.{told}
 use Rattle.capi.specs.Answers.{storedFound}
 use borrow.Author.Needs.{needs}

@@ -4,6 +4,7 @@ use lib.IntN.{pos}
 use lib.ListN.{replicate}
 use mathlib.Core.List.{[], _∷_}
 use Rattle.layout.proofs.NumberLaws.{told}
+use Rattle.capi.specs.InForce.{listWords}
 use Rattle.capi.proofs.AnswerLaws.{list-stored}
 use borrow.Author.Needs.{needs}
 use Rattle.capi.proofs.list_numbers.Statement.{statement}
@@ -31,7 +32,7 @@ returns : tie.Need-returns
 returns c =
     let r = c .before .before .before .before .before .before .before .before .before .args .list in
     let count = told (c .before .before .before .before .before .before .before .as-stored .ok) (c .before .before .before .before .before .before .before .as-stored .ensures) in
-    list-stored r (replicate 193 (pos 0)) _ _ _ refl (λ i. count i ∷ []) (c .before .before .before .before .put-numbers .ensures) (c .before .put-entries .ensures)
+    list-stored r (replicate listWords (pos 0)) _ _ _ refl (λ i. count i ∷ []) (c .before .before .before .before .put-numbers .ensures) (c .before .put-entries .ensures)
 
 pub list-numbers-spec : {M : Type 1} → statement M
 list-numbers-spec =

@@ -5,21 +5,22 @@ use mathlib.Core.List.{[], _∷_}
 use borrow.Author.Needs.{needs}
 use native.Mathlib.Omega.{arith}
 use lib.ListN.{getD}
+use Rattle.group.specs.Numbers.{gridsMost}
 use Rattle.inforce.specs.InForce.{noGrid}
 use Rattle.layout.proofs.ListLaws.{Run, run-none, run-length, run-more, run-all}
 use Rattle.layout.proofs.NumberLaws.{told}
-use Rattle.capi.specs.InForce.{storedEntry}
+use Rattle.capi.specs.InForce.{entriesFrom, entryWords, storedEntry}
 use Rattle.capi.proofs.put_entries.Statement.{statement}
 use Rattle.capi.proofs.put_entries.Tie as tie
 
 abbrev Inv-loop : tie.InvT-loop
-Inv-loop out₀ entries i₀ out i = Run (λ k. storedEntry (getD entries k noGrid)) 64 out₀ 1 i out
+Inv-loop out₀ entries i₀ out i = Run (λ k. storedEntry (getD entries k noGrid)) gridsMost out₀ entriesFrom i out
 
 abbrev μ-loop : tie.MeasureT-loop
-μ-loop out₀ entries i₀ out i = 64 - i
+μ-loop out₀ entries i₀ out i = gridsMost - i
 
 loop-holds : tie.Need-loop-holds Inv-loop μ-loop
-loop-holds c = run-none _ 64 _ 1
+loop-holds c = run-none _ gridsMost _ entriesFrom
 
 mul-e : tie.Need-mul-e Inv-loop μ-loop
 mul-e c = search needs
@@ -41,7 +42,7 @@ slice-aggregate-put-numbers c = search needs
 
 put-numbers-requires : tie.Need-put-numbers-requires Inv-loop μ-loop
 put-numbers-requires c κs =
-    let e = run-length _ 64 _ 1 _ _ (c .before .before .before .before .before .before .loop .inv) in
+    let e = run-length _ gridsMost _ entriesFrom _ _ (c .before .before .before .before .before .before .loop .inv) in
     omega (arith, c .before .before .before .before .before .before .before .pre)
 
 add-i : tie.Need-add-i Inv-loop μ-loop
@@ -56,14 +57,14 @@ loop-again c =
     let grid = told (c .before .before .before .before .before .as-stored .ok) (c .before .before .before .before .before .as-stored .ensures) in
     let lon = told (t .1 .0 .1 .1 .0 .1) refl in
     let lat = told (t .1 .1 .0 .1 .1 .0 .1) refl in
-    run-more _ 3 64 _ 1 _ _ _ _ (λ k. refl) (c .before .before .before .before .before .before .before .before .loop .inv) (c .before .before .before .before .before .before .before .loop-test .taken) (c .before .put-numbers .ensures)
+    run-more _ entryWords gridsMost _ entriesFrom _ _ _ _ (λ k. refl) (c .before .before .before .before .before .before .before .before .loop .inv) (c .before .before .before .before .before .before .before .loop-test .taken) (c .before .put-numbers .ensures)
     (λ i. grid i ∷ lon i ∷ lat i ∷ [])
 
 same-length : tie.Need-same-length Inv-loop μ-loop
-same-length c = run-length _ 64 _ 1 _ _ (c .before .loop .inv)
+same-length c = run-length _ gridsMost _ entriesFrom _ _ (c .before .loop .inv)
 
 returns : tie.Need-returns Inv-loop μ-loop
-returns c = run-all _ 64 _ 1 _ _ (c .before .loop .inv) (c .loop-test .left)
+returns c = run-all _ gridsMost _ entriesFrom _ _ (c .before .loop .inv) (c .loop-test .left)
 
 pub put-entries-spec : {M : Type 1} → statement M
 put-entries-spec =

@@ -13,15 +13,26 @@ use mir.ValLaws.{toZ-ofZ}
 use Rattle.numbers.proofs.Bools.{or-cases, or-left, or-right, untrue, true-false}
 use Rattle.numbers.proofs.Diff.{Diff, diff-self, diff-as, diff-of, of-diff, mag-up, natAbs-diff, up-or-dn}
 use Rattle.numbers.proofs.Machine.{diff-fits}
-use Rattle.cell.specs.Unsigned.{Shifted}
+use Rattle.group.specs.Numbers.{valueMost}
+use Rattle.cell.specs.Unsigned.{valueShift}
 use Rattle.cell.proofs.shifted.Statement.{statement}
 use Rattle.cell.proofs.shifted.Tie as tie
+
+-- what every 32-bit number is lifted by, and the least and the greatest node value then
+abbrev half : ℕ
+half = 2147483648
+
+abbrev least : ℕ
+least = half - valueShift
+
+abbrev most : ℕ
+most = half + valueShift
 
 -- an i32 fits an i64
 wide : (v : ℤ) → SFits w32 v → SFits w64 v
 wide v h = let m = mag-up v (h .sfits) in diff-fits w64 (diff-self v) (omega arith) (omega arith)
 
-small : (v : ℤ) → SFits w32 v → natAbs v ≤ 2147483648
+small : (v : ℤ) → SFits w32 v → natAbs v ≤ half
 small v h =
     let m = mag-up v (h .sfits) in let n = natAbs-diff v in
     ⊎-elim (λ e. omega arith) (λ e. omega arith) (up-or-dn v)
@@ -31,31 +42,31 @@ same : (v : ℤ) → SFits w32 v → toZ w64 (ofZ w64 (toZ w32 (ofZ w32 v))) ≡
 same v h = toZ-ofZ w64 _ (subst (SFits w64) (sym (toZ-ofZ w32 v h)) (wide v h)) ∙ toZ-ofZ w32 v h
 
 -- what a node value's number is
-inner : (v : ℤ) (r : ℕ) → Diff v r 2147483648 → natAbs v ≤ 4000000 → (2143483648 ≤ r) × (r ≤ 2151483648)
+inner : (v : ℤ) (r : ℕ) → Diff v r half → natAbs v ≤ valueMost → (least ≤ r) × (r ≤ most)
 inner v r d h = let e = d .diff in let n = natAbs-diff v in (omega arith, omega arith)
 
 cast-lifted : tie.Need-cast-lifted
 cast-lifted c = subst (SFits w64) (sym (toZ-ofZ w32 (c .args .v) (c .fits .v))) (wide (c .args .v) (c .fits .v))
 
 lifted-requires : tie.Need-lifted-requires
-lifted-requires c κs = (subst (λ (z : ℤ). natAbs z ≤ 2147483648) (sym (same (c .args .v) (c .fits .v))) (small (c .args .v) (c .fits .v)), omega arith)
+lifted-requires c κs = (subst (λ (z : ℤ). natAbs z ≤ half) (sym (same (c .args .v) (c .fits .v))) (small (c .args .v) (c .fits .v)), omega arith)
 
-told : (c : tie.After-lifted) → Diff (c .before .args .v) (c .lifted .result) 2147483648
+told : (c : tie.After-lifted) → Diff (c .before .args .v) (c .lifted .result) half
 told c =
     let v = c .before .args .v in
-    diff-of v (c .lifted .result) 2147483648
-    (subst (λ (z : ℤ). z +ℤ pos 2147483648 ≡ pos (c .lifted .result)) (same v (c .before .fits .v)) (c .lifted .ensures))
+    diff-of v (c .lifted .result) half
+    (subst (λ (z : ℤ). z +ℤ pos half ≡ pos (c .lifted .result)) (same v (c .before .fits .v)) (c .lifted .ensures))
 
 -- the test of the code
-test-off : (r : ℕ) → (ltb r 2143483648 || ltb 2151483648 r) ≡ true → (r < 2143483648) ⊎ (2151483648 < r)
+test-off : (r : ℕ) → (ltb r least || ltb most r) ≡ true → (r < least) ⊎ (most < r)
 test-off r e =
-    ⊎-elim (λ a. inl (ltb-true r 2143483648 a)) (λ a. inr (ltb-true 2151483648 r a))
-    (or-cases (ltb r 2143483648) (ltb 2151483648 r) e)
+    ⊎-elim (λ a. inl (ltb-true r least a)) (λ a. inr (ltb-true most r a))
+    (or-cases (ltb r least) (ltb most r) e)
 
-test-in : (r : ℕ) → (ltb r 2143483648 || ltb 2151483648 r) ≡ false → (2143483648 ≤ r) × (r ≤ 2151483648)
+test-in : (r : ℕ) → (ltb r least || ltb most r) ≡ false → (least ≤ r) × (r ≤ most)
 test-in r e = (
-  ltb-false r 2143483648 (untrue (ltb r 2143483648) (λ a. true-false (or-left (ltb 2151483648 r) a) e)),
-  ltb-false 2151483648 r (untrue (ltb 2151483648 r) (λ a. true-false (or-right (ltb r 2143483648) a) e)),
+  ltb-false r least (untrue (ltb r least) (λ a. true-false (or-left (ltb most r) a) e)),
+  ltb-false most r (untrue (ltb most r) (λ a. true-false (or-right (ltb r least) a) e)),
 )
 
 returns : tie.Need-returns
@@ -77,7 +88,7 @@ returns-2 c =
     let r = c .before .lifted .result in let t = test-in r (c .if1 .left) in let v = c .before .before .args .v in
     record {
       small = omega arith;
-      inside = λ _. of-diff v (r - 2143483648) 4000000 (diff-as (told (c .before)) (omega arith));
+      inside = λ _. of-diff v (r - least) valueShift (diff-as (told (c .before)) (omega arith));
     }
 
 pub shifted-spec : {M : Type 1} → statement M

@@ -9,7 +9,7 @@ use mir.Val.{SFits, toZ, ofZ}
 use mir.ValLaws.{toZ-ofZ}
 use Rattle.numbers.proofs.Diff.{diff-of, diff-join}
 use Rattle.numbers.proofs.Machine.{passed}
-use Rattle.cell.specs.Unsigned.{Shifted}
+use Rattle.cell.specs.Unsigned.{valueShift, Shifted}
 use Rattle.cell.proofs.ValueLaws.{none-beyond, value-from, blend-most}
 use Rattle.cell.proofs.value_at.Statement.{statement}
 use Rattle.cell.proofs.value_at.Tie as tie
@@ -68,7 +68,7 @@ returns : tie.Need-returns
 returns c =
     let t = c .before .before in let s = entry t in let r = c .lowered .result in
     toZ-ofZ w64 r (record { sfits = c .lowered .ok })
-    ∙ diff-join (diff-of r (c .before .blend .result) 4000000 (c .lowered .ensures)) (c .before .blend .ensures)
+    ∙ diff-join (diff-of r (c .before .blend .result) valueShift (c .lowered .ensures)) (c .before .blend .ensures)
     (value-from (s .pre .0) (s .args .v) _ _ _ _ (none-beyond (s .args .w) (s .args .v) (s .pre .1)) (s00 t) (s10 t) (s01 t) (s11 t))
 
 pub value-at-spec : {M : Type 1} → statement M

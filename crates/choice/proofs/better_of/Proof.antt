@@ -1,7 +1,8 @@
 -- `choice::better_of` meets its contract.
 use mathlib.Core.Path.{_∙_, sym}
 use borrow.Author.Tests.{not-true, not-false}
-use Rattle.choice.specs.Rect.{at, holds}
+use Rattle.numbers.specs.Lists.{at}
+use Rattle.choice.specs.Rect.{holds}
 use Rattle.choice.proofs.Turn.{grid-out, grid-first, grid-better, grid-worse}
 use borrow.Author.Needs.{needs}
 use Rattle.choice.proofs.better_of.Statement.{statement}

@@ -2,7 +2,8 @@
 use Prim.Native.Nat.{_≤_, _-_}
 use mathlib.Core.Path.{_≡_, refl}
 use native.Mathlib.Omega.{arith}
-use Rattle.choice.specs.Rect.{at, holds, size}
+use Rattle.numbers.specs.Lists.{at}
+use Rattle.choice.specs.Rect.{holds, size}
 use Rattle.choice.specs.Choice.{chosen}
 use Rattle.choice.proofs.ChoiceLaws.{chosen≤}
 use Rattle.choice.proofs.Turn.{chosen-more}

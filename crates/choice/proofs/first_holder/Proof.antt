@@ -3,7 +3,8 @@ use Prim.Native.Nat.{_-_}
 use mathlib.Core.Path.{sym, _∙_}
 use native.Mathlib.Omega.{arith}
 use Rattle.numbers.proofs.FirstLaws.{Passed, passed-none, passed-more, passed-end, passed-found}
-use Rattle.choice.specs.Rect.{at, holds}
+use Rattle.numbers.specs.Lists.{at}
+use Rattle.choice.specs.Rect.{holds}
 use Rattle.choice.proofs.HolderLaws.{holder-at, holder-none}
 use Rattle.choice.proofs.first_holder.Statement.{statement}
 use Rattle.choice.proofs.first_holder.Tie as tie

@@ -8,7 +8,7 @@ use lib.IntN.{ℤ}
 use mir.Syntax.{w64}
 use mir.Val.{toZ}
 use mir.ValLaws.{toZ-ofZ}
-use Rattle.numbers.specs.Order.{within}
+use Rattle.group.specs.Numbers.{dayFits, rampFactorMost}
 use Rattle.numbers.proofs.Diff.{Diff, diff-of, diff-one, diff-pos}
 use Rattle.group.specs.declared.Ramp.{Ramp}
 use Rattle.group.specs.Record.{noRamp}
@@ -19,7 +19,7 @@ use Rattle.day.proofs.day_factor.Tie as tie
 
 abbrev Inv-loop : tie.InvT-loop
 Inv-loop n day ramps sum₀ shift₀ i₀ sum shift i =
-    (i ≤ n) × (shift ≡ 10000000 * i) × (sum ≤ 20000000 * i)
+    (i ≤ n) × (shift ≡ rampFactorMost * i) × (sum ≤ 2 * rampFactorMost * i)
     × Diff (sumOf (λ k. rampFactor (getD ramps k noRamp) (toZ w64 day)) i) sum shift
 
 abbrev μ-loop : tie.MeasureT-loop
@@ -42,7 +42,7 @@ ramp-factor-requires : tie.Need-ramp-factor-requires Inv-loop μ-loop
 ramp-factor-requires c κs =
     let s = c .before .before .before .before in (
       s .pre .1 (c .before .before .loop .i) (omega arith),
-      ap (within 1000000) (toZ-ofZ w64 (s .args .day) (s .fits .day)) ∙ s .pre .2,
+      ap dayFits (toZ-ofZ w64 (s .args .day) (s .fits .day)) ∙ s .pre .2,
     )
 
 add-sum : tie.Need-add-sum Inv-loop μ-loop
@@ -60,7 +60,7 @@ loop-less c = omega arith
 loop-again : tie.Need-loop-again Inv-loop μ-loop
 loop-again c =
     let l = c .before .before .before .loop in
-    (omega arith, omega arith, omega arith, sum-more _ (l .i) (l .inv .3) (diff-of _ _ 10000000 (c .ramp-factor .ensures .0)))
+    (omega arith, omega arith, omega arith, sum-more _ (l .i) (l .inv .3) (diff-of _ _ rampFactorMost (c .ramp-factor .ensures .0)))
 
 lowered-requires : tie.Need-lowered-requires Inv-loop μ-loop
 lowered-requires c κs = omega arith

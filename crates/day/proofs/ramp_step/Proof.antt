@@ -4,6 +4,7 @@ use Prim.Native.Nat.{ℕ, _-_, _*_, _≤_}
 use native.Mathlib.Nat.{mul-le-mul}
 use native.Mathlib.Omega.{arith}
 use borrow.Author.Tests.{le-leb, lt-leb}
+use Rattle.group.specs.Numbers.{dayMost, rampFactorMost}
 use Rattle.day.specs.Unsigned.{rampStep}
 use Rattle.day.proofs.ramp_step.Statement.{statement}
 use Rattle.day.proofs.ramp_step.Tie as tie
@@ -19,8 +20,8 @@ returns-2 c = simp (lt-leb _ _ (c .before .if1 .left), le-leb _ _ (c .if2 .taken
 sub-nearest-even : tie.Need-sub-nearest-even
 sub-nearest-even c = search needs
 
-small : (x s n : ℕ) → s ≤ 20000000 → x ≤ 2000000 → s * (x - n) ≤ 40000000000000
-small x s n h k = mul-le-mul {m₂ = 2000000} h (omega arith)
+small : (x s n : ℕ) → s ≤ 2 * rampFactorMost → x ≤ 2 * dayMost → s * (x - n) ≤ 2 * rampFactorMost * (2 * dayMost)
+small x s n h k = mul-le-mul {m₂ = 2 * dayMost} h (omega arith)
 
 mul-nearest-even : tie.Need-mul-nearest-even
 mul-nearest-even c =

@@ -1,4 +1,4 @@
--- `result_of` meets its contract: a factor of 1,000,000 changes nothing.
+-- `result_of` meets its contract: the factor 1 changes nothing.
 use Prim.Native.Nat.{_≤_}
 use mathlib.Core.Path.{_≡_, sym, ap, ap₂, _∙_, subst}
 use native.Mathlib.Omega.{arith}
@@ -6,6 +6,7 @@ use lib.IntN.{ℤ, pos, natAbs}
 use mir.Syntax.{w64}
 use mir.Val.{toZ}
 use mir.ValLaws.{toZ-ofZ, toZ-pos}
+use Rattle.group.specs.Numbers.{valueMost, factorOne, factorMost}
 use Rattle.day.specs.Day.{resultOf}
 use Rattle.day.proofs.DayLaws.{result-plain}
 use Rattle.day.proofs.result_of.Statement.{statement}
@@ -14,16 +15,16 @@ use Rattle.day.proofs.result_of.Tie as tie
 returns : tie.Need-returns
 returns c =
     let s = c .before in
-    let e : s .args .factor ≡ pos 1000000 =
-    sym (toZ-ofZ w64 (s .args .factor) (s .fits .factor)) ∙ ap (toZ w64) (c .if1 .taken) ∙ toZ-pos w64 1000000 (omega arith) in
+    let e : s .args .factor ≡ pos factorOne =
+    sym (toZ-ofZ w64 (s .args .factor) (s .fits .factor)) ∙ ap (toZ w64) (c .if1 .taken) ∙ toZ-pos w64 factorOne (omega arith) in
     toZ-ofZ w64 (s .args .value) (s .fits .value)
     ∙ sym (ap (resultOf (s .args .value)) e ∙ result-plain (s .args .value))
 
 scaled-requires : tie.Need-scaled-requires
 scaled-requires c κs =
     let s = c .before in (
-      subst (λ (z : ℤ). natAbs z ≤ 4000000) (sym (toZ-ofZ w64 (s .args .value) (s .fits .value))) (s .pre .0),
-      subst (λ (z : ℤ). natAbs z ≤ 80000000) (sym (toZ-ofZ w64 (s .args .factor) (s .fits .factor))) (s .pre .1),
+      subst (λ (z : ℤ). natAbs z ≤ valueMost) (sym (toZ-ofZ w64 (s .args .value) (s .fits .value))) (s .pre .0),
+      subst (λ (z : ℤ). natAbs z ≤ factorMost) (sym (toZ-ofZ w64 (s .args .factor) (s .fits .factor))) (s .pre .1),
     )
 
 returns-2 : tie.Need-returns-2

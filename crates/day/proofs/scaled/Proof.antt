@@ -1,6 +1,6 @@
 -- `scaled` meets its contract: an even number of whole steps is added before the rounding and taken off behind it.
 use borrow.Author.Needs.{needs}
-use Prim.Native.Nat.{ℕ, _≤_}
+use Prim.Native.Nat.{_*_, _≤_}
 use mathlib.Core.Path.{_≡_, refl, sym, _∙_, subst}
 use native.Mathlib.Nat.{mul-le-mul}
 use native.Mathlib.Omega.{arith}
@@ -13,6 +13,7 @@ use Rattle.numbers.proofs.Diff.{Diff, diff-self, diff-of, diff-join, natAbs-dif
 use Rattle.numbers.proofs.RoundZ.{round-biased}
 use Rattle.numbers.proofs.Machine.{through, diff-fits}
 use Rattle.numbers.proofs.OrderLaws.{size-mul}
+use Rattle.group.specs.Numbers.{factorOne, resultMost}
 use Rattle.day.specs.Day.{resultOf}
 use Rattle.day.proofs.scaled.Statement.{statement}
 use Rattle.day.proofs.scaled.Tie as tie
@@ -22,7 +23,7 @@ module _ (c : tie.Start) where
   product : toZ w64 (ofZ w64 (c .args .v)) *ℤ toZ w64 (ofZ w64 (c .args .f)) ≡ c .args .v *ℤ c .args .f
   product = λ i. toZ-ofZ w64 (c .args .v) (c .fits .v) i *ℤ toZ-ofZ w64 (c .args .f) (c .fits .f) i
 
-  size : natAbs (c .args .v *ℤ c .args .f) ≤ 320000000000000
+  size : natAbs (c .args .v *ℤ c .args .f) ≤ resultMost * factorOne
   size = let m = mul-le-mul (c .pre .0) (c .pre .1) in omega (arith, size-mul (c .args .v) (c .args .f))
 
   fits : SFits w64 (c .args .v *ℤ c .args .f)
@@ -35,22 +36,22 @@ mul-lifted : tie.Need-mul-lifted
 mul-lifted c = subst (SFits w64) (sym (product c)) (fits c)
 
 lifted-requires : tie.Need-lifted-requires
-lifted-requires c κs = (subst (λ (z : ℤ). natAbs z ≤ 320000000000000) (sym (read c)) (size c), omega arith)
+lifted-requires c κs = (subst (λ (z : ℤ). natAbs z ≤ resultMost * factorOne) (sym (read c)) (size c), omega arith)
 
 nearest-even-requires : tie.Need-nearest-even-requires
 nearest-even-requires c κs = search needs
 
 -- what `lifted` told
-told : (c : tie.After-lifted) → Diff (c .before .args .v *ℤ c .before .args .f) (c .lifted .result) 320000000000000
+told : (c : tie.After-lifted) → Diff (c .before .args .v *ℤ c .before .args .f) (c .lifted .result) (resultMost * factorOne)
 told c =
-    diff-of _ (c .lifted .result) 320000000000000
-    (subst (λ (z : ℤ). z +ℤ pos 320000000000000 ≡ pos (c .lifted .result)) (read (c .before)) (c .lifted .ensures))
+    diff-of _ (c .lifted .result) (resultMost * factorOne)
+    (subst (λ (z : ℤ). z +ℤ pos (resultMost * factorOne) ≡ pos (c .lifted .result)) (read (c .before)) (c .lifted .ensures))
 
 lowered-requires : tie.Need-lowered-requires
 lowered-requires c κs =
     let n = c .before .lifted .result in let s = size (c .before .before) in
     let d = told (c .before) .diff in let a = natAbs-diff (c .before .before .args .v *ℤ c .before .before .args .f) in
-    let m = nearest-le 640000000 n 1000000 (omega arith) (omega arith) in
+    let m = nearest-le (2 * resultMost) n factorOne (omega arith) (omega arith) in
     let e = c .nearest-even .ensures in
     (omega arith, omega arith)
 
@@ -59,8 +60,8 @@ unfolding resultOf
 returns c =
     let r = c .lowered .result in let q = c .before .nearest-even .result in
     toZ-ofZ w64 r (record { sfits = c .lowered .ok })
-    ∙ diff-join (diff-of r q 320000000 (c .lowered .ensures)) (c .before .nearest-even .ensures)
-    (round-biased 1000000 320000000 (omega arith) refl (told (c .before .before)))
+    ∙ diff-join (diff-of r q resultMost (c .lowered .ensures)) (c .before .nearest-even .ensures)
+    (round-biased factorOne resultMost (omega arith) refl (told (c .before .before)))
 
 pub scaled-spec : {M : Type 1} → statement M
 scaled-spec =

@@ -1,5 +1,5 @@
 -- `far_edge` meets its contract: the sizes of its numbers bound those of the product and the sum.
-use Prim.Native.Nat.{_-_, _*_, _+_, _≤_}
+use Prim.Native.Nat.{_-_, _*_, _≤_}
 use mathlib.Core.Path.{_≡_, sym, _∙_, ap, subst}
 use native.Mathlib.Omega.{arith}
 use native.Mathlib.Nat.{mul-le-mul}
@@ -9,16 +9,17 @@ use mir.Val.{SFits, toZ, ofZ}
 use mir.Facts.{toZ-ofZ, toZ-pos}
 use borrow.Author.Needs.{needs}
 use Rattle.numbers.proofs.OrderLaws.{size-fits, size-add, size-mul}
+use Rattle.group.specs.Numbers.{spacingMost, nodesMost}
 use Rattle.extent.specs.declared.Axis.{Axis}
 use Rattle.extent.specs.Extent.{farEdge, Reach}
 use Rattle.extent.proofs.far_edge.Statement.{statement}
 use Rattle.extent.proofs.far_edge.Tie as tie
 
 module _ (a : Axis) (r : Reach a) where
-  product-size : natAbs (pos (a .nodes - 1) *ℤ a .step) ≤ 16384000000
+  product-size : natAbs (pos (a .nodes - 1) *ℤ a .step) ≤ nodesMost * spacingMost
   product-size =
       let m = r .most in
-      let h : (a .nodes - 1) * natAbs (a .step) ≤ 16384 * 1000000 = mul-le-mul {n₂ = 16384} (omega arith) (r .step-size) in
+      let h : (a .nodes - 1) * natAbs (a .step) ≤ nodesMost * spacingMost = mul-le-mul {n₂ = nodesMost} (omega arith) (r .step-size) in
       rw (size-mul (pos (a .nodes - 1)) (a .step)) h
 
   product-fits : SFits w64 (pos (a .nodes - 1) *ℤ a .step)

@@ -1,3 +1,4 @@
+-- `grid_inside` meets its contract.
 use mathlib.Core.Path.{sym, subst}
 use mir.Syntax.{w64}
 use mir.Val.{SFits}

@@ -1,9 +1,11 @@
+-- `lat_from_least` meets its contract.
 use mathlib.Core.Path.{_∙_, ap}
 use lib.IntN.{ℤ}
 use mir.Syntax.{w64}
 use mir.Val.{SFits}
 use mir.Facts.{toZ-ofZ}
 use Rattle.numbers.specs.Order.{raised}
+use Rattle.group.specs.Numbers.{latZero}
 use borrow.Author.Needs.{needs}
 use Rattle.extent.proofs.lat_from_least.Statement.{statement}
 use Rattle.extent.proofs.lat_from_least.Tie as tie
@@ -14,7 +16,7 @@ raised-requires c κs = search needs
 returns : tie.Need-returns
 returns c =
     let f : SFits w64 (c .before .before .args .l .0) = search needs in
-    c .raised .ensures ∙ ap (λ (z : ℤ). raised 324000000 z) (toZ-ofZ f)
+    c .raised .ensures ∙ ap (λ (z : ℤ). raised latZero z) (toZ-ofZ f)
 
 pub lat-from-least-spec : {M : Type 1} → statement M
 lat-from-least-spec = tie.close (tie.spec raised-requires returns)

@@ -1,3 +1,4 @@
+-- `lat_span` meets its contract.
 use mathlib.Core.Path.{sym, subst}
 use mir.Syntax.{w64}
 use mir.Val.{SFits}

@@ -1,3 +1,4 @@
+-- `lon_span` meets its contract.
 use mathlib.Core.Path.{sym, subst}
 use mir.Syntax.{w64}
 use mir.Val.{SFits}

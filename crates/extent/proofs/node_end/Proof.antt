@@ -4,16 +4,17 @@ use native.Mathlib.Omega.{arith}
 use native.Mathlib.Nat.{mul-le-mul}
 use borrow.Author.Needs.{needs}
 use Rattle.group.specs.declared.Grid.{Grid}
+use Rattle.group.specs.Numbers.{nodesMost, parametersMost}
 use Rattle.extent.specs.Extent.{Sized}
 use Rattle.extent.proofs.node_end.Statement.{statement}
 use Rattle.extent.proofs.node_end.Tie as tie
 
 -- the counts of nodes and of values
 module _ (g : Grid) (z : Sized g) where
-  nodes : g .ni * g .nj ≤ 16384 * 16384
+  nodes : g .ni * g .nj ≤ nodesMost * nodesMost
   nodes = mul-le-mul (z .lon .most) (z .lat .most)
 
-  values : (np : ℕ) → np ≤ 3 → g .ni * g .nj * np ≤ 16384 * 16384 * 3
+  values : (np : ℕ) → np ≤ parametersMost → g .ni * g .nj * np ≤ nodesMost * nodesMost * parametersMost
   values np h = mul-le-mul nodes h
 
 mul-result : tie.Need-mul-result

@@ -1,3 +1,4 @@
+-- `sides_of` meets its contract.
 use Rattle.extent.specs.Sides.{sidesOf}
 use borrow.Author.Needs.{needs}
 use Rattle.extent.proofs.sides_of.Statement.{statement}

@@ -1,3 +1,4 @@
+-- `span_of` meets its contract.
 use mathlib.Core.Path.{_≡_, sym}
 use mathlib.Core.Bool.{true, false}
 use lib.Signed.{leZ}

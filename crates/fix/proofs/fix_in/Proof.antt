@@ -1,10 +1,11 @@
 -- `fix_in` meets its contract.
-use Prim.Native.Nat.{ℕ, _+_, _≤_, _<_}
-use mathlib.Core.Path.{_≡_, sym, ap, _∙_, subst}
+use Prim.Native.Nat.{_+_, _≤_, _<_}
+use mathlib.Core.Path.{sym, ap, _∙_, subst}
 use native.Mathlib.Omega.{arith}
 use lib.IntN.{ℤ, natAbs}
 use mir.Syntax.{w64}
 use mir.ValLaws.{toZ-ofZ}
+use Rattle.group.specs.Numbers.{factorMost}
 use Rattle.fix.specs.declared.Spot.{Spot}
 use Rattle.fix.specs.declared.Lookup.the-variants as L
 use Rattle.fix.specs.Fix.{spotOf, position, fixIn}
@@ -36,7 +37,7 @@ fix-from-requires c κs =
         low = c .position .ensures ∙ ap (λ (s : Spot). position (b .args .l) (s .i) (s .j) 0) e;
       },
       omega arith,
-      subst (λ (z : ℤ). natAbs z ≤ 80000000) (sym (toZ-ofZ w64 (b .args .factor) (b .fits .factor))) (b .pre .2),
+      subst (λ (z : ℤ). natAbs z ≤ factorMost) (sym (toZ-ofZ w64 (b .args .factor) (b .fits .factor))) (b .pre .2),
     )
 
 returns-2 : tie.Need-returns-2

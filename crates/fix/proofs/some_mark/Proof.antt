@@ -9,7 +9,8 @@ use lib.IntN.{ℤ}
 use Rattle.numbers.proofs.FirstLaws.{Passed, passed-none, passed-more, passed-some, found-some}
 use Rattle.cell.specs.declared.Corners.{Corners}
 use Rattle.cell.specs.declared.Weights.{Weights}
-use Rattle.cell.specs.Cell.{isMark, usedSome}
+use Rattle.group.specs.Numbers.{isMark}
+use Rattle.cell.specs.Cell.{usedSome}
 use Rattle.fix.specs.declared.Place.{Place}
 use Rattle.fix.specs.Fix.{spotOf, cornersOf, cornerSome}
 use Rattle.fix.proofs.some_mark.Statement.{statement}

@@ -1,3 +1,4 @@
+-- `grid_blank` meets its contract.
 use Rattle.group.specs.Limits.{gridBlank}
 use borrow.Author.Needs.{needs}
 use Rattle.group.proofs.grid_blank.Statement.{statement}

@@ -1,3 +1,4 @@
+-- `grid_fits` meets its contract.
 use Rattle.group.specs.Limits.{gridFits}
 use borrow.Author.Needs.{needs}
 use Rattle.group.proofs.grid_fits.Statement.{statement}

@@ -1,16 +1,15 @@
 -- `name_blank` meets its contract: of an empty name each byte is wrong that is not 0.
-use Prim.Native.Nat.{ℕ, _+_, _-_, _≤_}
-use mathlib.Core.Bool.{Bool, true, false, not, _&&_}
-use mathlib.Core.Path.{_≡_, refl, sym, ap, ap₂, _∙_}
+use Prim.Native.Nat.{ℕ, _-_, _≤_}
+use mathlib.Core.Bool.{Bool, true, false, _&&_}
+use mathlib.Core.Path.{_≡_, refl, sym, ap, _∙_}
 use native.Mathlib.Omega.{arith}
-use borrow.Author.Needs.{needs}
-use lib.Dec.{leb·zero, ltb, leb, eqb}
+use lib.Dec.{leb·zero, ltb, eqb}
 use lib.ListN.{getD}
 use borrow.Author.Tests.{eqb-true, le-ltb}
 use Rattle.numbers.specs.First.{every}
 use Rattle.numbers.proofs.FirstLaws.{every-none, every-more, every-same}
 use Rattle.group.specs.declared.Name.{Name}
-use Rattle.group.specs.Limits.{nameByte, byteFits, nameBlank}
+use Rattle.group.specs.Limits.{byteFits, nameBlank}
 use Rattle.group.proofs.name_blank.Statement.{statement}
 use Rattle.group.proofs.name_blank.Tie as tie
 

@@ -1,3 +1,4 @@
+-- `name_fits` meets its contract.
 use Rattle.group.specs.Limits.{nameFits}
 use borrow.Author.Needs.{needs}
 use Rattle.group.proofs.name_fits.Statement.{statement}

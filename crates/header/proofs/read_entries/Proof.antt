@@ -1,5 +1,6 @@
 -- `header::read_entries` meets its contract.
 use mathlib.Core.Path.{sym, ap, _∙_}
+use Rattle.group.specs.Numbers.{rampsMost, gridsMost}
 use Rattle.group.specs.declared.Verdict.the-variants.{Accepted}
 use Rattle.group.specs.Blank.{blankRamp, blankGrid}
 use Rattle.line.specs.Lines.{rampLine}
@@ -21,7 +22,7 @@ refused-reading-requires c κs = search needs
 returns : tie.Need-returns
 returns c =
     let s = c .before .before .before .before .before .before .args in
-    c .refused-reading .ensures ∙ sym (ap linesReading (ramps-stop rampLine gridLines 8 64 blankRamp blankGrid (s .text .now) (s .at) (s .head) _ _ _ (c .before .before .before .before .read-ramps .ensures) _ (c .before .before .verdict .given .1)))
+    c .refused-reading .ensures ∙ sym (ap linesReading (ramps-stop rampLine gridLines rampsMost gridsMost blankRamp blankGrid (s .text .now) (s .at) (s .head) _ _ _ (c .before .before .before .before .read-ramps .ensures) _ (c .before .before .verdict .given .1)))
 
 enum-told : tie.Need-enum-told
 enum-told c = search needs
@@ -42,7 +43,7 @@ returns-2 : tie.Need-returns-2
 returns-2 c =
     let s = c .before .before .before .before .before .before .before .before .before .before .args in
     c .refused-reading2 .ensures
-    ∙ sym (ap linesReading (grids-stop rampLine gridLines 8 64 blankRamp blankGrid (s .text .now) (s .at) (s .head) _ _ _ (c .before .before .before .before .before .before .before .before .read-ramps .ensures) (c .before .before .before .before .before .before .enum-told .given .1) _ _ _ (c .before .before .before .before .read-grids .ensures) _ (c .before .before .verdict2 .given .1)))
+    ∙ sym (ap linesReading (grids-stop rampLine gridLines rampsMost gridsMost blankRamp blankGrid (s .text .now) (s .at) (s .head) _ _ _ (c .before .before .before .before .before .before .before .before .read-ramps .ensures) (c .before .before .before .before .before .before .enum-told .given .1) _ _ _ (c .before .before .before .before .read-grids .ensures) _ (c .before .before .verdict2 .given .1)))
 
 enum-told-2 : tie.Need-enum-told-2
 enum-told-2 c = search needs
@@ -60,7 +61,7 @@ returns-3 : tie.Need-returns-3
 returns-3 c =
     let s = c .before .before .before .before .before .before .before .before .before .before .before .before .before .args in
     c .refused-reading3 .ensures
-    ∙ sym (ap linesReading (more-stops rampLine gridLines 8 64 blankRamp blankGrid (s .text .now) (s .at) (s .head) _ _ _ (c .before .before .before .before .before .before .before .before .before .before .before .read-ramps .ensures) (c .before .before .before .before .before .before .before .before .before .enum-told .given .1) _ _ _ (c .before .before .before .before .before .before .before .read-grids .ensures) (c .before .before .before .before .before .enum-told2 .given .1) (c .before .before .before .if1 .taken)))
+    ∙ sym (ap linesReading (more-stops rampLine gridLines rampsMost gridsMost blankRamp blankGrid (s .text .now) (s .at) (s .head) _ _ _ (c .before .before .before .before .before .before .before .before .before .before .before .read-ramps .ensures) (c .before .before .before .before .before .before .before .before .before .enum-told .given .1) _ _ _ (c .before .before .before .before .before .before .before .read-grids .ensures) (c .before .before .before .before .before .enum-told2 .given .1) (c .before .before .before .if1 .taken)))
 
 returns-4 : tie.Need-returns-4
 returns-4 c =
@@ -81,7 +82,7 @@ returns-4 c =
         grid = b .filled i;
       };
     })
-    ∙ sym (ap linesReading (entries-done rampLine gridLines 8 64 blankRamp blankGrid (s .text .now) (s .at) h _ _ _ a (c .before .before .before .before .before .before .before .before .before .enum-told .given .1) _ _ _ b (c .before .before .before .before .before .enum-told2 .given .1) (c .before .before .before .if1 .left)))
+    ∙ sym (ap linesReading (entries-done rampLine gridLines rampsMost gridsMost blankRamp blankGrid (s .text .now) (s .at) h _ _ _ a (c .before .before .before .before .before .before .before .before .before .enum-told .given .1) _ _ _ b (c .before .before .before .before .before .enum-told2 .given .1) (c .before .before .before .if1 .left)))
 
 pub read-entries-spec : {M : Type 1} → statement M
 read-entries-spec =

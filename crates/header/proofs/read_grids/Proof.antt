@@ -3,6 +3,7 @@ use Prim.Native.Nat.{_-_}
 use mathlib.Core.Path.{ap}
 use native.Mathlib.Omega.{arith}
 use borrow.Author.Needs.{needs}
+use Rattle.group.specs.Numbers.{gridsMost}
 use Rattle.header.specs.declared.GridsRead.{GridsRead}
 use Rattle.group.specs.Blank.{blankGrid}
 use Rattle.line.specs.Lines.{gridLine}
@@ -12,7 +13,7 @@ use Rattle.header.proofs.read_grids.Statement.{statement}
 use Rattle.header.proofs.read_grids.Tie as tie
 
 abbrev Inv-loop : tie.InvT-loop
-Inv-loop text at count first grids₀ next₀ k₀ grids next k = Loop gridLine 64 blankGrid count first text at grids next k
+Inv-loop text at count first grids₀ next₀ k₀ grids next k = Loop gridLine gridsMost blankGrid count first text at grids next k
 
 abbrev μ-loop : tie.MeasureT-loop
 μ-loop text at count first grids₀ next₀ k₀ grids next k = count - k
@@ -23,7 +24,7 @@ blank-grids-requires c κs = search needs
 loop-holds : tie.Need-loop-holds Inv-loop μ-loop
 loop-holds c =
     let s = c .before .before .args in
-    loop-enters gridLine 64 blankGrid (s .count) (s .first) (s .text .now) (s .at) _ (c .blank-grids .ensures) (c .before .before .pre .0)
+    loop-enters gridLine gridsMost blankGrid (s .count) (s .first) (s .text .now) (s .at) _ (c .blank-grids .ensures) (c .before .before .pre .0)
 
 find-from-requires : tie.Need-find-from-requires Inv-loop μ-loop
 find-from-requires c κs = search needs
@@ -39,8 +40,8 @@ returns c =
     let s = c .before .before .before .before .before .before .before .args in
     let l = c .before .before .before .before .loop in
     let q = c .refused-grids .ensures in
-    loop-stops gridLine 64 blankGrid (s .count) (s .first) (s .text .now) (s .at) _ _ _ _
-    (loop-unclosed gridLine 64 blankGrid (s .count) (s .first) (s .text .now) (s .at) _ _ _ (l .inv) _ (c .before .before .find-from .ensures) (c .before .before .before .loop-test .taken) (c .before .if1 .taken))
+    loop-stops gridLine gridsMost blankGrid (s .count) (s .first) (s .text .now) (s .at) _ _ _ _
+    (loop-unclosed gridLine gridsMost blankGrid (s .count) (s .first) (s .text .now) (s .at) _ _ _ (l .inv) _ (c .before .before .find-from .ensures) (c .before .before .before .loop-test .taken) (c .before .if1 .taken))
     (ap (λ (a : GridsRead). a .verdict) q) (ap (λ (a : GridsRead). a .grids) q) (ap (λ (a : GridsRead). a .next) q)
 
 sub-grid-line : tie.Need-sub-grid-line Inv-loop μ-loop
@@ -69,8 +70,8 @@ returns-2 c =
     let s = c .before .before .before .before .before .before .before .before .before .before .before .before .args in
     let l = c .before .before .before .before .before .before .before .before .before .loop in
     let q = c .refused-grids2 .ensures in
-    loop-stops gridLine 64 blankGrid (s .count) (s .first) (s .text .now) (s .at) _ _ _ _
-    (loop-refuses gridLine 64 blankGrid (s .count) (s .first) (s .text .now) (s .at) _ _ _ (l .inv) _ (c .before .before .before .before .before .before .before .find-from .ensures) (c .before .before .before .before .before .before .before .before .loop-test .taken) (c .before .before .before .before .before .before .if1 .left) _
+    loop-stops gridLine gridsMost blankGrid (s .count) (s .first) (s .text .now) (s .at) _ _ _ _
+    (loop-refuses gridLine gridsMost blankGrid (s .count) (s .first) (s .text .now) (s .at) _ _ _ (l .inv) _ (c .before .before .before .before .before .before .before .find-from .ensures) (c .before .before .before .before .before .before .before .before .loop-test .taken) (c .before .before .before .before .before .before .if1 .left) _
     (grid-refused _ _ _ (c .before .before .before .before .grid-line .ensures) (c .before .before .verdict .given .1)))
     (ap (λ (a : GridsRead). a .verdict) q) (ap (λ (a : GridsRead). a .grids) q) (ap (λ (a : GridsRead). a .next) q)
 
@@ -98,14 +99,14 @@ loop-again : tie.Need-loop-again Inv-loop μ-loop
 loop-again c =
     let s = c .before .before .before .before .before .before .before .before .before .before .before .args in
     let l = c .before .before .before .before .before .before .before .before .loop in
-    loop-reads gridLine 64 blankGrid (s .count) (s .first) (s .text .now) (s .at) _ _ _ (l .inv) _ (c .before .before .before .before .before .before .find-from .ensures) (c .before .before .before .before .before .before .before .loop-test .taken) (c .before .before .before .before .before .if1 .left) _
+    loop-reads gridLine gridsMost blankGrid (s .count) (s .first) (s .text .now) (s .at) _ _ _ (l .inv) _ (c .before .before .before .before .before .before .find-from .ensures) (c .before .before .before .before .before .before .before .loop-test .taken) (c .before .before .before .before .before .if1 .left) _
     (omega (arith, c .before .before .before .before .before .before .before .before .before .before .before .pre)) (grid-accepted _ _ (c .before .before .before .grid-line .ensures) (c .before .enum-told .given .1))
 
 returns-3 : tie.Need-returns-3 Inv-loop μ-loop
 returns-3 c =
     let s = c .before .before .before .before .args in
     let l = c .before .loop in
-    loop-leaves gridLine 64 blankGrid (s .count) (s .first) (s .text .now) (s .at) _ _ _ (l .inv) (c .loop-test .left) (omega (arith, c .before .before .before .before .pre))
+    loop-leaves gridLine gridsMost blankGrid (s .count) (s .first) (s .text .now) (s .at) _ _ _ (l .inv) (c .loop-test .left) (omega (arith, c .before .before .before .before .pre))
 
 pub read-grids-spec : {M : Type 1} → statement M
 read-grids-spec =

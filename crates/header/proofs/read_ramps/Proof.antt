@@ -3,6 +3,7 @@ use Prim.Native.Nat.{_-_}
 use mathlib.Core.Path.{ap}
 use native.Mathlib.Omega.{arith}
 use borrow.Author.Needs.{needs}
+use Rattle.group.specs.Numbers.{rampsMost}
 use Rattle.header.specs.declared.RampsRead.{RampsRead}
 use Rattle.group.specs.Blank.{blankRamp}
 use Rattle.line.specs.Lines.{rampLine}
@@ -12,7 +13,7 @@ use Rattle.header.proofs.read_ramps.Statement.{statement}
 use Rattle.header.proofs.read_ramps.Tie as tie
 
 abbrev Inv-loop : tie.InvT-loop
-Inv-loop text at count ramps₀ next₀ k₀ ramps next k = Loop rampLine 8 blankRamp count 2 text at ramps next k
+Inv-loop text at count ramps₀ next₀ k₀ ramps next k = Loop rampLine rampsMost blankRamp count 2 text at ramps next k
 
 abbrev μ-loop : tie.MeasureT-loop
 μ-loop text at count ramps₀ next₀ k₀ ramps next k = count - k
@@ -23,7 +24,7 @@ blank-ramps-requires c κs = search needs
 loop-holds : tie.Need-loop-holds Inv-loop μ-loop
 loop-holds c =
     let s = c .before .before .args in
-    loop-enters rampLine 8 blankRamp (s .count) 2 (s .text .now) (s .at) _ (c .blank-ramps .ensures) (c .before .before .pre .0)
+    loop-enters rampLine rampsMost blankRamp (s .count) 2 (s .text .now) (s .at) _ (c .blank-ramps .ensures) (c .before .before .pre .0)
 
 find-from-requires : tie.Need-find-from-requires Inv-loop μ-loop
 find-from-requires c κs = search needs
@@ -39,8 +40,8 @@ returns c =
     let s = c .before .before .before .before .before .before .before .args in
     let l = c .before .before .before .before .loop in
     let q = c .refused-ramps .ensures in
-    loop-stops rampLine 8 blankRamp (s .count) 2 (s .text .now) (s .at) _ _ _ _
-    (loop-unclosed rampLine 8 blankRamp (s .count) 2 (s .text .now) (s .at) _ _ _ (l .inv) _ (c .before .before .find-from .ensures) (c .before .before .before .loop-test .taken) (c .before .if1 .taken))
+    loop-stops rampLine rampsMost blankRamp (s .count) 2 (s .text .now) (s .at) _ _ _ _
+    (loop-unclosed rampLine rampsMost blankRamp (s .count) 2 (s .text .now) (s .at) _ _ _ (l .inv) _ (c .before .before .find-from .ensures) (c .before .before .before .loop-test .taken) (c .before .if1 .taken))
     (ap (λ (a : RampsRead). a .verdict) q) (ap (λ (a : RampsRead). a .ramps) q) (ap (λ (a : RampsRead). a .next) q)
 
 sub-ramp-line : tie.Need-sub-ramp-line Inv-loop μ-loop
@@ -69,8 +70,8 @@ returns-2 c =
     let s = c .before .before .before .before .before .before .before .before .before .before .before .before .args in
     let l = c .before .before .before .before .before .before .before .before .before .loop in
     let q = c .refused-ramps2 .ensures in
-    loop-stops rampLine 8 blankRamp (s .count) 2 (s .text .now) (s .at) _ _ _ _
-    (loop-refuses rampLine 8 blankRamp (s .count) 2 (s .text .now) (s .at) _ _ _ (l .inv) _ (c .before .before .before .before .before .before .before .find-from .ensures) (c .before .before .before .before .before .before .before .before .loop-test .taken) (c .before .before .before .before .before .before .if1 .left) _
+    loop-stops rampLine rampsMost blankRamp (s .count) 2 (s .text .now) (s .at) _ _ _ _
+    (loop-refuses rampLine rampsMost blankRamp (s .count) 2 (s .text .now) (s .at) _ _ _ (l .inv) _ (c .before .before .before .before .before .before .before .find-from .ensures) (c .before .before .before .before .before .before .before .before .loop-test .taken) (c .before .before .before .before .before .before .if1 .left) _
     (ramp-refused _ _ _ (c .before .before .before .before .ramp-line .ensures) (c .before .before .verdict .given .1)))
     (ap (λ (a : RampsRead). a .verdict) q) (ap (λ (a : RampsRead). a .ramps) q) (ap (λ (a : RampsRead). a .next) q)
 
@@ -98,14 +99,14 @@ loop-again : tie.Need-loop-again Inv-loop μ-loop
 loop-again c =
     let s = c .before .before .before .before .before .before .before .before .before .before .before .args in
     let l = c .before .before .before .before .before .before .before .before .loop in
-    loop-reads rampLine 8 blankRamp (s .count) 2 (s .text .now) (s .at) _ _ _ (l .inv) _ (c .before .before .before .before .before .before .find-from .ensures) (c .before .before .before .before .before .before .before .loop-test .taken) (c .before .before .before .before .before .if1 .left) _
+    loop-reads rampLine rampsMost blankRamp (s .count) 2 (s .text .now) (s .at) _ _ _ (l .inv) _ (c .before .before .before .before .before .before .find-from .ensures) (c .before .before .before .before .before .before .before .loop-test .taken) (c .before .before .before .before .before .if1 .left) _
     (omega (arith, c .before .before .before .before .before .before .before .before .before .before .before .pre)) (ramp-accepted _ _ (c .before .before .before .ramp-line .ensures) (c .before .enum-told .given .1))
 
 returns-3 : tie.Need-returns-3 Inv-loop μ-loop
 returns-3 c =
     let s = c .before .before .before .before .args in
     let l = c .before .loop in
-    loop-leaves rampLine 8 blankRamp (s .count) 2 (s .text .now) (s .at) _ _ _ (l .inv) (c .loop-test .left) (omega (arith, c .before .before .before .before .pre))
+    loop-leaves rampLine rampsMost blankRamp (s .count) 2 (s .text .now) (s .at) _ _ _ (l .inv) (c .loop-test .left) (omega (arith, c .before .before .before .before .pre))
 
 pub read-ramps-spec : {M : Type 1} → statement M
 read-ramps-spec =

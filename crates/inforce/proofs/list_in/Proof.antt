@@ -1,5 +1,7 @@
 -- `list_in` meets its contract: the group's flat lists are sound, and the list over them is the group's.
 use mathlib.Core.Path.{_≡_, _∙_, ap}
+use native.Mathlib.Omega.{arith}
+use Rattle.judge.proofs.Accepted.{accepted-measured}
 use Rattle.coverage.specs.InForce as flat
 use Rattle.inforce.specs.Flat.{flatListed}
 use Rattle.inforce.specs.InForce.{inForceIn, shownList}
@@ -16,7 +18,7 @@ slice-aggregate-fill-sides-2 : tie.Need-slice-aggregate-fill-sides-2
 slice-aggregate-fill-sides-2 c = search needs
 
 fill-sides-requires : tie.Need-fill-sides-requires
-fill-sides-requires c κs = search needs
+fill-sides-requires c κs = let s = c .before .before in (accepted-measured (s .args .group) (s .pre .0), omega arith, omega arith)
 
 slice-aggregate-list-flat : tie.Need-slice-aggregate-list-flat
 slice-aggregate-list-flat c = search needs
@@ -31,7 +33,7 @@ list-flat-requires : tie.Need-list-flat-requires
 list-flat-requires c κs =
     let s = c .before .before .before .before .before .before .before .before in
     let f = c .before .before .before .before .before .fill-sides in
-    group-flat (s .args .group) (s .pre .0) (f .last .1 .0) (f .last .1 .1 .0) (f .ensures) (search needs) (search needs)
+    group-flat (s .args .group) (s .pre .0) (f .last .1 .0) (f .last .1 .1 .0) (f .ensures .0) (search needs) (search needs)
 
 -- the list of the area, its coordinates as distances
 listing : (c : tie.After-list-flat) → let s = c .before .before .before .before .before .before .before .before .before in
@@ -40,7 +42,7 @@ listing c =
     let s = c .before .before .before .before .before .before .before .before .before in
     let f = c .before .before .before .before .before .before .fill-sides in
     c .list-flat .ensures ∙ ap (flatListed (f .last .1 .0) (f .last .1 .1 .0) (s .args .group .grids)) (c .before .area-from-least .ensures)
-    ∙ group-listed (s .args .group) (s .pre .0) (f .last .1 .0) (f .last .1 .1 .0) (f .ensures) (s .args .area) (s .pre .1)
+    ∙ group-listed (s .args .group) (s .pre .0) (f .last .1 .0) (f .last .1 .1 .0) (f .ensures .0) (s .args .area) (s .pre .1)
 
 shown-list-requires : tie.Need-shown-list-requires
 shown-list-requires c κs =

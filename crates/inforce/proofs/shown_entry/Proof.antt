@@ -3,6 +3,7 @@ use mir.Syntax.{w64}
 use mir.Val.{SFits}
 use mir.Facts.{toZ-ofZ}
 use Rattle.numbers.proofs.Diff.{less-of}
+use Rattle.group.specs.Numbers.{lonZero, latZero}
 use borrow.Author.Needs.{needs}
 use Rattle.inforce.proofs.shown_entry.Statement.{statement}
 use Rattle.inforce.proofs.shown_entry.Tie as tie
@@ -20,7 +21,7 @@ returns c =
     let y = c .lowered2 .result in
     let fx : SFits w64 x = record { sfits = c .before .lowered .ok } in
     let fy : SFits w64 y = record { sfits = c .lowered2 .ok } in
-    rw (toZ-ofZ fx, toZ-ofZ fy, less-of x (e .lon) 1296000000 (c .before .lowered .ensures), less-of y (e .lat) 324000000 (c .lowered2 .ensures))
+    rw (toZ-ofZ fx, toZ-ofZ fy, less-of x (e .lon) lonZero (c .before .lowered .ensures), less-of y (e .lat) latZero (c .lowered2 .ensures))
 
 pub shown-entry-spec : {M : Type 1} → statement M
 shown-entry-spec = tie.close (tie.spec lowered-requires lowered-requires-2 returns)

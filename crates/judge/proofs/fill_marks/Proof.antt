@@ -1,83 +1,53 @@
-use Rattle.judge.proofs.LimitLaws.{grid-marked}
--- `fill_marks` meets its contract: each turn stores the marks of one grid more.
-use Prim.Native.Nat.{_-_, _≤_}
-use mathlib.Core.Path.{_≡_, refl, _∙_, ap}
-use native.Mathlib.Omega.{arith}
-use lib.ListN.{length, length-set}
-use Rattle.group.specs.Record.{gridAt}
-use Rattle.judge.specs.Marks.{marksOf, Listed}
-use Rattle.judge.proofs.MarkLaws.{listed-none, listed-more}
+-- `fill_marks` meets its contract, case by case.
+use borrow.Author.Needs.{needs}
+use Rattle.judge.proofs.LimitLaws.{measured}
+use Rattle.judge.proofs.MarkLaws.{sided-listed}
 use Rattle.judge.proofs.fill_marks.Statement.{statement}
 use Rattle.judge.proofs.fill_marks.Tie as tie
 
-abbrev Inv-loop : tie.InvT-loop
-Inv-loop shared fours₀ keys₀ group n i₀ fours keys i =
-    (i ≤ group .grids) × (length fours ≡ length fours₀) × (length keys ≡ length keys₀) × Listed (λ k. marksOf shared (gridAt group k)) i fours keys
+enum-told : tie.Need-enum-told
+enum-told c = search needs
 
-abbrev μ-loop : tie.MeasureT-loop
-μ-loop shared fours₀ keys₀ group n i₀ fours keys i = n - i
+fill-names-requires : tie.Need-fill-names-requires
+fill-names-requires c κs = search needs
 
-loop-holds : tie.Need-loop-holds Inv-loop μ-loop
-loop-holds c = (omega arith, refl, refl, listed-none _ _ _)
+enum-told-2 : tie.Need-enum-told-2
+enum-told-2 c = search needs
 
-mul-g : tie.Need-mul-g Inv-loop μ-loop
-mul-g c = omega (arith, c .before .before .before .before .pre .0 .grids)
+fill-sides-requires : tie.Need-fill-sides-requires
+fill-sides-requires c κs =
+    let s = c .before .before .before .before .before .before in
+    (measured (s .args .group) (s .pre .0) (s .pre .1), s .pre .2, s .pre .3)
 
-element-copy-out-g : tie.Need-element-copy-out-g Inv-loop μ-loop
-element-copy-out-g c = omega (arith, c .before .before .before .before .pre .0 .grids)
+same-length : tie.Need-same-length
+same-length c = search needs
 
-marks-of-requires : tie.Need-marks-of-requires Inv-loop μ-loop
-marks-of-requires c κs =
-    grid-marked _ (c .before .before .before .before .before .pre .1 .fits (c .before .before .loop .i) (c .before .loop-test .taken)) (c .before .before .before .before .before .args .shared)
+same-length-2 : tie.Need-same-length-2
+same-length-2 c = search needs
 
-put-marks-requires : tie.Need-put-marks-requires Inv-loop μ-loop
-put-marks-requires c κs =
-    let p = c .before .before .before .before .before .before .before .before .pre in
-    let l = c .before .before .before .before .before .loop in
-    (omega (arith, p .0 .grids, p .2, l .inv .1), omega (arith, p .0 .grids, p .3, l .inv .2))
+returns : tie.Need-returns
+returns c = rw (c .before .before .before .before .before .before .before .enum-told .given .1) (c .before .before .before .before .fill-names .ensures)
 
-add-i : tie.Need-add-i Inv-loop μ-loop
-add-i c = omega arith
+same-length-3 : tie.Need-same-length-3
+same-length-3 c = search needs
 
-loop-less : tie.Need-loop-less Inv-loop μ-loop
-loop-less c = omega arith
+same-length-4 : tie.Need-same-length-4
+same-length-4 c = search needs
 
-loop-again : tie.Need-loop-again Inv-loop μ-loop
-loop-again c =
-    let s = c .before .before .before .before .before .before .before .before .before .before .before .before .before in
-    let l = c .before .before .before .before .before .before .before .before .before .before .loop in
-    let w = c .before .before .before .before .put-marks .ensures in
-    let n = s .pre .0 .grids in (
-      omega arith,
-      ap length (w .0) ∙ (simp length-set) ∙ l .inv .1,
-      ap length (w .1) ∙ (simp length-set) ∙ l .inv .2,
-      listed-more _ (l .i) (l .fours) (l .keys) _ _ _ (omega (arith, s .pre .2, l .inv .1)) (omega (arith, s .pre .3, l .inv .2)) (l .inv .3)
-          (c .before .before .before .before .before .before .before .marks-of .ensures) (w .0) (w .1),
-    )
-
-same-length : tie.Need-same-length Inv-loop μ-loop
-same-length c = c .before .loop .inv .1
-
-same-length-2 : tie.Need-same-length-2 Inv-loop μ-loop
-same-length-2 c = c .before .loop .inv .2
-
-returns : tie.Need-returns Inv-loop μ-loop
-returns c = let l = c .before .loop in let e : l .i ≡ c .before .before .before .before .args .t2 .grids = omega arith in rw e at (l .inv .3)
+returns-2 : tie.Need-returns-2
+returns-2 c = rw (c .before .before .before .before .before .before .before .enum-told2 .given .1) (sided-listed _ _ _ _ (c .before .before .before .before .fill-sides .ensures .0))
 
 pub fill-marks-spec : {M : Type 1} → statement M
 fill-marks-spec =
     tie.close
     (tie.spec
-    Inv-loop
-    μ-loop
-    loop-holds
-    mul-g
-    element-copy-out-g
-    marks-of-requires
-    put-marks-requires
-    add-i
-    loop-less
-    loop-again
+    enum-told
+    fill-names-requires
+    enum-told-2
+    fill-sides-requires
     same-length
     same-length-2
-    returns)
+    returns
+    same-length-3
+    same-length-4
+    returns-2)

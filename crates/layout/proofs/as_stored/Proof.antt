@@ -6,6 +6,7 @@ use lib.IntN.{pos}
 use mir.Syntax.{w64}
 use mir.Facts.{toZ-ofZ}
 use borrow.Author.Needs.{needs}
+use Rattle.layout.specs.Layout.{most}
 use Rattle.layout.proofs.as_stored.Statement.{statement}
 use Rattle.layout.proofs.as_stored.Tie as tie
 
@@ -15,12 +16,12 @@ cast-result c = search needs
 returns : tie.Need-returns
 returns c =
     let n = c .before .args .n in
-    toZ-ofZ {w = w64} {z = pos n} (record { sfits = c .if1 .taken }) ∙ ap pos (sym (min-eq-left {m = 9223372036854775807} (omega arith)))
+    toZ-ofZ {w = w64} {z = pos n} (record { sfits = c .if1 .taken }) ∙ ap pos (sym (min-eq-left {m = most} (omega arith)))
 
 returns-2 : tie.Need-returns-2
 returns-2 c =
     let n = c .before .args .n in
-    ap pos (sym (min-comm n 9223372036854775807 ∙ min-eq-left {n = 9223372036854775807} {m = n} (omega arith)))
+    ap pos (sym (min-comm n most ∙ min-eq-left {n = most} {m = n} (omega arith)))
 
 pub as-stored-spec : {M : Type 1} → statement M
 as-stored-spec = tie.close (tie.spec cast-result returns returns-2)

@@ -2,6 +2,7 @@
 use Prim.Native.Nat.{_-_}
 use mathlib.Core.Path.{refl}
 use borrow.Author.Needs.{needs}
+use Rattle.group.specs.Numbers.{gridsMost}
 use Rattle.group.specs.Record.{noGrid}
 use Rattle.layout.specs.Layout.{gridOf}
 use Rattle.layout.proofs.ListLaws.{Filled, filled-none, filled-more, filled-all}
@@ -9,16 +10,16 @@ use Rattle.layout.proofs.grids_of.Statement.{statement}
 use Rattle.layout.proofs.grids_of.Tie as tie
 
 abbrev Inv-loop : tie.InvT-loop
-Inv-loop numbers grids₀ i₀ grids i = Filled (gridOf numbers) noGrid 64 i grids
+Inv-loop numbers grids₀ i₀ grids i = Filled (gridOf numbers) noGrid gridsMost i grids
 
 abbrev μ-loop : tie.MeasureT-loop
-μ-loop numbers grids₀ i₀ grids i = 64 - i
+μ-loop numbers grids₀ i₀ grids i = gridsMost - i
 
 blank-grid-requires : tie.Need-blank-grid-requires Inv-loop μ-loop
 blank-grid-requires c κs = search needs
 
 loop-holds : tie.Need-loop-holds Inv-loop μ-loop
-loop-holds c = filled-none _ noGrid 64 _ refl
+loop-holds c = filled-none _ noGrid gridsMost _ refl
 
 grid-of-requires : tie.Need-grid-of-requires Inv-loop μ-loop
 grid-of-requires c κs = search needs
@@ -37,12 +38,12 @@ loop-less c = search needs
 
 loop-again : tie.Need-loop-again Inv-loop μ-loop
 loop-again c =
-    filled-more _ noGrid 64 _ _ _ (c .before .before .loop .inv) (c .before .loop-test .taken) (c .grid-of .ensures)
+    filled-more _ noGrid gridsMost _ _ _ (c .before .before .loop .inv) (c .before .loop-test .taken) (c .grid-of .ensures)
 
 returns : tie.Need-returns Inv-loop μ-loop
 returns c =
     let s = c .before .before .before .args in
-    filled-all (gridOf (s .numbers .now)) noGrid 64 _ _ (c .before .loop .inv) (c .loop-test .left)
+    filled-all (gridOf (s .numbers .now)) noGrid gridsMost _ _ (c .before .loop .inv) (c .loop-test .left)
 
 pub grids-of-spec : {M : Type 1} → statement M
 grids-of-spec =

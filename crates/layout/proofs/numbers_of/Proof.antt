@@ -1,5 +1,5 @@
 -- `numbers_of` meets its contract.
-use mathlib.Core.Path.{refl, sym, _∙_}
+use mathlib.Core.Path.{sym, _∙_}
 use Rattle.layout.proofs.ListLaws.{sets-whole}
 use Rattle.layout.proofs.GroupLaws.{numbers-length}
 use borrow.Author.Needs.{needs}

@@ -4,6 +4,8 @@ use mathlib.Core.Path.{_≡_, refl, sym, ap}
 use borrow.Author.Needs.{needs}
 use native.Mathlib.Omega.{arith}
 use lib.ListN.{length, getD}
+use Rattle.group.specs.Numbers.{gridsMost}
+use Rattle.layout.specs.Words.{gridWords, gridsFrom}
 use Rattle.group.specs.Record.{noGrid}
 use Rattle.layout.specs.Layout.{gridNumbers}
 use Rattle.layout.proofs.ListLaws.{Run, run-none, run-length, run-more, run-all}
@@ -11,13 +13,13 @@ use Rattle.layout.proofs.put_grids.Statement.{statement}
 use Rattle.layout.proofs.put_grids.Tie as tie
 
 abbrev Inv-loop : tie.InvT-loop
-Inv-loop out₀ grids i₀ out i = Run (λ k. gridNumbers (getD grids k noGrid)) 64 out₀ 41 i out
+Inv-loop out₀ grids i₀ out i = Run (λ k. gridNumbers (getD grids k noGrid)) gridsMost out₀ gridsFrom i out
 
 abbrev μ-loop : tie.MeasureT-loop
-μ-loop out₀ grids i₀ out i = 64 - i
+μ-loop out₀ grids i₀ out i = gridsMost - i
 
 loop-holds : tie.Need-loop-holds Inv-loop μ-loop
-loop-holds c = run-none _ 64 _ 41
+loop-holds c = run-none _ gridsMost _ gridsFrom
 
 mul-g : tie.Need-mul-g Inv-loop μ-loop
 mul-g c = search needs
@@ -40,8 +42,8 @@ slice-aggregate-put-numbers c = sym (ap length (c .before .before .grid-numbers 
 put-numbers-requires : tie.Need-put-numbers-requires Inv-loop μ-loop
 put-numbers-requires c κs =
     let l = c .before .before .before .before .before .loop in
-    let e = run-length _ 64 _ 41 _ _ (l .inv) in
-    let n : length (c .before .before .grid-numbers .result) ≡ 12 = ap length (c .before .before .grid-numbers .ensures) in
+    let e = run-length _ gridsMost _ gridsFrom _ _ (l .inv) in
+    let n : length (c .before .before .grid-numbers .result) ≡ gridWords = ap length (c .before .before .grid-numbers .ensures) in
     omega (arith, c .before .before .before .before .before .before .pre)
 
 add-i : tie.Need-add-i Inv-loop μ-loop
@@ -53,14 +55,14 @@ loop-less c = search needs
 loop-again : tie.Need-loop-again Inv-loop μ-loop
 loop-again c =
     let l = c .before .before .before .before .before .before .before .loop in
-    run-more _ 12 64 _ 41 _ _ _ _ (λ k. refl) (l .inv) (c .before .before .before .before .before .before .loop-test .taken) (c .before .put-numbers .ensures)
+    run-more _ gridWords gridsMost _ gridsFrom _ _ _ _ (λ k. refl) (l .inv) (c .before .before .before .before .before .before .loop-test .taken) (c .before .put-numbers .ensures)
     (c .before .before .before .before .grid-numbers .ensures)
 
 same-length : tie.Need-same-length Inv-loop μ-loop
-same-length c = run-length _ 64 _ 41 _ _ (c .before .loop .inv)
+same-length c = run-length _ gridsMost _ gridsFrom _ _ (c .before .loop .inv)
 
 returns : tie.Need-returns Inv-loop μ-loop
-returns c = run-all _ 64 _ 41 _ _ (c .before .loop .inv) (c .loop-test .left)
+returns c = run-all _ gridsMost _ gridsFrom _ _ (c .before .loop .inv) (c .loop-test .left)
 
 pub put-grids-spec : {M : Type 1} → statement M
 put-grids-spec =

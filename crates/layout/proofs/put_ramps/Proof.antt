@@ -5,6 +5,8 @@ use borrow.Author.Needs.{needs}
 use native.Mathlib.Omega.{arith}
 use mathlib.Core.List.{[], _∷_}
 use lib.ListN.{getD}
+use Rattle.group.specs.Numbers.{rampsMost}
+use Rattle.layout.specs.Words.{headWords, rampWords}
 use Rattle.layout.proofs.ListLaws.{Run, run-none, run-length, run-more, run-all}
 use Rattle.layout.proofs.NumberLaws.{told}
 use Rattle.group.specs.Record.{noRamp}
@@ -13,13 +15,13 @@ use Rattle.layout.proofs.put_ramps.Statement.{statement}
 use Rattle.layout.proofs.put_ramps.Tie as tie
 
 abbrev Inv-loop : tie.InvT-loop
-Inv-loop out₀ ramps i₀ out i = Run (λ k. rampNumbers (getD ramps k noRamp)) 8 out₀ 9 i out
+Inv-loop out₀ ramps i₀ out i = Run (λ k. rampNumbers (getD ramps k noRamp)) rampsMost out₀ headWords i out
 
 abbrev μ-loop : tie.MeasureT-loop
-μ-loop out₀ ramps i₀ out i = 8 - i
+μ-loop out₀ ramps i₀ out i = rampsMost - i
 
 loop-holds : tie.Need-loop-holds Inv-loop μ-loop
-loop-holds c = run-none _ 8 _ 9
+loop-holds c = run-none _ rampsMost _ headWords
 
 mul-r : tie.Need-mul-r Inv-loop μ-loop
 mul-r c = search needs
@@ -39,7 +41,7 @@ slice-aggregate-put-numbers c = search needs
 put-numbers-requires : tie.Need-put-numbers-requires Inv-loop μ-loop
 put-numbers-requires c κs =
     let l = c .before .before .before .before .before .loop in
-    let e = run-length _ 8 _ 9 _ _ (l .inv) in
+    let e = run-length _ rampsMost _ headWords _ _ (l .inv) in
     omega (arith, c .before .before .before .before .before .before .pre)
 
 add-i : tie.Need-add-i Inv-loop μ-loop
@@ -56,14 +58,14 @@ loop-again c =
     let s0 = told (t .1 .0 .1) refl in
     let b = told (t .1 .1 .0 .1) refl in
     let s1 = told (t .1 .1 .1 .0 .1) refl in
-    run-more _ 4 8 _ 9 _ _ _ _ (λ k. refl) (l .inv) (c .before .before .before .before .before .before .loop-test .taken) (c .before .put-numbers .ensures)
+    run-more _ rampWords rampsMost _ headWords _ _ _ _ (λ k. refl) (l .inv) (c .before .before .before .before .before .before .loop-test .taken) (c .before .put-numbers .ensures)
     (λ i. a i ∷ s0 i ∷ b i ∷ s1 i ∷ [])
 
 same-length : tie.Need-same-length Inv-loop μ-loop
-same-length c = run-length _ 8 _ 9 _ _ (c .before .loop .inv)
+same-length c = run-length _ rampsMost _ headWords _ _ (c .before .loop .inv)
 
 returns : tie.Need-returns Inv-loop μ-loop
-returns c = run-all _ 8 _ 9 _ _ (c .before .loop .inv) (c .loop-test .left)
+returns c = run-all _ rampsMost _ headWords _ _ (c .before .loop .inv) (c .loop-test .left)
 
 pub put-ramps-spec : {M : Type 1} → statement M
 put-ramps-spec =

@@ -4,7 +4,8 @@ use mathlib.Core.Bool.{Bool, true, false, cond}
 use borrow.Author.Needs.{needs}
 use lib.IntN.{pos}
 use Rattle.numbers.specs.Order.{between}
-use Rattle.layout.specs.Layout.{numberAt, countAt, beyond}
+use Rattle.group.specs.Numbers.{beyond}
+use Rattle.layout.specs.Layout.{numberAt, countAt}
 use Rattle.layout.proofs.NumberLaws.{told}
 use Rattle.layout.proofs.quantum_of.Statement.{statement}
 use Rattle.layout.proofs.quantum_of.Tie as tie

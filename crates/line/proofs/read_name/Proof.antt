@@ -1,17 +1,18 @@
 -- `line::read_name` meets its contract.
-use Prim.Native.Nat.{ℕ, _≤_, _+_, _-_}
+use Prim.Native.Nat.{ℕ, _≤_, _-_}
 use mathlib.Core.Path.{_≡_, refl, ap, _∙_}
 use mathlib.Core.List.{List, _++_}
 use native.Mathlib.Omega.{arith}
 use borrow.Author.Needs.{needs}
 use lib.ListN.{length, take, getD, set, replicate}
 use lib.Seq.{take-all}
+use Rattle.group.specs.Numbers.{nameMost}
 use Rattle.line.proofs.NameLaws.{name-step}
 use Rattle.line.proofs.read_name.Statement.{statement}
 use Rattle.line.proofs.read_name.Tie as tie
 
 abbrev Inv-loop : tie.InvT-loop
-Inv-loop s bytes₀ i₀ bytes i = (i ≤ length s) × (bytes ≡ take i s ++ replicate (24 - i) 0)
+Inv-loop s bytes₀ i₀ bytes i = (i ≤ length s) × (bytes ≡ take i s ++ replicate (nameMost - i) 0)
 
 abbrev μ-loop : tie.MeasureT-loop
 μ-loop s bytes₀ i₀ bytes i = length s - i
@@ -44,8 +45,8 @@ returns c =
     let d = c .before in
     let s = d .before .args .s .now in
     let e : d .loop .i ≡ length s = omega arith in
-    let b : d .loop .bytes ≡ s ++ replicate (24 - length s) 0 =
-    d .loop .inv .1 ∙ ap (λ (l : List ℕ). l ++ replicate (24 - d .loop .i) 0) (take-all (d .loop .i) s (c .loop-test .left)) ∙ ap (λ (n : ℕ). s ++ replicate (24 - n) 0) e in
+    let b : d .loop .bytes ≡ s ++ replicate (nameMost - length s) 0 =
+    d .loop .inv .1 ∙ ap (λ (l : List ℕ). l ++ replicate (nameMost - d .loop .i) 0) (take-all (d .loop .i) s (c .loop-test .left)) ∙ ap (λ (n : ℕ). s ++ replicate (nameMost - n) 0) e in
     λ i. record { bytes = b i; len = e i }
 
 pub read-name-spec : {M : Type 1} → statement M

@@ -1,14 +1,15 @@
 -- `fix_chosen` meets its contract.
-use Prim.Native.Nat.{ℕ, _-_, _≤_}
+use Prim.Native.Nat.{_-_, _≤_}
 use mathlib.Core.Path.{_≡_, sym, ap, _∙_, subst}
 use native.Mathlib.Omega.{arith}
 use lib.IntN.{ℤ, natAbs}
 use mir.Syntax.{w64}
 use mir.ValLaws.{toZ-ofZ}
-use Rattle.fix.specs.declared.Place.{Place}
+use Rattle.group.specs.Numbers.{factorMost}
 use Rattle.fix.specs.Fix.{fixIn}
-use Rattle.lookup.specs.declared.Frame.{Frame}
-use Rattle.lookup.specs.Flat.{frameAt, placeIn}
+use Rattle.flat.specs.declared.Frame.{Frame}
+use Rattle.flat.specs.Frames.{frameAt}
+use Rattle.lookup.specs.Flat.{placeIn}
 use Rattle.lookup.proofs.FixAtLaws.{fix-at-none, fix-at-some}
 use borrow.Author.Needs.{needs}
 use Rattle.lookup.proofs.fix_chosen.Statement.{statement}
@@ -43,7 +44,7 @@ fix-in-requires c κs =
     rw (seen c) (
       s .pre .0 .placed (omega arith),
       s .pre .0 .listed (omega arith),
-      subst (λ (z : ℤ). natAbs z ≤ 80000000) (sym (toZ-ofZ w64 (s .args .factor) (s .fits .factor))) (s .pre .1),
+      subst (λ (z : ℤ). natAbs z ≤ factorMost) (sym (toZ-ofZ w64 (s .args .factor) (s .fits .factor))) (s .pre .1),
     )
 
 returns-2 : tie.Need-returns-2

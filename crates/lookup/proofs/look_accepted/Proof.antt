@@ -16,12 +16,13 @@ use Rattle.numbers.specs.First.{first}
 use Rattle.numbers.proofs.FirstLaws.{first-same}
 use Rattle.group.specs.declared.Group.{Group}
 use Rattle.group.specs.Record.{gridAt}
-use Rattle.judge.specs.Flat.{Ended}
-use Rattle.judge.proofs.Accepted.{accepted-head}
+use Rattle.flat.specs.Lists.{Ended}
+use Rattle.judge.proofs.Accepted.{accepted-head, accepted-measured}
 use Rattle.day.specs.Day.{factorOf}
 use Rattle.fix.specs.declared.Lookup.the-variants as L
-use Rattle.choice.specs.InGroup.{chosenIn}
-use Rattle.lookup.specs.Lookup.{pointFits, dayFits, endsEarly, placeOf, fixAt, Ready}
+use Rattle.ingroup.specs.InGroup.{chosenIn}
+use Rattle.group.specs.Numbers.{dayFits}
+use Rattle.lookup.specs.Lookup.{pointFits, endsEarly, placeOf, fixAt, Ready}
 use Rattle.lookup.proofs.StageLaws.{looked-6, looked-9, looked-13, looked-on}
 use borrow.Author.Needs.{needs}
 use Rattle.lookup.proofs.look_accepted.Statement.{statement}
@@ -59,7 +60,9 @@ slice-aggregate-fill-ends : tie.Need-slice-aggregate-fill-ends
 slice-aggregate-fill-ends c = search needs
 
 fill-ends-requires : tie.Need-fill-ends-requires
-fill-ends-requires c κs = search needs
+fill-ends-requires c κs =
+    let s = c .before .before .before .before .before in
+    (accepted-measured (s .args .group) (s .pre), omega arith)
 
 slice-aggregate-first-short : tie.Need-slice-aggregate-first-short
 slice-aggregate-first-short c = search needs
@@ -81,7 +84,7 @@ module _ (c : tie.After-first-short) where
   day = day-told (entry .fits .day) (c .before .before .before .before .before .before .day-fits .ensures) ∙ not-false _ (c .before .before .before .before .before .if2 .left)
 
   found : c .first-short .result ≡ first (endsEarly (entry .args .group) (length (entry .args .nodes .now))) (entry .args .group .grids)
-  found = c .first-short .ensures ∙ short (entry .args .group) (c .before .before .before .fill-ends .last .1 .0) _ (c .before .before .before .fill-ends .ensures)
+  found = c .first-short .ensures ∙ short (entry .args .group) (c .before .before .before .fill-ends .last .1 .0) _ (c .before .before .before .fill-ends .ensures .0)
 
 add-t19 : tie.Need-add-t19
 add-t19 c = search needs

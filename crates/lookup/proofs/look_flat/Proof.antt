@@ -7,11 +7,14 @@ use lib.IntN.{ℤ, natAbs}
 use lib.ListN.{length, take, length-take}
 use mir.Syntax.{w64}
 use mir.ValLaws.{toZ-ofZ}
-use Rattle.choice.specs.Rect.{at, holds}
+use Rattle.group.specs.Numbers.{factorMost}
+use Rattle.numbers.specs.Lists.{at}
+use Rattle.choice.specs.Rect.{holds}
 use Rattle.choice.specs.Choice.{chosen}
 use Rattle.choice.proofs.PartLaws.{chosen-part}
 use Rattle.lookup.specs.Lookup.{fixAt}
-use Rattle.lookup.specs.Flat.{frameAt, placeIn}
+use Rattle.flat.specs.Frames.{frameAt}
+use Rattle.lookup.specs.Flat.{placeIn}
 use Rattle.lookup.proofs.ChosenLaws.{laid-chosen}
 use borrow.Author.Needs.{needs}
 use Rattle.lookup.proofs.look_flat.Statement.{statement}
@@ -26,12 +29,12 @@ part n l h = rw length-take (omega arith)
 slice-aggregate-chosen-at : tie.Need-slice-aggregate-chosen-at
 slice-aggregate-chosen-at c =
     let s = c .before .before .before .before in
-    part (s .args .grids * 4) (s .args .sides .now) (s .pre .0 .sides-room)
+    part (s .args .grids * 4) (s .args .sides .now) (s .pre .0 .room .sides-room)
 
 slice-aggregate-chosen-at-2 : tie.Need-slice-aggregate-chosen-at-2
 slice-aggregate-chosen-at-2 c =
     let s = c .before .before .before .before .before in
-    part (s .args .grids) (s .args .ranks .now) (s .pre .0 .ranks-room)
+    part (s .args .grids) (s .args .ranks .now) (s .pre .0 .room .ranks-room)
 
 chosen-at-requires : tie.Need-chosen-at-requires
 chosen-at-requires c κs = search needs
@@ -46,13 +49,13 @@ module _ (c : tie.After-chosen-at) where
   told =
       let a = entry .args in
       c .chosen-at .ensures
-      ∙ chosen-part (a .sides .now) (a .ranks .now) (a .grids) (a .x) (a .y) (entry .pre .0 .sides-room) (entry .pre .0 .ranks-room)
+      ∙ chosen-part (a .sides .now) (a .ranks .now) (a .grids) (a .x) (a .y) (entry .pre .0 .room .sides-room) (entry .pre .0 .room .ranks-room)
 
 fix-chosen-requires : tie.Need-fix-chosen-requires
 fix-chosen-requires c κs =
     let s = entry c in let a = s .args in (
       laid-chosen (a .sides .now) (a .ranks .now) (a .frames .now) (a .grids) (a .np) (length (a .nodes .now)) (a .x) (a .y) (s .pre .0) (c .chosen-at .result) (told c),
-      subst (λ (z : ℤ). natAbs z ≤ 80000000) (sym (toZ-ofZ w64 (a .factor) (s .fits .factor))) (s .pre .1),
+      subst (λ (z : ℤ). natAbs z ≤ factorMost) (sym (toZ-ofZ w64 (a .factor) (s .fits .factor))) (s .pre .1),
     )
 
 returns : tie.Need-returns

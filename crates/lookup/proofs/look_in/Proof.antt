@@ -6,12 +6,11 @@ use lib.IntN.{ℤ, natAbs}
 use mir.Syntax.{w64}
 use mir.Val.{toZ, ofZ}
 use mir.ValLaws.{toZ-ofZ}
-use Rattle.judge.specs.Flat.{Sided}
-use Rattle.judge.proofs.Accepted.{accepted, accepted-head}
+use Rattle.group.specs.Numbers.{dayFits, factorMost}
+use Rattle.flat.specs.Lists.{Sided, Framed}
+use Rattle.judge.proofs.Accepted.{accepted, accepted-head, accepted-measured}
 use Rattle.day.specs.Day.{factorOf}
 use Rattle.day.proofs.DayLaws.{factor-bound}
-use Rattle.lookup.specs.Lookup.{dayFits}
-use Rattle.lookup.specs.Flat.{Framed}
 use Rattle.lookup.proofs.BridgeLaws.{laid, flat-fix}
 use borrow.Author.Needs.{needs}
 use Rattle.lookup.proofs.look_in.Statement.{statement}
@@ -24,7 +23,7 @@ slice-aggregate-fill-sides-2 : tie.Need-slice-aggregate-fill-sides-2
 slice-aggregate-fill-sides-2 c = search needs
 
 fill-sides-requires : tie.Need-fill-sides-requires
-fill-sides-requires c κs = search needs
+fill-sides-requires c κs = let s = c .before .before in (accepted-measured (s .args .group) (s .pre .accepted), omega arith, omega arith)
 
 slice-aggregate-fill-frames : tie.Need-slice-aggregate-fill-frames
 slice-aggregate-fill-frames c = search needs
@@ -54,11 +53,11 @@ module _ (c : tie.After-lat-from-least) where
   abbrev entry : tie.Start
   entry = c .before .before .before .before .before .before .before .before .before .before .before .before
 
-  sided : Sided (entry .args .group) (c .before .before .before .before .before .before .before .before .before .fill-sides .last .1 .0) (c .before .before .before .before .before .before .before .before .before .fill-sides .last .1 .1 .0)
-  sided = c .before .before .before .before .before .before .before .before .before .fill-sides .ensures
+  sided : Sided (entry .args .group) (entry .args .group .grids) (c .before .before .before .before .before .before .before .before .before .fill-sides .last .1 .0) (c .before .before .before .before .before .before .before .before .before .fill-sides .last .1 .1 .0)
+  sided = c .before .before .before .before .before .before .before .before .before .fill-sides .ensures .0
 
   framed : Framed (entry .args .group) (entry .args .group .grids) (c .before .before .before .before .before .fill-frames .last .1 .0)
-  framed = c .before .before .before .before .before .fill-frames .ensures
+  framed = c .before .before .before .before .before .fill-frames .ensures .0
 
   factor : toZ w64 (ofZ w64 (c .before .before .day-factor .result)) ≡ factorOf (entry .args .group .ramp) (entry .args .group .ramps) (entry .args .day)
   factor =
@@ -80,7 +79,7 @@ look-flat-requires c κs =
     let n = accepted-head g (s .pre .accepted) .grids in (
       laid g (s .args .nodes .now) (s .args .point) (s .args .day) (s .pre) _ _ _ (sided q) (framed q) (q .before .lon-from-least .ensures) (q .lat-from-least .ensures)
           (omega (arith, q .before .before .before .before .before .before .before .before .before .fill-sides .kept .1 .0)) (omega (arith, q .before .before .before .before .before .before .before .before .before .fill-sides .kept .1 .1 .0)) (omega (arith, q .before .before .before .before .before .fill-frames .kept .1 .0)),
-      subst (λ (z : ℤ). natAbs z ≤ 80000000) (sym (factor q))
+      subst (λ (z : ℤ). natAbs z ≤ factorMost) (sym (factor q))
           (factor-bound (g .ramp) (s .args .day) (g .ramps) (accepted-head g (s .pre .accepted) .ramps) (accepted g (s .pre .accepted) .ramp)),
     )
 

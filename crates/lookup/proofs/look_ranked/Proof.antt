@@ -1,12 +1,14 @@
 -- `look_ranked` meets its contract.
 use Prim.Native.Nat.{_≤_}
-use mathlib.Core.Path.{_≡_, sym, _∙_, subst}
+use mathlib.Core.Path.{sym, _∙_, subst}
 use lib.IntN.{ℤ, natAbs}
 use lib.ListN.{length}
 use mir.Syntax.{w64}
 use mir.ValLaws.{toZ-ofZ}
+use Rattle.group.specs.Numbers.{factorMost}
 use Rattle.lookup.specs.Lookup.{fixAt}
-use Rattle.lookup.specs.Flat.{frameAt, placeIn}
+use Rattle.flat.specs.Frames.{frameAt}
+use Rattle.lookup.specs.Flat.{placeIn}
 use Rattle.lookup.proofs.ChosenLaws.{rows-chosen}
 use borrow.Author.Needs.{needs}
 use Rattle.lookup.proofs.look_ranked.Statement.{statement}
@@ -22,7 +24,7 @@ fix-chosen-requires : tie.Need-fix-chosen-requires
 fix-chosen-requires c κs =
     let s = entry c in let a = s .args in (
       rows-chosen (a .rows .now) (a .owners .now) (a .frames .now) (a .count) (a .np) (length (a .nodes .now)) (a .x) (a .y) (s .pre .0) (c .first-holder .result) (c .first-holder .ensures),
-      subst (λ (z : ℤ). natAbs z ≤ 80000000) (sym (toZ-ofZ w64 (a .factor) (s .fits .factor))) (s .pre .1),
+      subst (λ (z : ℤ). natAbs z ≤ factorMost) (sym (toZ-ofZ w64 (a .factor) (s .fits .factor))) (s .pre .1),
     )
 
 returns : tie.Need-returns

@@ -15,6 +15,7 @@ use Rattle.numbers.proofs.FirstLaws.{first-le}
 use Rattle.group.specs.Refusals.{refusal}
 use Rattle.nodes.specs.declared.Loaded.{Loaded}
 use Rattle.nodes.specs.declared.Loaded.the-variants.{Done, Refused}
+use Rattle.group.specs.Numbers.{quantumMost}
 use Rattle.nodes.specs.Load.{refused, nodeOf, firstRefused, loaded, loadedRefusal, nodesAfter}
 use Rattle.nodes.proofs.load_nodes.Statement.{statement}
 use Rattle.nodes.proofs.load_nodes.Tie as tie
@@ -25,21 +26,21 @@ module _ (q : ℕ) (flag : Float) (floats : List Float) (nodes : List ℤ) where
   unfolding nodesAfter
   answered r e = (e, ap (λ (l : Loaded). cond (eqb (loadedRefusal l .number) 0) (map (nodeOf q flag) floats) nodes) e)
 
-  by-quantum : 20 < q → Refused (refusal 2 0) ≡ loaded q flag floats (length nodes)
+  by-quantum : quantumMost < q → Refused (refusal 2 0) ≡ loaded q flag floats (length nodes)
   unfolding loaded
-  by-quantum h = rw (lt-ltb 20 q h)
+  by-quantum h = rw (lt-ltb quantumMost q h)
 
-  by-count : q ≤ 20 → (length floats ≡ length nodes → ⊥) → Refused (refusal 12 0) ≡ loaded q flag floats (length nodes)
+  by-count : q ≤ quantumMost → (length floats ≡ length nodes → ⊥) → Refused (refusal 12 0) ≡ loaded q flag floats (length nodes)
   unfolding loaded
-  by-count h n = rw (le-ltb 20 q h, ne-eqb (length floats) (length nodes) n)
+  by-count h n = rw (le-ltb quantumMost q h, ne-eqb (length floats) (length nodes) n)
 
-  by-float : (i : ℕ) → i ≡ firstRefused q flag floats → q ≤ 20 → length floats ≡ length nodes → i < length floats → Refused (refusal 11 (i + 1)) ≡ loaded q flag floats (length nodes)
+  by-float : (i : ℕ) → i ≡ firstRefused q flag floats → q ≤ quantumMost → length floats ≡ length nodes → i < length floats → Refused (refusal 11 (i + 1)) ≡ loaded q flag floats (length nodes)
   unfolding loaded
-  by-float i f h e l = rw (le-ltb 20 q h, eq-eqb (length floats) (length nodes) e, ← f, lt-ltb i (length floats) l, add-one)
+  by-float i f h e l = rw (le-ltb quantumMost q h, eq-eqb (length floats) (length nodes) e, ← f, lt-ltb i (length floats) l, add-one)
 
-  by-none : (i : ℕ) → i ≡ firstRefused q flag floats → q ≤ 20 → length floats ≡ length nodes → length floats ≤ i → Done ≡ loaded q flag floats (length nodes)
+  by-none : (i : ℕ) → i ≡ firstRefused q flag floats → q ≤ quantumMost → length floats ≡ length nodes → length floats ≤ i → Done ≡ loaded q flag floats (length nodes)
   unfolding loaded
-  by-none i f h e l = rw (le-ltb 20 q h, eq-eqb (length floats) (length nodes) e, ← f, le-ltb i (length floats) l)
+  by-none i f h e l = rw (le-ltb quantumMost q h, eq-eqb (length floats) (length nodes) e, ← f, le-ltb i (length floats) l)
 
 -- where no index is found, all floats are passed
 all-passed : (q : ℕ) (flag : Float) (floats : List Float) (i : ℕ) → i ≡ firstRefused q flag floats → length floats ≤ i → firstRefused q flag floats ≡ length floats

@@ -5,6 +5,7 @@ use native.Mathlib.Omega.{arith}
 use lib.Dec.{T, ltb}
 use lib.Ieee.{Float, isNan}
 use borrow.Author.Needs.{needs}
+use Rattle.group.specs.Numbers.{valueMost}
 use Rattle.nodes.specs.Load.{refused}
 use Rattle.nodes.specs.Size.{sizeOf}
 use Rattle.nodes.proofs.Marks.{Read, unmarked}
@@ -36,7 +37,7 @@ returns-2 : tie.Need-returns-2
 returns-2 c =
     let e = c .before in
     let a = e .before .before .args in
-    ap (ltb 4000000) (c .size .ensures ∙ ap (sizeOf (a .q)) (read e .back))
+    ap (ltb valueMost) (c .size .ensures ∙ ap (sizeOf (a .q)) (read e .back))
     ∙ refused-size (a .q) (a .flag) (a .x) (sym (e .before .marked .ensures) ∙ e .if1 .left)
 
 pub refuses-spec : {M : Type 1} → statement M

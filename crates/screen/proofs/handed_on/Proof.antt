@@ -1,5 +1,5 @@
 -- `handed_on`: a number of the table, or 2.
-use mathlib.Core.Path.{_≡_, sym, ap, _∙_}
+use mathlib.Core.Path.{sym, ap, _∙_}
 use mathlib.Core.Bool.{Bool, cond}
 use Rattle.group.specs.Refusals.{refusal}
 use Rattle.screen.proofs.handed_on.Statement.{statement}

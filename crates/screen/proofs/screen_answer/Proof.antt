@@ -10,6 +10,7 @@ use borrow.Author.Needs.{needs}
 use borrow.Author.Tests.{leb-true, not-true, not-false}
 use Rattle.numbers.proofs.Bools.{and-left}
 use Rattle.group.specs.declared.Refusal.{Refusal}
+use Rattle.group.specs.Numbers.{quantumMost, parametersMost}
 use Rattle.fix.specs.declared.Fix.{Fix}
 use Rattle.fix.specs.declared.Lookup.{Lookup}
 use Rattle.fix.specs.declared.Lookup.the-variants as lookup
@@ -40,8 +41,8 @@ module _ (q np : ℕ) (found : Lookup) where
   is-refused r s h e t = rw t (is-shown (lookup.Refused r) h e)
 
 -- an admitted quantum
-quantum-limit : (q np : ℕ) → admitted q np ≡ true → q ≤ 20
-quantum-limit q np h = leb-true q 20 (and-left (leb q 20) (leb 1 np && leb np 3) h)
+quantum-limit : (q np : ℕ) → admitted q np ≡ true → q ≤ quantumMost
+quantum-limit q np h = leb-true q quantumMost (and-left (leb q quantumMost) (leb 1 np && leb np parametersMost) h)
 
 admits-requires : tie.Need-admits-requires
 admits-requires c κs = search needs
@@ -58,7 +59,7 @@ enum-known-found c = search needs
 within : (c : tie.Else1) → admitted (c .before .before .args .quantum) (c .before .before .args .parameters) ≡ true
 within c = sym (c .before .admits .ensures) ∙ not-false _ (c .if1 .left)
 
-limit : (c : tie.Else1) → c .before .before .args .quantum ≤ 20
+limit : (c : tie.Else1) → c .before .before .args .quantum ≤ quantumMost
 limit c = quantum-limit (c .before .before .args .quantum) (c .before .before .args .parameters) (within c)
 
 shown-shift-requires : tie.Need-shown-shift-requires

@@ -1,5 +1,4 @@
---
-use Prim.Native.Nat.{_-_}
+-- `read_natural` meets its contract.
 use mathlib.Core.Path.{_≡_, sym, ap, _∙_}
 use mathlib.Core.Logic.{⊎-elim}
 use native.Mathlib.Omega.{arith}

@@ -1,0 +1,5 @@
+-- What the contracts of `flat` cite.
+pub mod Rects
+pub mod Frames
+pub mod Lists
+pub mod Order

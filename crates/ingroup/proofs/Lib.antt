@@ -1,0 +1,3 @@
+-- The laws of the choice in a group, and of the order by rank.
+pub mod InGroupLaws
+pub mod RankLaws

@@ -1,0 +1,11 @@
+-- The grid of a group chosen at a point: of those whose extent holds it, the one with the lowest rank number.
+use Prim.Native.Nat.{ℕ}
+use lib.IntN.{ℤ}
+use Rattle.group.specs.declared.Group.{Group}
+use Rattle.group.specs.Record.{gridAt}
+use Rattle.extent.specs.Extent.{holds}
+use Rattle.choice.specs.Choice.{chosen}
+
+-- the number, from 1, of the grid chosen at longitude x and latitude y; 0 if no grid holds the point
+unfoldable pub chosenIn : Group → ℤ → ℤ → ℕ
+chosenIn g x y = chosen (λ k. holds (gridAt g k) x y) (λ k. gridAt g k .rank) (g .grids)

@@ -1,0 +1,2 @@
+-- The choice in a group.
+pub mod InGroup
