@@ -3,7 +3,7 @@
 # make demo     the examples through the command line
 # make check    the quick round: every crate proved and every program run, without the must-fail edits
 # make test     the gate: every test there is
-# make bench    times against plain Rust
+# make bench    times against plain C and plain Rust, and instructions where valgrind is installed
 # make clean    removes build/ and target/: the next make proves every crate anew
 # make help     this list
 .PHONY: all library programs demo check test bench clean help tools always
@@ -52,6 +52,7 @@ test: | tools
 
 bench: all
 	@build/bench
+	@if command -v valgrind > /dev/null; then echo; build/bench --instructions; else echo 'make: no valgrind: instructions are not counted'; fi
 
 clean:
 	@rm -rf build target

@@ -1,53 +1,82 @@
-//! Groups of 64 grids: layouts that make the grids in force hard to find.
+//! Groups of up to 64 grids: layouts that make the grids in force hard to find.
 
-use interface::{Grid, Group, Name};
+use interface::{Calls, Grid, Group, Name};
 
-/// Sides of a grid of 2 by 2 nodes or more: west, south, width, height in milliarcseconds.
-type Rectangle = [i64; 4];
+/// A grid of 3 by 3 nodes: its west and south side, its width and height, both even, in milliarcseconds, and its rank.
+#[derive(Clone, Copy)]
+pub struct Rectangle {
+    pub west: i64,
+    pub south: i64,
+    pub width: i64,
+    pub height: i64,
+    pub rank: i64,
+}
 
-/// A group of these rectangles, the earlier ones ranking better.
-fn group(rectangles: impl IntoIterator<Item = Rectangle>) -> Group {
+/// The group of these rectangles.
+pub fn group(rectangles: &[Rectangle]) -> Group {
     let mut record = Group { name: Name::new(b"layout"), parameters: 2, quantum: 10, ..Group::default() };
-    for (k, [west, south, width, height]) in rectangles.into_iter().enumerate() {
-        record.grid[k] = Grid {
-            name: Name::new(format!("grid-{k}").as_bytes()),
-            lon: west,
-            lat: south,
-            dlon: width / 2,
-            dlat: height / 2,
-            ni: 3,
-            nj: 3,
-            rank: k as i64 + 1,
-            start: k as i64 * 18,
-        };
-        record.grids = k as i64 + 1;
+    for (k, &Rectangle { west, south, width, height, rank }) in rectangles.iter().enumerate() {
+        let name = Name::new(format!("grid-{k}").as_bytes());
+        let (dlon, dlat, start) = (width / 2, height / 2, k as i64 * 18);
+        record.grid[k] = Grid { name, lon: west, lat: south, dlon, dlat, ni: 3, nj: 3, rank, start };
     }
+    record.grids = rectangles.len() as i64;
     record
+}
+
+/// The rectangles of these west and south sides, widths and heights, the earlier ones ranking better.
+fn ranked(rectangles: impl IntoIterator<Item = [i64; 4]>) -> Vec<Rectangle> {
+    let one = |(rank, [west, south, width, height]): (i64, [i64; 4])| Rectangle { west, south, width, height, rank };
+    (1..).zip(rectangles).map(one).collect()
 }
 
 /// 63 tiles, 9 by 7, that wholly hide a grid beneath them.
 pub fn hidden() -> Group {
     let tiles = (0..63).map(|k| [k % 9 * 1_000, k / 9 * 1_000, 1_000, 1_000]);
-    group(tiles.chain([[0, 0, 9_000, 7_000]]))
+    group(&ranked(tiles.chain([[0, 0, 9_000, 7_000]])))
 }
 
 /// The same tiles a step apart, so that the grid beneath shows in the narrow lanes only.
 pub fn lanes() -> Group {
     let tiles = (0..63).map(|k| [k % 9 * 1_000, k / 9 * 1_000, 998, 998]);
-    group(tiles.chain([[0, 0, 9_000, 7_000]]))
+    group(&ranked(tiles.chain([[0, 0, 9_000, 7_000]])))
 }
 
 /// Squares within squares, the smallest best.
 pub fn nested() -> Group {
-    group((0..64).map(|k| [-10 * k, -10 * k, 20 * k + 20, 20 * k + 20]))
+    group(&ranked((0..64).map(|k| [-10 * k, -10 * k, 20 * k + 20, 20 * k + 20])))
 }
 
 /// Long bars, every second one across, each hiding much of the later ones.
 pub fn crossed() -> Group {
-    group((0..64).map(|k| if k % 2 == 0 { [k * 100, 0, 120, 10_000] } else { [0, k * 100, 10_000, 120] }))
+    group(&ranked((0..64).map(|k| if k % 2 == 0 { [k * 100, 0, 120, 10_000] } else { [0, k * 100, 10_000, 120] })))
 }
 
 /// Steps that rise to the east, each over the foot of the next.
 pub fn stairs() -> Group {
-    group((0..64).map(|k| [k * 50, k * 50, 2_000, 2_000]))
+    group(&ranked((0..64).map(|k| [k * 50, k * 50, 2_000, 2_000])))
+}
+
+/// The bricks of a wall of two courses over one base, listed from east to west. No two of the lower course end in the same
+/// row, so that the base is looked for in as many rows as there are bricks in a course.
+pub fn bricks() -> Group {
+    group(&wall())
+}
+
+/// The rectangles of `bricks`.
+pub fn wall() -> Vec<Rectangle> {
+    const ACROSS: i64 = 31;
+    let courses = (0..ACROSS).rev().flat_map(|k| {
+        let joint = 1_000 + 10 * (k * 7 % ACROSS);
+        [[k * 100, 0, 100, joint], [k * 100, joint, 100, 3_000 - joint]]
+    });
+    ranked(courses.chain([[0, 0, ACROSS * 100, 3_000]]))
+}
+
+/// The worst layout that `bench --search` has found, as it printed it.
+pub fn annealed() -> Group {
+    let (mut group, mut place) = (Group::default(), 0);
+    let number = plain::Plain.read_header(include_bytes!("../layouts/annealed.header"), &mut group, &mut place);
+    assert_eq!((number, place), (0, 0), "the layout is an accepted header");
+    group
 }

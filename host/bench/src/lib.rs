@@ -1,64 +1,87 @@
-//! The benchmark: each work as a ratio of the library's time to that of plain, unproved Rust in the same run.
+//! The benchmark: what each work takes by plain C, by plain Rust and by the library, and a search for layouts that are hard on it.
 
+mod back_end;
+mod count;
 mod layouts;
 mod measure;
+#[cfg(plain_c)]
+mod plain_c;
+mod rows;
+mod search;
+mod table;
 mod work;
 mod works;
 
+#[cfg(plain_c)]
+pub use plain_c::PlainC;
+
 use interface::Calls;
-use measure::{Pair, measure};
-use plain::Plain;
 use std::process::ExitCode;
-use std::time::Duration;
+use table::Measure;
 
 const HELP: &str = "\
-usage: bench
+usage: bench [--instructions]
+       bench --search SECONDS [--seed SEED]
 
-Times the library and plain Rust on the same work, in turn, and prints the best
-time of each and their ratio as a Markdown table.
+Does the same work by plain C, by plain Rust and by the library and prints a
+Markdown table: the best time of each of several runs, in turn, and the
+library's as a multiple of the others'. Where answers differ nothing is timed.
+
+  --instructions    count instructions by callgrind (valgrind) in place of time
+  --search SECONDS  look for a layout of grids in force that takes the library
+                    long beside the faster plain version; prints its header
+  --seed SEED       another search (a whole number, 0 unless given)
 ";
 
 /// Runs the command line over the library's calls.
 pub fn main(library: &dyn Calls) -> ExitCode {
     let words: Vec<String> = std::env::args().skip(1).collect();
-    match words.as_slice() {
-        [] => {}
-        [word] if word == "--help" => {
+    let words: Vec<&str> = words.iter().map(String::as_str).collect();
+    let done = match words.as_slice() {
+        [] => print_table(library, Measure::Time),
+        ["--instructions"] => print_table(library, Measure::Instructions),
+        ["--counted", row, back_end] => counted(library, row, back_end),
+        ["--search", seconds] => search(library, seconds, "0"),
+        ["--search", seconds, "--seed", seed] => search(library, seconds, seed),
+        ["--help" | "-h"] => {
             print!("{HELP}");
-            return ExitCode::SUCCESS;
+            Ok(())
         }
-        _ => {
-            eprint!("bench: takes no arguments\n\n{HELP}");
-            return ExitCode::from(2);
-        }
-    }
-    println!("| work | plain Rust | library | ratio |");
-    println!("|---|---:|---:|---:|");
-    let mut same = true;
-    for work in works::all() {
-        match measure(&work, &Plain, library) {
-            Some(pair) => println!("{}", row(work.name, pair)),
-            None => {
-                same = false;
-                println!("| {} | the answers differ | | |", work.name);
-            }
+        _ => Err(format!("these arguments are not known\n\n{HELP}")),
+    };
+    match done {
+        Ok(()) => ExitCode::SUCCESS,
+        Err(why) => {
+            eprintln!("bench: {why}");
+            ExitCode::from(2)
         }
     }
-    ExitCode::from(u8::from(!same))
 }
 
-/// A row of the table.
-fn row(name: &str, Pair { plain, library }: Pair) -> String {
-    let ratio = library.as_secs_f64() / plain.as_secs_f64();
-    format!("| {name} | {} | {} | {ratio:.2} |", shown(plain), shown(library))
+fn print_table(library: &dyn Calls, measure: Measure) -> Result<(), String> {
+    let back_ends = back_end::all(library);
+    if !cfg!(plain_c) {
+        eprintln!("bench: built without a C compiler: there is no plain C to compare with");
+    }
+    table::print_head(&back_ends);
+    for (index, row) in rows::all(rows::WHOLE).iter().enumerate() {
+        table::print_row(index, row, measure, &back_ends)?;
+    }
+    Ok(())
 }
 
-/// A time with three digits or so.
-fn shown(time: Duration) -> String {
-    let seconds = time.as_secs_f64();
-    match seconds {
-        s if s < 1e-3 => format!("{:.2} µs", s * 1e6),
-        s if s < 1.0 => format!("{:.2} ms", s * 1e3),
-        s => format!("{s:.2} s"),
-    }
+/// The run that callgrind watches.
+fn counted(library: &dyn Calls, row: &str, back_end: &str) -> Result<(), String> {
+    let rows = rows::all(rows::WHOLE);
+    let row = row.parse().ok().and_then(|k: usize| rows.get(k)).ok_or("no such row")?;
+    let back_ends = back_end::all(library);
+    let back_end = back_end.parse().ok().and_then(|k: usize| back_ends.get(k)).ok_or("no such back end")?;
+    count::run(&mut *(row.make)(), back_end);
+    Ok(())
+}
+
+fn search(library: &dyn Calls, seconds: &str, seed: &str) -> Result<(), String> {
+    let seconds = seconds.parse().map_err(|_| format!("{seconds} is no count of seconds"))?;
+    let seed = seed.parse().map_err(|_| format!("{seed} is no seed"))?;
+    search::search(&back_end::all(library), seconds, seed)
 }

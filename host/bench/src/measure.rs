@@ -1,37 +1,38 @@
-//! Best times of two back ends on the same work, run in turn.
+//! Answers and best times of all back ends on the same work, run in turn.
 
-use crate::work::Work;
-use interface::Calls;
-use std::hint::black_box;
+use crate::back_end::BackEnd;
+use crate::work::{Row, Work};
 use std::time::{Duration, Instant};
 
 /// Timed runs of each back end; the best counts.
-const RUNS: usize = 9;
+pub const RUNS: usize = 25;
 
-/// Best times for one piece of work.
-pub struct Pair {
-    pub plain: Duration,
-    pub library: Duration,
+/// What each back end answers, over inputs and lent memory of its own.
+pub fn answers(row: &Row, back_ends: &[BackEnd]) -> Vec<Vec<i64>> {
+    let answer = |back_end| {
+        let mut work = (row.make)();
+        work.run(back_end);
+        work.answer()
+    };
+    back_ends.iter().map(answer).collect()
 }
 
-/// Times a work on both, or answers none if they do not answer alike.
-pub fn measure(work: &Work, plain: &dyn Calls, library: &dyn Calls) -> Option<Pair> {
-    if (work.run)(plain) != (work.run)(library) {
-        return None;
+/// The best time of each back end for the work once.
+pub fn best_times(work: &mut dyn Work, repeats: u32, runs: usize, back_ends: &[BackEnd]) -> Vec<Duration> {
+    let mut best = vec![Duration::MAX; back_ends.len()];
+    for _ in 0..runs {
+        for (best, back_end) in best.iter_mut().zip(back_ends) {
+            *best = timed(work, repeats, back_end).min(*best);
+        }
     }
-    let mut best = Pair { plain: Duration::MAX, library: Duration::MAX };
-    for _ in 0..RUNS {
-        best.plain = best.plain.min(timed(work, plain));
-        best.library = best.library.min(timed(work, library));
-    }
-    Some(best)
+    best
 }
 
-/// The time of one piece of work, over its repeats.
-fn timed(work: &Work, calls: &dyn Calls) -> Duration {
+/// The time of the work once, over its repeats.
+fn timed(work: &mut dyn Work, repeats: u32, back_end: &BackEnd) -> Duration {
     let start = Instant::now();
-    for _ in 0..work.repeats {
-        black_box((work.run)(calls));
+    for _ in 0..repeats {
+        work.run(back_end);
     }
-    start.elapsed() / work.repeats
+    start.elapsed() / repeats
 }

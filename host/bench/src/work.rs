@@ -1,16 +1,21 @@
 //! A piece of work that any back end can do.
 
-use interface::Calls;
+use crate::back_end::BackEnd;
 
-/// What a work leaves: its numbers, to be compared before anything is timed.
-pub type Answer = Vec<i64>;
+/// Work over inputs and lent outputs that are made beforehand, so that nothing but the calls is timed.
+pub trait Work {
+    /// Does the work by the calls of a back end.
+    fn run(&mut self, back_end: &BackEnd);
 
-/// Does the work by the calls of a back end.
-pub type Run = Box<dyn Fn(&dyn Calls) -> Answer>;
+    /// What the last run left, as numbers.
+    fn answer(&self) -> Vec<i64>;
+}
 
-pub struct Work {
+/// A row of the table.
+pub struct Row {
     pub name: &'static str,
     /// How often the work is done in one timed run.
     pub repeats: u32,
-    pub run: Run,
+    /// Makes the work's inputs.
+    pub make: Box<dyn Fn() -> Box<dyn Work>>,
 }

@@ -1,0 +1,120 @@
+/* The reader of a header text: one pass over its bytes. */
+#include "plain.h"
+
+#include <string.h>
+
+/* A number is cut here, beyond every limit. */
+#define CUT 100000000000000000
+
+/* What is left of the text, and whether every field so far was well formed. */
+typedef struct {
+    const uint8_t *at, *end;
+    int good;
+} cursor;
+
+/* Takes these bytes. */
+static void word(cursor *c, const char *bytes)
+{
+    size_t length = strlen(bytes);
+    if (c->good && (size_t)(c->end - c->at) >= length && memcmp(c->at, bytes, length) == 0)
+        c->at += length;
+    else
+        c->good = 0;
+}
+
+/* Takes a name and the tab behind it. */
+static void name(cursor *c, uint8_t *bytes, int64_t *length)
+{
+    int64_t n = 0;
+    while (c->at < c->end && plain_name_byte[*c->at] && n < BULHYEMIK_NAME_BYTES)
+        bytes[n++] = *c->at++;
+    *length = n;
+    c->good &= n > 0;
+    word(c, "\t");
+}
+
+/* Takes a number and the byte behind it. */
+static int64_t number(cursor *c, uint8_t behind)
+{
+    const uint8_t *at = c->at, *first;
+    int64_t size = 0;
+    int below = at < c->end && *at == '-';
+    at += below;
+    for (first = at; at < c->end && (uint8_t)(*at - '0') < 10; at++) {
+        size = size * 10 + (*at - '0');
+        if (size > CUT)
+            size = CUT;
+    }
+    c->good &= at > first && (*first != '0' || (at == first + 1 && !below)) && at < c->end && *at == behind;
+    c->at = at + (at < c->end);
+    return below ? -size : size;
+}
+
+static void group_line(cursor *c, bulhyemik_group *group)
+{
+    word(c, "group\t");
+    name(c, group->name, &group->name_length);
+    group->unit = c->at < c->end && *c->at == 'm';
+    word(c, group->unit ? "metre\t" : "arc-second\t");
+    group->quantum = number(c, '\t');
+    group->parameters = number(c, '\t');
+    group->ramps = number(c, '\t');
+    group->grids = number(c, '\n');
+}
+
+static void ramp_line(cursor *c, bulhyemik_ramp *r)
+{
+    word(c, "ramp\t");
+    r->a = number(c, '\t');
+    r->s0 = number(c, '\t');
+    r->b = number(c, '\t');
+    r->s1 = number(c, '\n');
+}
+
+static void grid_line(cursor *c, bulhyemik_grid *g)
+{
+    word(c, "grid\t");
+    name(c, g->name, &g->name_length);
+    g->lon = number(c, '\t');
+    g->lat = number(c, '\t');
+    g->dlon = number(c, '\t');
+    g->dlat = number(c, '\t');
+    g->ni = number(c, '\t');
+    g->nj = number(c, '\t');
+    g->rank = number(c, '\t');
+    g->start = number(c, '\n');
+}
+
+uint64_t plain_read_header(const uint8_t *text, size_t text_len, bulhyemik_group *group, uint64_t *place)
+{
+    bulhyemik_group read;
+    plain_sides sides[BULHYEMIK_MOST_GRIDS];
+    cursor c;
+    int64_t line = 1, k;
+    uint64_t number;
+    if (text_len == 0)
+        return refused(1, 1, place);
+    c.at = text, c.end = text + text_len, c.good = 1;
+    memset(&read, 0, sizeof read);
+    group_line(&c, &read);
+    if (!c.good || !plain_head_within(&read))
+        return refused(c.good ? 2 : 1, line, place);
+    for (k = 0; k < read.ramps; k++) {
+        line++;
+        ramp_line(&c, &read.ramp[k]);
+        if (!c.good || !plain_ramp_within(&read.ramp[k]))
+            return refused(c.good ? 2 : 1, line, place);
+    }
+    for (k = 0; k < read.grids; k++) {
+        line++;
+        grid_line(&c, &read.grid[k]);
+        if (!c.good || !plain_grid_within(&read.grid[k]))
+            return refused(c.good ? 2 : 1, line, place);
+    }
+    if (c.at < c.end)
+        return refused(1, line + 1, place);
+    number = plain_sound(&read, sides, place);
+    if (number == 0)
+        *group = read;
+    return number;
+}

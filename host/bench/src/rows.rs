@@ -1,0 +1,108 @@
+//! The rows of the table: which work is done on which inputs.
+
+use crate::back_end::Position;
+use crate::layouts;
+use crate::work::{Row, Work};
+use crate::works::{InForceEverywhere, Judge, Load, Lookups, Read, Write};
+use interface::{Calls, Grid, Group, HEADER_BYTES, Name};
+
+/// How many points, digits and floats the long works have.
+#[derive(Clone, Copy)]
+pub struct Sizes {
+    pub points: i64,
+    pub digits: usize,
+    pub floats: usize,
+}
+
+/// The table's sizes.
+pub const WHOLE: Sizes = Sizes { points: 10_000, digits: 1_000_000, floats: 1 << 24 };
+
+/// One grid of 1,000 by 1,000 nodes with two parameters and two ramps.
+fn one_grid() -> Group {
+    let mut record =
+        Group { name: Name::new(b"one"), parameters: 2, quantum: 10, ramps: 2, grids: 1, ..Group::default() };
+    for (k, ramp) in record.ramp[..2].iter_mut().enumerate() {
+        (ramp.b, ramp.s0, ramp.s1) = (1_000 + k as i64, 1_000_000, 2_000_000);
+    }
+    record.grid[0] =
+        Grid { name: Name::new(b"sea"), dlon: 3_600, dlat: 3_600, ni: 1_000, nj: 1_000, rank: 1, ..Grid::default() };
+    record
+}
+
+/// A track of steps of this width to the east and less to the north, begun again at the edge of a square of 1,000 steps.
+fn track(count: i64, step: i64) -> Vec<Position> {
+    let at = |k| Position { lon: k * step % (1_000 * step), lat: k * (step * 5 / 8) % (1_000 * step), day: k / 5 };
+    (1..=count).map(at).collect()
+}
+
+/// The text of a group's header, as plain Rust writes it.
+pub fn text(group: &Group) -> Vec<u8> {
+    let (mut out, mut count, mut place) = (vec![0; HEADER_BYTES], 0, 0);
+    plain::Plain.write_header(group, &mut out, &mut count, &mut place);
+    out.truncate(count as usize);
+    out
+}
+
+/// A header whose first line has a number of so many digits.
+fn digits(count: usize) -> Vec<u8> {
+    [b"group\tdock\tmetre\t", "7".repeat(count).as_bytes(), b"\t1\t0\t1\n"].concat()
+}
+
+fn floats(count: usize) -> Vec<f32> {
+    (0..count).map(|k| (k % 100_003) as f32 / 1_024.0 - 40.0).collect()
+}
+
+fn row<W: Work + 'static>(name: &'static str, repeats: u32, make: impl Fn() -> W + 'static) -> Row {
+    Row { name, repeats, make: Box::new(move || Box::new(make())) }
+}
+
+fn in_force(name: &'static str, layout: fn() -> Group) -> Row {
+    row(name, 20, move || InForceEverywhere::new(layout()))
+}
+
+/// Every row, in the order of the table.
+pub fn all(sizes: Sizes) -> Vec<Row> {
+    let Sizes { points, .. } = sizes;
+    vec![
+        row("judge of 64 grids", 100, || Judge::new(layouts::nested())),
+        row("one lookup, 1 grid", 500, || Lookups::new(one_grid(), track(1, 3_000), false)),
+        row("one lookup, 64 grids", 100, || Lookups::new(layouts::nested(), track(1, 1), false)),
+        row("10,000 lookups on a track, 1 grid", 1, move || Lookups::new(one_grid(), track(points, 3_000), false)),
+        row("10,000 lookups on a track, 64 grids", 1, move || Lookups::new(layouts::nested(), track(points, 1), false)),
+        row("a track of 10,000 points, 1 grid", 1, move || Lookups::new(one_grid(), track(points, 3_000), true)),
+        row("a track of 10,000 points, 64 grids", 1, move || Lookups::new(layouts::nested(), track(points, 1), true)),
+        in_force("grids in force, 63 tiles hide one grid", layouts::hidden),
+        in_force("grids in force, narrow lanes", layouts::lanes),
+        in_force("grids in force, squares in squares", layouts::nested),
+        in_force("grids in force, crossed bars", layouts::crossed),
+        in_force("grids in force, stairs", layouts::stairs),
+        in_force("grids in force, bricks from east to west", layouts::bricks),
+        in_force("grids in force, annealed", layouts::annealed),
+        row("read a header of 64 grids", 50, || Read::new(text(&layouts::nested()))),
+        row("write a header of 64 grids", 50, || Write::new(layouts::nested())),
+        row("read a line of a million digits", 1, move || Read::new(digits(sizes.digits))),
+        row("load 16 million floats", 1, move || Load::new(floats(sizes.floats))),
+    ]
+}
+
+#[cfg(test)]
+mod tests {
+    use super::{Sizes, all};
+    use crate::back_end;
+    use crate::measure::answers;
+    use reference::Reference;
+
+    /// Every work once, on small inputs: the plain versions answer as the second program does, and so that the work is done whole.
+    #[test]
+    fn every_back_end_answers_alike() {
+        let back_ends = back_end::all(&Reference);
+        for row in all(Sizes { points: 30, digits: 1_000, floats: 1_000 }) {
+            let answers = answers(&row, &back_ends);
+            for (answer, back_end) in answers.iter().zip(&back_ends) {
+                assert!(*answer == answers[0], "{}: {} differs from {}", row.name, back_end.name, back_ends[0].name);
+            }
+            let refused = if row.name.contains("digits") { 2 } else { 0 };
+            assert_eq!(answers[0][0], refused, "{}", row.name);
+        }
+    }
+}
