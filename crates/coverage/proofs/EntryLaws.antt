@@ -11,6 +11,7 @@ use lib.Seq.{set-append-seam, append-snoc, take-suc, length-take-le}
 use Rattle.numbers.specs.Lists.{at}
 use Rattle.region.specs.declared.Spot.{Spot}
 use Rattle.region.specs.declared.Spot.the-variants.{At, Nothing}
+use Rattle.coverage.specs.Layout.{entriesMost}
 use Rattle.coverage.specs.InForce.{entryOf, entriesOf, noEntry, filled, listed}
 use Rattle.coverage.specs.declared.Entry.{Entry}
 use Rattle.coverage.specs.declared.Listing.{Listing}
@@ -63,12 +64,12 @@ module _ (spot : ℕ → Spot) where
   entries-more (j ∷ ks) k = rw (entries-more ks k) (sym (append-assoc (entryOf j (spot j)) (entriesOf spot ks) (entryOf k (spot k))))
 
 -- one entry more in the place of the first unused one
-fill-more : (es : List Entry) (e : Entry) → length es < 64 → set (filled es) (length es) e ≡ filled (es ++ e ∷ [])
+fill-more : (es : List Entry) (e : Entry) → length es < entriesMost → set (filled es) (length es) e ≡ filled (es ++ e ∷ [])
 fill-more es e h =
     let k = 63 - length es in
     let n = length-append es (e ∷ []) in
-    let a : 64 - length es ≡ suc k = omega arith in
-    let b : 64 - length (es ++ e ∷ []) ≡ k = omega arith in
+    let a : entriesMost - length es ≡ suc k = omega arith in
+    let b : entriesMost - length (es ++ e ∷ []) ≡ k = omega arith in
     rw (a, b) (set-append-seam es noEntry (replicate k noEntry) e ∙ sym (append-snoc es e (replicate k noEntry)))
 
 -- the entries of these grids are written
@@ -98,7 +99,7 @@ module _ (spot : ℕ → Spot) (order : List ℕ) (k found : ℕ) (entries : Lis
         let q : entriesOf spot (take (k + 1) order) ≡ entriesOf spot (take k order) = rw (step, entries-more spot (take k order) (at order k), spot-is e) (append-nil (entriesOf spot (take k order))) in
         record { many = h .many ∙ ap length (sym q); same = h .same ∙ ap filled (sym q) }
 
-    pub shown-at : {x y : ℕ} → s ≡ At x y → k < 64 → Shown spot (take (k + 1) order) (found + 1) (set entries found (record { grid = at order k; lon = x; lat = y }))
+    pub shown-at : {x y : ℕ} → s ≡ At x y → k < entriesMost → Shown spot (take (k + 1) order) (found + 1) (set entries found (record { grid = at order k; lon = x; lat = y }))
     shown-at {x} {y} e m =
         let es = entriesOf spot (take k order) in
         let f : Entry = record { grid = at order k; lon = x; lat = y } in
@@ -108,10 +109,10 @@ module _ (spot : ℕ → Spot) (order : List ℕ) (k found : ℕ) (entries : Lis
           same = rw (h .same, h .many) (fill-more es f (omega (arith, shown≤, h .many))) ∙ ap filled (sym q);
         }
 
--- what stands in each of the 64 places
+-- what stands in each of the places
 module _ (es : List Entry) where
   pub filled-used : (i : ℕ) → i < length es → getD (filled es) i noEntry ≡ getD es i noEntry
-  filled-used i l = List·getD-append es (replicate (64 - length es) noEntry) noEntry i l
+  filled-used i l = List·getD-append es (replicate (entriesMost - length es) noEntry) noEntry i l
 
-  pub filled-length : length es ≤ 64 → length (filled es) ≡ 64
-  filled-length l = omega (arith, length-append es (replicate (64 - length es) noEntry), length-replicate (64 - length es) noEntry)
+  pub filled-length : length es ≤ entriesMost → length (filled es) ≡ entriesMost
+  filled-length l = omega (arith, length-append es (replicate (entriesMost - length es) noEntry), length-replicate (entriesMost - length es) noEntry)

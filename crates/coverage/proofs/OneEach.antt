@@ -10,7 +10,7 @@ use Rattle.choice.specs.Rect.{holds, size}
 use Rattle.choice.specs.Choice.{chosen}
 use Rattle.choice.proofs.RectLaws.{holds-true, true-holds}
 use Rattle.choice.proofs.ChoiceLaws.{Apart, chosen-agree}
-use Rattle.coverage.specs.Layout.{Layout, gridHolds, chosenAt, Sound}
+use Rattle.coverage.specs.Layout.{entriesMost, Layout, gridHolds, chosenAt, Sound}
 use Rattle.coverage.proofs.GridLaws.{rect-grid, grid-rect}
 
 -- four sides, an owner and a rank for each grid
@@ -42,8 +42,8 @@ module _ (l : Layout) (one : OneEach l) where
       chosen-agree (λ g. gridHolds l g x y) (λ g. holds (l .rects) g x y) (at (l .ranks)) (at (l .ranks)) (length (l .ranks)) (λ g m. one-holds g x y (omega (arith, one .ranks))) (λ g m. refl)
       ∙ ap (chosen (λ g. holds (l .rects) g x y) (at (l .ranks))) (sym n)
 
-  -- at most 64 grids, of which no two that hold a point share a rank
-  pub one-sound : length (l .ranks) ≤ 64
+  -- at most as many grids as entries, of which no two that hold a point share a rank
+  pub one-sound : length (l .ranks) ≤ entriesMost
       → ((x y : ℕ) → Apart (λ g. holds (l .rects) g x y) (at (l .ranks)) (length (l .ranks))) → Sound l
   one-sound few apart =
       record {

@@ -8,7 +8,7 @@ use Rattle.numbers.specs.Lists.{at}
 use Rattle.region.specs.declared.Spot.{Spot}
 use Rattle.region.specs.declared.Spot.the-variants.{At, Nothing}
 use Rattle.region.specs.declared.Area.{Area}
-use Rattle.coverage.specs.Layout.{Layout, chosenAt, firstTaken}
+use Rattle.coverage.specs.Layout.{entriesMost, Layout, chosenAt, firstTaken}
 use Rattle.coverage.specs.declared.Entry.{Entry}
 use Rattle.coverage.specs.declared.Listing.{Listing}
 
@@ -31,9 +31,9 @@ inForceBy choose order a = entriesOf (firstTaken choose a) order
 abbrev pub inForce : Layout → List ℕ → Area → List Entry
 inForce l order a = inForceBy (chosenAt l) order a
 
--- at most 64 numbers, from 1, of n grids
+-- numbers, from 1, of n grids, at most as many as a list has entries
 pub record Numbers (n : ℕ) (order : List ℕ) : Type 0 where
-  pub few : length order ≤ 64
+  pub few : length order ≤ entriesMost
   pub each : (i : ℕ) → i < length order → (1 ≤ at order i) × (at order i ≤ n)
 
 -- an order of n grids: the number of each stands in it once, before those that it comes before
@@ -47,9 +47,9 @@ pub record Ordered (Before : ℕ → ℕ → Type 0) (n : ℕ) (order : List ℕ
 abbrev pub noEntry : Entry
 noEntry = record { grid = 0; lon = 0; lat = 0 }
 
--- 64 entries, of which the unused ones are zero
+-- all entries, of which the unused ones are zero
 abbrev pub filled : List Entry → List Entry
-filled es = es ++ replicate (64 - length es) noEntry
+filled es = es ++ replicate (entriesMost - length es) noEntry
 
 -- a list as it is handed back
 abbrev pub listed : List Entry → Listing

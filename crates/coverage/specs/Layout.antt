@@ -13,6 +13,13 @@ use Rattle.region.specs.First.{firstIn}
 use Rattle.region.specs.declared.Area.{Area}
 use Rattle.region.specs.declared.Spot.{Spot}
 
+-- the most grids, and so entries of a list, and the most rectangles, three for each
+abbrev pub entriesMost : ℕ
+entriesMost = 64
+
+abbrev pub rectsMost : ℕ
+rectsMost = entriesMost * 3
+
 -- the four sides of each rectangle and its owner, a grid counted from 0; the rank number of each grid
 pub record Layout : Type 0 where
   pub rects : List ℕ
@@ -44,9 +51,9 @@ firstChosen l a k = firstTaken (chosenAt l) a k
 -- what the lists of an accepted group have
 pub record Sound (l : Layout) : Type 0 where
   pub sides : length (l .rects) ≡ 4 * length (l .owners)
-  pub few : length (l .owners) ≤ 192
+  pub few : length (l .owners) ≤ rectsMost
   pub owned : (r : ℕ) → r < length (l .owners) → at (l .owners) r < length (l .ranks)
-  pub grids : length (l .ranks) ≤ 64
+  pub grids : length (l .ranks) ≤ entriesMost
   -- grids that share a point never share a rank
   pub apart : (x y i j : ℕ) → i < j → j < length (l .ranks) → at (l .ranks) i ≡ at (l .ranks) j
       → gridHolds l i x y ≡ true → gridHolds l j x y ≡ true → ⊥

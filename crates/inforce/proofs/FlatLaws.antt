@@ -19,13 +19,13 @@ use Rattle.coverage.proofs.OneEach.{OneEach, one-chosen, one-sound}
 use Rattle.coverage.proofs.Demand3.{in-force-alike}
 use Rattle.inforce.specs.Flat.{FlatSound, flatChosen, flatListed}
 
--- the order of the part that the grids of the group fill has at most 64 numbers
+-- the order of the part that the grids of the group fill has at most as many numbers as a group has grids
 pub order-short : (ranks : List ℕ) (n : ℕ) → n ≤ length ranks → n ≤ gridsMost → (order : List ℕ) (count : ℕ)
     → Begins (byRank (at (take n ranks)) (length (take n ranks)) rankMost) order count → count ≤ gridsMost
 order-short ranks n h k order count b =
     omega (arith, b .many, byRank≤ (at (take n ranks)) (length (take n ranks)) rankMost, length-take-le n ranks h)
 
-module _ (sides owners ranks : List ℕ) (n : ℕ) (s : FlatSound sides ranks n) (o : Owned n owners) (w : length owners ≡ 64) where
+module _ (sides owners ranks : List ℕ) (n : ℕ) (s : FlatSound sides ranks n) (o : Owned n owners) (w : length owners ≡ gridsMost) where
   -- the parts that the grids of the group fill
   abbrev part : Layout
   part = layout (take (n * 4) sides) (take n owners) (take n ranks)

@@ -1,5 +1,5 @@
 -- An accepted group's flat lists are sound, and the list over them is that of the grids chosen in the group.
-use Prim.Native.Nat.{ℕ, _≤_}
+use Prim.Native.Nat.{ℕ, _*_, _≤_}
 use mathlib.Core.Path.{_≡_, sym, _∙_, ap, ap₂}
 use mathlib.Core.Bool.{true}
 use mathlib.Core.List.{List}
@@ -49,7 +49,7 @@ module _ (g : Group) (e : judged g ≡ Accepted) where
       }
 
   module _ (sides ranks : List ℕ) (s : Sided g (g .grids) sides ranks) where
-    pub group-flat : 256 ≤ length sides → 64 ≤ length ranks → FlatSound sides ranks (g .grids)
+    pub group-flat : gridsMost * 4 ≤ length sides → gridsMost ≤ length ranks → FlatSound sides ranks (g .grids)
     group-flat h k =
         let n = accepted-head g e .grids in
         record {

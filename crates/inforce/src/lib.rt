@@ -104,9 +104,9 @@ fn list_flat(sides: &[u64], ranks: &[u64], n: usize, a: region::Area) -> Listing
     requires { ⌜ FlatSound (now sides) (now ranks) n ⌝ }
     ensures { λ r. ⌜ r ≡ flatListed (now (sides .entry)) (now (ranks .entry)) n a ⌝ }
 {
-    let mut owners = [0u64; 64];
+    let mut owners = [0u64; GRIDS_MOST];
     flat::fill_owners(n, &mut owners);
-    let mut order = [0u64; 64];
+    let mut order = [0u64; GRIDS_MOST];
     let count = flat::order_by_rank(&ranks[..n], &mut order);
     let m = n * 4;
     coverage::in_force(&sides[..m], &owners[..n], &ranks[..n], &order[..count], a)
@@ -161,8 +161,8 @@ fn list_in(group: Group, area: Area) -> InForce
     requires { ⌜ (judged group ≡ Verdict.Accepted) × (areaFits area ≡ true) ⌝ }
     ensures { λ r. ⌜ r ≡ listed (inForceIn group area) ⌝ }
 {
-    let mut sides = [0u64; 256];
-    let mut ranks = [0u64; 64];
+    let mut sides = [0u64; flat::SIDES];
+    let mut ranks = [0u64; GRIDS_MOST];
     flat::fill_sides(group, &mut sides, &mut ranks);
     let n = group.grids as usize;
     let l = list_flat(&sides, &ranks, n, area_from_least(area));

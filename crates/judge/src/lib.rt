@@ -30,6 +30,9 @@ const RAMPS: u64 = group::RAMPS_MOST as u64;
 
 const GRIDS: u64 = group::GRIDS_MOST as u64;
 
+// Four numbers of each, by which grids are compared.
+const FOURS: usize = group::GRIDS_MOST * 4;
+
 // What a ramp entry can break.
 enum RampRule {
     Unused,
@@ -171,7 +174,7 @@ fn put_marks(fours: &mut [u64], keys: &mut [u64], i: usize, m: Marks)
 
 // Stores the marks of the names of a group's grids, four and a key for each.
 fn fill_names(group: Group, fours: &mut [u64], keys: &mut [u64])
-    requires { ⌜ (group .grids ≤ gridsMost) × (256 ≤ length (now fours)) × (64 ≤ length (now keys)) ⌝ }
+    requires { ⌜ (group .grids ≤ gridsMost) × (gridsMost * 4 ≤ length (now fours)) × (gridsMost ≤ length (now keys)) ⌝ }
     ensures { λ _. ⌜ Listed (λ k. nameMarks (gridAt group k .name)) (group .grids) (now (fours .exit)) (now (keys .exit)) ⌝ }
 {
     let n = group.grids;
@@ -187,7 +190,7 @@ fn fill_names(group: Group, fours: &mut [u64], keys: &mut [u64])
 
 // Stores the marks of every grid of a group: of its name, or its rank with its sides.
 fn fill_marks(shared: Shared, group: Group, fours: &mut [u64], keys: &mut [u64])
-    requires { ⌜ Head group × Grids group × (256 ≤ length (now fours)) × (64 ≤ length (now keys)) ⌝ }
+    requires { ⌜ Head group × Grids group × (gridsMost * 4 ≤ length (now fours)) × (gridsMost ≤ length (now keys)) ⌝ }
     ensures { λ _. ⌜ Listed (λ k. marksOf shared (gridAt group k)) (group .grids) (now (fours .exit)) (now (keys .exit)) ⌝ }
 {
     match shared {
@@ -265,8 +268,8 @@ fn first_sharing(shared: Shared, group: Group) -> u64
     requires { ⌜ Head group × Grids group × Comparable shared group ⌝ }
     ensures { λ r. ⌜ r ≡ first (sharesEarlier shared group) (group .grids) ⌝ }
 {
-    let mut fours = [0u64; 256];
-    let mut keys = [0u64; 64];
+    let mut fours = [0u64; FOURS];
+    let mut keys = [0u64; group::GRIDS_MOST];
     fill_marks(shared, group, &mut fours, &mut keys);
     first_clash(shared, &fours, &keys, group.grids)
 }

@@ -138,9 +138,9 @@ fn look_in(group: Group, nodes: &[i32], point: Point, day: i64) -> Lookup
     requires { ⌜ Ready group (length (now nodes)) point day ⌝ }
     ensures { λ r. ⌜ r ≡ fixOf group (now (nodes .entry)) point day ⌝ }
 {
-    let mut sides = [0u64; 256];
-    let mut ranks = [0u64; 64];
-    let mut frames = [0u64; 448];
+    let mut sides = [0u64; flat::SIDES];
+    let mut ranks = [0u64; group::GRIDS_MOST];
+    let mut frames = [0u64; flat::FRAMES];
     flat::fill_sides(group, &mut sides, &mut ranks);
     flat::fill_frames(group, &mut frames);
     let ramps = group.ramp;
@@ -177,7 +177,7 @@ fn look_accepted(group: Group, nodes: &[i32], point: Point, day: i64) -> Lookup
             place: 0,
         });
     }
-    let mut ends = [0u64; 64];
+    let mut ends = [0u64; group::GRIDS_MOST];
     flat::fill_ends(group, &mut ends);
     let n = group.grids;
     let short = first_short(&ends, n, nodes.len() as u64);
