@@ -1,6 +1,6 @@
 //! Groups of up to 64 grids: layouts that make the grids in force hard to find.
 
-use interface::{Calls, Grid, Group, Name};
+use interface::{Grid, Group, Name, Timed};
 
 /// A grid of 3 by 3 nodes: its west and south side, its width and height, both even, in milliarcseconds, and its rank.
 #[derive(Clone, Copy)]

@@ -15,7 +15,7 @@ mod works;
 #[cfg(plain_c)]
 pub use plain_c::PlainC;
 
-use interface::Calls;
+use interface::Timed;
 use std::process::ExitCode;
 use table::Measure;
 
@@ -34,7 +34,7 @@ library's as a multiple of the others'. Where answers differ nothing is timed.
 ";
 
 /// Runs the command line over the library's calls.
-pub fn main(library: &dyn Calls) -> ExitCode {
+pub fn main(library: &dyn Timed) -> ExitCode {
     let words: Vec<String> = std::env::args().skip(1).collect();
     let words: Vec<&str> = words.iter().map(String::as_str).collect();
     let done = match words.as_slice() {
@@ -58,7 +58,7 @@ pub fn main(library: &dyn Calls) -> ExitCode {
     }
 }
 
-fn print_table(library: &dyn Calls, measure: Measure) -> Result<(), String> {
+fn print_table(library: &dyn Timed, measure: Measure) -> Result<(), String> {
     let back_ends = back_end::all(library);
     if !cfg!(plain_c) {
         eprintln!("bench: built without a C compiler: there is no plain C to compare with");
@@ -71,7 +71,7 @@ fn print_table(library: &dyn Calls, measure: Measure) -> Result<(), String> {
 }
 
 /// The run that callgrind watches.
-fn counted(library: &dyn Calls, row: &str, back_end: &str) -> Result<(), String> {
+fn counted(library: &dyn Timed, row: &str, back_end: &str) -> Result<(), String> {
     let rows = rows::all(rows::WHOLE);
     let row = row.parse().ok().and_then(|k: usize| rows.get(k)).ok_or("no such row")?;
     let back_ends = back_end::all(library);
@@ -80,7 +80,7 @@ fn counted(library: &dyn Calls, row: &str, back_end: &str) -> Result<(), String>
     Ok(())
 }
 
-fn search(library: &dyn Calls, seconds: &str, seed: &str) -> Result<(), String> {
+fn search(library: &dyn Timed, seconds: &str, seed: &str) -> Result<(), String> {
     let seconds = seconds.parse().map_err(|_| format!("{seconds} is no count of seconds"))?;
     let seed = seed.parse().map_err(|_| format!("{seed} is no seed"))?;
     search::search(&back_end::all(library), seconds, seed)

@@ -1,10 +1,9 @@
 //! The rows of the table: which work is done on which inputs.
 
-use crate::back_end::Position;
 use crate::layouts;
 use crate::work::{Row, Work};
 use crate::works::{InForceEverywhere, Judge, Load, Lookups, Read, Write};
-use interface::{Calls, Grid, Group, HEADER_BYTES, Name};
+use interface::{Grid, Group, HEADER_BYTES, Name, Position, Timed};
 
 /// How many points, digits and floats the long works have.
 #[derive(Clone, Copy)]

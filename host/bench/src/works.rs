@@ -1,9 +1,9 @@
 //! The kinds of work: a call, its inputs, and the memory that it is lent.
 
-use crate::back_end::{BackEnd, Position};
+use crate::back_end::BackEnd;
 use crate::work::Work;
 use interface::lent::Words;
-use interface::{Fix, Grid, Group, HEADER_BYTES, InForce};
+use interface::{Area, Fix, Grid, Group, HEADER_BYTES, InForce, Position};
 use std::hash::{DefaultHasher, Hash, Hasher};
 
 pub struct Judge {
@@ -54,8 +54,8 @@ impl Work for Lookups {
             return track(&self.group, &self.nodes, &self.points, &mut self.numbers, &mut self.fixes);
         }
         let lent = self.numbers.iter_mut().zip(&mut self.fixes);
-        for (&Position { lon, lat, day }, (number, fix)) in self.points.iter().zip(lent) {
-            *number = back_end.calls.lookup(&self.group, &self.nodes, lon, lat, day, fix, &mut 0);
+        for (&at, (number, fix)) in self.points.iter().zip(lent) {
+            *number = back_end.calls.lookup(&self.group, &self.nodes, at, fix, &mut 0);
         }
     }
 
@@ -80,8 +80,7 @@ impl InForceEverywhere {
 
 impl Work for InForceEverywhere {
     fn run(&mut self, back_end: &BackEnd) {
-        let (east, north) = (648_000_000, 324_000_000);
-        self.number = back_end.calls.grids_in_force(&self.group, -east, east, -north, north, &mut self.list, &mut 0);
+        self.number = back_end.calls.grids_in_force(&self.group, Area::EARTH, &mut self.list, &mut 0);
     }
 
     fn answer(&self) -> Vec<i64> {

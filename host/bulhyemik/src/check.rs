@@ -5,7 +5,7 @@ use crate::group::{self, grids, name};
 use crate::model::Model;
 use crate::output::Output;
 use crate::stop::{Refusal, Stop};
-use interface::{Calls, MARK};
+use interface::{Calls, MARK, Position};
 
 /// The refusal of a node list that ends early; a lookup comes to it before it chooses a grid.
 const TOO_FEW: u64 = 13;
@@ -19,9 +19,9 @@ pub fn check(calls: &dyn Calls, arguments: &Arguments, out: &mut Output) -> Resu
         return out.put("accepted\n");
     }
     let model = Model::read(calls, arguments)?;
-    let found = model.look(calls, [0, 0, 0]);
+    let found = model.look(calls, Position { lon: 0, lat: 0, day: 0 });
     if found.number == TOO_FEW {
-        return Err(Refusal { number: found.number, place: found.place }.into());
+        return Err(Refusal { number: found.number, place: found.at }.into());
     }
     out.put("accepted\n")?;
     for (number, grid) in grids(&model.group) {

@@ -4,17 +4,7 @@ use crate::arguments::Arguments;
 use crate::files;
 use crate::group::{self, name};
 use crate::stop::Stop;
-use interface::{Calls, Fix, Group};
-
-/// A longitude, a latitude and a day.
-pub type Position = [i64; 3];
-
-/// What a lookup returned and filled.
-pub struct Found {
-    pub number: u64,
-    pub place: u64,
-    pub fix: Fix,
-}
+use interface::{Calls, Fix, Found, Group, Position};
 
 pub struct Model {
     pub group: Group,
@@ -33,10 +23,10 @@ impl Model {
     }
 
     /// Looks a position up.
-    pub fn look(&self, calls: &dyn Calls, [lon, lat, day]: Position) -> Found {
-        let (mut fix, mut place) = (Fix::default(), 0);
-        let number = calls.lookup(&self.group, &self.nodes, lon, lat, day, &mut fix, &mut place);
-        Found { number, place, fix }
+    pub fn look(&self, calls: &dyn Calls, position: Position) -> Found {
+        let (mut fix, mut at) = (Fix::default(), 0);
+        let number = calls.lookup(&self.group, &self.nodes, position, &mut fix, &mut at);
+        Found { quantum: self.group.quantum, parameters: self.group.parameters, number, at, fix }
     }
 
     /// The name of the grid that a lookup chose, and a shift of each parameter, parted by tabs.

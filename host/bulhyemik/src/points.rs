@@ -2,12 +2,12 @@
 
 use crate::arguments::Arguments;
 use crate::files::not_read;
-use crate::model::{Model, Position};
+use crate::model::Model;
 use crate::number::decimal;
 use crate::output::Output;
 use crate::shown::bytes;
 use crate::stop::{Refusal, Stop};
-use interface::Calls;
+use interface::{Calls, Position};
 use progress::Progress;
 use std::ffi::OsStr;
 use std::io::{self, BufRead, BufReader, Read};
@@ -23,7 +23,8 @@ pub fn answer(calls: &dyn Calls, arguments: &Arguments, out: &mut Output, answer
     if arguments.count(&[2, 5], "HEADER NODES, or HEADER NODES LON LAT DAY")? == 2 {
         return answer_all(calls, arguments, out, answer);
     }
-    let at = [arguments.number(2, "LON")?, arguments.number(3, "LAT")?, arguments.number(4, "DAY")?];
+    let [lon, lat] = [arguments.number(2, "LON")?, arguments.number(3, "LAT")?];
+    let at = Position { lon, lat, day: arguments.number(4, "DAY")? };
     let model = Model::read(calls, arguments)?;
     match answer(calls, &model, at) {
         Ok(line) => out.put(line),
@@ -32,7 +33,7 @@ pub fn answer(calls: &dyn Calls, arguments: &Arguments, out: &mut Output, answer
 }
 
 /// The line of a refused point.
-fn refused(refusal: Refusal, [lon, lat, day]: Position) -> String {
+fn refused(refusal: Refusal, Position { lon, lat, day }: Position) -> String {
     format!("{}\t{lon}\t{lat}\t{day}", refusal.line())
 }
 
@@ -94,7 +95,8 @@ fn point(line: &[u8]) -> Option<Position> {
         return None;
     }
     let numbers: Option<Vec<i64>> = line.split(|&c| c == b'\t').map(decimal).collect();
-    numbers?.try_into().ok()
+    let [lon, lat, day] = numbers?.try_into().ok()?;
+    Some(Position { lon, lat, day })
 }
 
 fn bad_line(arguments: &Arguments, number: usize, line: &[u8]) -> Stop {

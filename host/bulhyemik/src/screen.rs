@@ -1,11 +1,11 @@
 //! `screen HEADER NODES [LON LAT DAY]`: what the screen shows of a point, as floats.
 
 use crate::arguments::Arguments;
-use crate::model::{Found, Model, Position};
+use crate::model::Model;
 use crate::output::Output;
 use crate::points;
 use crate::stop::{Refusal, Stop, accepted};
-use interface::{Calls, Screen};
+use interface::{Calls, Position, Screen};
 
 pub fn screen(calls: &dyn Calls, arguments: &Arguments, out: &mut Output) -> Result<(), Stop> {
     points::answer(calls, arguments, out, shown)
@@ -13,12 +13,10 @@ pub fn screen(calls: &dyn Calls, arguments: &Arguments, out: &mut Output) -> Res
 
 /// The line of an accepted lookup in degrees and units.
 fn shown(calls: &dyn Calls, model: &Model, at: Position) -> Result<String, Refusal> {
-    let Found { number, place, fix } = model.look(calls, at);
-    let [lon, lat, day] = at;
-    let (quantum, parameters) = (model.group.quantum, model.group.parameters);
-    let (mut screen, mut place_shown) = (Screen::default(), 0);
-    let number = calls.screen_record(lon, lat, quantum, parameters, number, place, &fix, &mut screen, &mut place_shown);
-    accepted(number, place_shown)?;
+    let found = model.look(calls, at);
+    let (mut screen, mut place) = (Screen::default(), 0);
+    let number = calls.screen_record(at.lon, at.lat, &found, &mut screen, &mut place);
+    accepted(number, place)?;
     let Screen { longitude, latitude, shift } = screen;
-    Ok(format!("shown\t{longitude}\t{latitude}\t{day}\t{}\n", model.shifts(&fix, &shift)))
+    Ok(format!("shown\t{longitude}\t{latitude}\t{}\t{}\n", at.day, model.shifts(&found.fix, &shift)))
 }

@@ -7,26 +7,31 @@ use crate::places::{area, nodes, position};
 use crate::random::Random;
 use crate::texts;
 use interface::lent::{Element, Words, patterned};
-use interface::{Calls, Fix, Group, HEADER_BYTES, InForce, Part, Screen};
+use interface::{Calls, Fix, Found, Group, HEADER_BYTES, InForce, Part, Screen, Timed};
 
-/// An input that is ready to be given to any back end.
-pub type Input = Box<dyn Fn(&dyn Calls) -> Outcome>;
+/// An input that is ready to be given to any back end that has its call.
+pub type Input<B> = Box<dyn Fn(&B) -> Outcome>;
 
-/// A call: its name, what makes an input, and the numbers that it can return.
-pub struct Call {
+/// A call of back ends of kind `B`: its name, what makes an input, and the numbers that it can return.
+pub struct Call<B: ?Sized> {
     pub name: &'static str,
-    pub input: fn(&mut Random) -> Input,
+    pub input: fn(&mut Random) -> Input<B>,
     pub numbers: &'static [u64],
 }
 
-pub const CALLS: [Call; 9] = [
+/// The calls of `Timed`.
+pub const TIMED: [Call<dyn Timed>; 6] = [
     Call { name: "judge", input: judge, numbers: &[0, 2, 3, 4, 5] },
     Call { name: "read_header", input: read_header, numbers: &[0, 1, 2, 3, 4, 5] },
     Call { name: "write_header", input: write_header, numbers: &[0, 2, 3, 4, 5, 12] },
-    Call { name: "field", input: field, numbers: &[0] },
     Call { name: "lookup", input: lookup, numbers: &[0, 2, 3, 4, 5, 6, 7, 8, 9, 11, 13] },
     Call { name: "grids_in_force", input: grids_in_force, numbers: &[0, 2, 3, 4, 5, 10] },
     Call { name: "load_nodes", input: load_nodes, numbers: &[0, 2, 11, 12] },
+];
+
+/// What `Calls` has beside them, but for the version.
+pub const OTHERS: [Call<dyn Calls>; 3] = [
+    Call { name: "field", input: field, numbers: &[0] },
     Call { name: "screen_answer", input: screen_answer, numbers: &[0, 1, 2, 3, 4, 5, 6, 7, 8, 9, 10, 11, 12, 13] },
     Call { name: "screen_record", input: screen_record, numbers: &[0, 1, 2, 3, 4, 5, 6, 7, 8, 9, 10, 11, 12, 13] },
 ];
@@ -48,7 +53,7 @@ fn group(random: &mut Random, percent: usize) -> Group {
     record
 }
 
-fn judge(random: &mut Random) -> Input {
+fn judge(random: &mut Random) -> Input<dyn Timed> {
     let group = group(random, 75);
     Box::new(move |calls| {
         let mut place = lent();
@@ -56,7 +61,7 @@ fn judge(random: &mut Random) -> Input {
     })
 }
 
-fn read_header(random: &mut Random) -> Input {
+fn read_header(random: &mut Random) -> Input<dyn Timed> {
     let mut text = texts::text(&group(random, 55));
     if random.percent(35) {
         texts::damage(random, &mut text);
@@ -68,7 +73,7 @@ fn read_header(random: &mut Random) -> Input {
     })
 }
 
-fn write_header(random: &mut Random) -> Input {
+fn write_header(random: &mut Random) -> Input<dyn Timed> {
     let group = group(random, 55);
     let whole = texts::text(&group).len();
     let out_len = match random.below(8) {
@@ -85,7 +90,7 @@ fn write_header(random: &mut Random) -> Input {
     })
 }
 
-fn field(random: &mut Random) -> Input {
+fn field(random: &mut Random) -> Input<dyn Calls> {
     let line = texts::line(random);
     let number = match random.below(8) {
         0 => random.bits(),
@@ -99,23 +104,23 @@ fn field(random: &mut Random) -> Input {
     })
 }
 
-fn lookup(random: &mut Random) -> Input {
+fn lookup(random: &mut Random) -> Input<dyn Timed> {
     let group = group(random, 35);
     let nodes = nodes(random, &group);
-    let [lon, lat, day] = position(random, &group);
+    let at = position(random, &group);
     Box::new(move |calls| {
         let (mut fix, mut place) = (Fix::patterned(), lent());
-        let number = calls.lookup(&group, &nodes, lon, lat, day, &mut fix, &mut place);
+        let number = calls.lookup(&group, &nodes, at, &mut fix, &mut place);
         Outcome::new(number).with("place", &[place]).with("fix", fix.words())
     })
 }
 
-fn grids_in_force(random: &mut Random) -> Input {
+fn grids_in_force(random: &mut Random) -> Input<dyn Timed> {
     let group = group(random, 35);
-    let [west, east, south, north] = area(random, &group);
+    let area = area(random, &group);
     Box::new(move |calls| {
         let (mut list, mut place) = (InForce::patterned(), lent());
-        let number = calls.grids_in_force(&group, west, east, south, north, &mut list, &mut place);
+        let number = calls.grids_in_force(&group, area, &mut list, &mut place);
         Outcome::new(number).with("place", &[place]).with("list", list.words())
     })
 }
@@ -128,7 +133,7 @@ fn quantum(random: &mut Random) -> i64 {
     }
 }
 
-fn load_nodes(random: &mut Random) -> Input {
+fn load_nodes(random: &mut Random) -> Input<dyn Timed> {
     let quantum = quantum(random);
     let (floats, flag) = floats(random, quantum);
     let nodes_len = match random.below(12) {
@@ -144,15 +149,6 @@ fn load_nodes(random: &mut Random) -> Input {
 }
 
 /// What a screen call is told of a lookup, not always what a lookup can give.
-#[derive(Clone, Copy)]
-struct Found {
-    quantum: i64,
-    parameters: i64,
-    number: u64,
-    at: u64,
-    fix: Fix,
-}
-
 fn found(random: &mut Random) -> Found {
     let result = |random: &mut Random| match random.below(4) {
         0 => random.odd(),
@@ -176,17 +172,17 @@ fn found(random: &mut Random) -> Found {
     }
 }
 
-fn screen_answer(random: &mut Random) -> Input {
-    let Found { quantum, parameters, number, at, fix } = found(random);
+fn screen_answer(random: &mut Random) -> Input<dyn Calls> {
+    let found = found(random);
     Box::new(move |calls| {
         let (mut shifts, mut place) = (Screen::patterned().shift, lent());
-        let returned = calls.screen_answer(quantum, parameters, number, at, &fix, &mut shifts, &mut place);
+        let returned = calls.screen_answer(&found, &mut shifts, &mut place);
         Outcome::new(returned).with("place", &[place]).with("shifts", &shifts)
     })
 }
 
-fn screen_record(random: &mut Random) -> Input {
-    let Found { quantum, parameters, number, at, fix } = found(random);
+fn screen_record(random: &mut Random) -> Input<dyn Calls> {
+    let found = found(random);
     let coordinate = |random: &mut Random| match random.below(4) {
         0 => random.odd(),
         1 => random.bits() as i64,
@@ -195,7 +191,7 @@ fn screen_record(random: &mut Random) -> Input {
     let (lon, lat) = (coordinate(random), coordinate(random));
     Box::new(move |calls| {
         let (mut screen, mut place) = (Screen::patterned(), lent());
-        let returned = calls.screen_record(lon, lat, quantum, parameters, number, at, &fix, &mut screen, &mut place);
+        let returned = calls.screen_record(lon, lat, &found, &mut screen, &mut place);
         Outcome::new(returned).with("place", &[place]).with("screen", screen.words())
     })
 }

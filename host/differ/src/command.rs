@@ -1,6 +1,6 @@
 //! The command line `differ [--seed SEED] [INPUTS]`.
 
-use crate::calls::{CALLS, Call};
+use crate::calls::{Call, OTHERS, TIMED};
 use crate::run::{Inputs, Report, run};
 use interface::Calls;
 use progress::Progress;
@@ -27,7 +27,7 @@ const INPUTS: Inputs = Inputs { count: 20_000, seed: 0 };
 const SHOWN: usize = 5;
 
 /// Runs the command line over two back ends.
-pub fn main(first: &dyn Calls, second: &dyn Calls) -> ExitCode {
+pub fn main(first: &(dyn Calls + 'static), second: &(dyn Calls + 'static)) -> ExitCode {
     let words: Vec<OsString> = std::env::args_os().skip(1).collect();
     if words.iter().any(|word| word == "--help" || word == "-h") {
         print!("{HELP}");
@@ -40,15 +40,18 @@ pub fn main(first: &dyn Calls, second: &dyn Calls) -> ExitCode {
             return ExitCode::from(2);
         }
     };
-    let mut same = true;
-    for call in &CALLS {
-        let mut progress = Progress::new(call.name, inputs.count);
-        let report = run(call, inputs, first, second, |done| progress.at(done));
-        drop(progress);
-        print!("{}", shown(call, &report));
-        same &= report.differences.is_empty();
-    }
-    ExitCode::from(u8::from(!same))
+    let timed = TIMED.map(|call| agree(&call, inputs, first, second));
+    let others = OTHERS.map(|call| agree(&call, inputs, first, second));
+    ExitCode::from(u8::from(timed.contains(&false) || others.contains(&false)))
+}
+
+/// Runs a call, prints how it fared, and answers whether no input differs.
+fn agree<B: ?Sized>(call: &Call<B>, inputs: Inputs, first: &B, second: &B) -> bool {
+    let mut progress = Progress::new(call.name, inputs.count);
+    let report = run(call, inputs, first, second, |done| progress.at(done));
+    drop(progress);
+    print!("{}", shown(call.name, &report));
+    report.differences.is_empty()
 }
 
 /// The inputs that a command line asks for.
@@ -79,10 +82,9 @@ fn number<T: FromStr>(name: &str, word: Option<&OsString>) -> Result<T, String> 
 }
 
 /// A call's line: inputs, differences, and the count of each number returned; then the first differences.
-fn shown(call: &Call, report: &Report) -> String {
+fn shown(call: &str, report: &Report) -> String {
     let Inputs { count, seed } = report.inputs;
-    let mut text =
-        format!("{}: {count} inputs of seed {seed}, {} differ; returned", call.name, report.differences.len());
+    let mut text = format!("{call}: {count} inputs of seed {seed}, {} differ; returned", report.differences.len());
     for (number, count) in report.returned.iter().enumerate().filter(|&(_, &count)| count > 0) {
         let _ = write!(text, " {number}:{count}");
     }

@@ -10,7 +10,7 @@ mod random;
 mod run;
 mod texts;
 
-pub use calls::{CALLS, Call};
+pub use calls::{Call, OTHERS, TIMED};
 pub use command::main;
 pub use groups::{damage, sound};
 pub use places::area;

@@ -1,7 +1,7 @@
 //! Random positions, areas and node lists for a group.
 
 use crate::random::Random;
-use interface::{Grid, Group};
+use interface::{Area, Grid, Group, Position};
 
 /// A counted grid of the record.
 fn some_grid(random: &mut Random, record: &Group) -> Grid {
@@ -25,8 +25,8 @@ fn along(random: &mut Random, from: i64, spacing: i64, count: i64) -> i64 {
     from.saturating_add(node * spacing).saturating_add(if node == count - 1 { -beside } else { beside })
 }
 
-/// Longitude, latitude and day of a lookup.
-pub fn position(random: &mut Random, record: &Group) -> [i64; 3] {
+/// The position of a lookup.
+pub fn position(random: &mut Random, record: &Group) -> Position {
     let grid = some_grid(random, record);
     let mut lon = along(random, grid.lon, grid.dlon, grid.ni);
     let mut lat = along(random, grid.lat, grid.dlat, grid.nj);
@@ -37,7 +37,7 @@ pub fn position(random: &mut Random, record: &Group) -> [i64; 3] {
         3 => lat = random.pick(&[-324_000_001, -324_000_000, 324_000_000, 324_000_001]),
         _ => {}
     }
-    [lon, lat, day(random, record)]
+    Position { lon, lat, day: day(random, record) }
 }
 
 fn day(random: &mut Random, record: &Group) -> i64 {
@@ -52,10 +52,10 @@ fn day(random: &mut Random, record: &Group) -> i64 {
     }
 }
 
-/// West, east, south and north of an area.
-pub fn area(random: &mut Random, record: &Group) -> [i64; 4] {
+/// An area; of some, west is above east or south above north.
+pub fn area(random: &mut Random, record: &Group) -> Area {
     if random.percent(5) {
-        return [-648_000_000, 648_000_000, -324_000_000, 324_000_000];
+        return Area::EARTH;
     }
     let (one, other) = (some_grid(random, record), some_grid(random, record));
     let (x1, x2) = (along(random, one.lon, one.dlon, one.ni), along(random, other.lon, other.dlon, other.ni));
@@ -67,7 +67,8 @@ pub fn area(random: &mut Random, record: &Group) -> [i64; 4] {
         2 => sides[random.below(4)] = random.odd(),
         _ => {}
     }
-    sides
+    let [west, east, south, north] = sides;
+    Area { west, east, south, north }
 }
 
 /// A node list, mostly just long enough for the group.

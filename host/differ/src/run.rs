@@ -2,7 +2,6 @@
 
 use crate::calls::Call;
 use crate::random::Random;
-use interface::Calls;
 
 /// How many inputs a call gets, and the seed that they are made from.
 #[derive(Clone, Copy)]
@@ -21,7 +20,7 @@ pub struct Report {
 }
 
 /// Gives inputs of a call to both back ends; `done` is told how many have run.
-pub fn run(call: &Call, inputs: Inputs, first: &dyn Calls, second: &dyn Calls, mut done: impl FnMut(usize)) -> Report {
+pub fn run<B: ?Sized>(call: &Call<B>, inputs: Inputs, first: &B, second: &B, mut done: impl FnMut(usize)) -> Report {
     let mut report = Report { inputs, returned: [0; 14], differences: Vec::new() };
     for index in 0..inputs.count {
         let input = (call.input)(&mut Random::new(call.name, inputs.seed, index));

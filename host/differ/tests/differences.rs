@@ -2,20 +2,26 @@
 
 mod mutant;
 
-use differ::{CALLS, Call, Inputs, Random, run};
-use mutant::{Fault, Mutant};
+use differ::{Inputs, OTHERS, Random, Report, TIMED, run};
+use interface::Calls;
+use mutant::MUTANTS;
 use plain::Plain;
 use reference::Reference;
 
 const INPUTS: Inputs = Inputs { count: 4_000, seed: 0 };
 
-fn call(name: &str) -> &'static Call {
-    CALLS.iter().find(|call| call.name == name).expect("a call of this name")
+/// Inputs to the named call of a back end and of the second program.
+fn beside_the_second_program(name: &str, inputs: Inputs, calls: &(dyn Calls + 'static)) -> Report {
+    match (TIMED.iter().find(|call| call.name == name), OTHERS.iter().find(|call| call.name == name)) {
+        (Some(call), _) => run(call, inputs, calls, &Reference, |_| {}),
+        (_, Some(call)) => run(call, inputs, calls, &Reference, |_| {}),
+        _ => panic!("there is no call {name}"),
+    }
 }
 
 #[test]
 fn the_plain_versions_agree_with_the_second_program() {
-    for call in &CALLS {
+    for call in &TIMED {
         let report = run(call, INPUTS, &Plain, &Reference, |_| {});
         println!("{}: {} inputs, {} differ", call.name, report.inputs.count, report.differences.len());
         assert!(report.differences.is_empty(), "{}: {:?}", call.name, report.differences[0]);
@@ -24,14 +30,15 @@ fn the_plain_versions_agree_with_the_second_program() {
 
 #[test]
 fn every_number_that_a_call_can_return_comes_in_one_of_a_hundred_inputs() {
-    for call in &CALLS {
-        let report = run(call, INPUTS, &Reference, &Reference, |_| {});
-        println!("{}: {:?}", call.name, report.returned);
+    let timed = TIMED.iter().map(|call| (call.name, call.numbers));
+    for (name, numbers) in timed.chain(OTHERS.iter().map(|call| (call.name, call.numbers))) {
+        let report = beside_the_second_program(name, INPUTS, &Reference);
+        println!("{name}: {:?}", report.returned);
         for (number, &count) in report.returned.iter().enumerate() {
-            if call.numbers.contains(&(number as u64)) {
-                assert!(count * 100 >= INPUTS.count, "{}: {number} came {count} times", call.name);
+            if numbers.contains(&(number as u64)) {
+                assert!(count * 100 >= INPUTS.count, "{name}: {number} came {count} times");
             } else {
-                assert_eq!(count, 0, "{}: {number}", call.name);
+                assert_eq!(count, 0, "{name}: {number}");
             }
         }
     }
@@ -39,10 +46,10 @@ fn every_number_that_a_call_can_return_comes_in_one_of_a_hundred_inputs() {
 
 #[test]
 fn every_mutant_is_found_out() {
-    for (fault, name) in Fault::ALL {
-        let report = run(call(name), INPUTS, &Mutant(fault), &Reference, |_| {});
-        println!("{fault:?}: {} of {} inputs differ", report.differences.len(), report.inputs.count);
-        assert!(!report.differences.is_empty(), "{fault:?}");
+    for (fault, call, mutant) in MUTANTS {
+        let report = beside_the_second_program(call, INPUTS, mutant);
+        println!("{fault}: {} of {} inputs differ", report.differences.len(), report.inputs.count);
+        assert!(!report.differences.is_empty(), "{fault}");
     }
 }
 
@@ -55,6 +62,6 @@ fn another_seed_makes_other_inputs() {
         Random::new("judge", 0, 1).bits() != bits(1),
         "the inputs of a seed are not those of the seed before, moved on"
     );
-    let one = |seed: u64| run(call("judge"), Inputs { count: 400, seed }, &Reference, &Reference, |_| {}).returned;
+    let one = |seed: u64| beside_the_second_program("judge", Inputs { count: 400, seed }, &Reference).returned;
     assert_ne!(one(1), one(2));
 }

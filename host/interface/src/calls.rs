@@ -1,13 +1,12 @@
-//! The calls of the C interface as a trait: one method for each function of include/bulhyemik.h, a slice for pointer and length.
+//! The calls of the C interface as traits: one method for each function of include/bulhyemik.h, a slice for pointer and length.
 
-use crate::{Fix, Group, InForce, MOST_PARAMETERS, Part, Screen};
+use crate::{Area, Fix, Found, Group, InForce, MOST_PARAMETERS, Part, Position, Screen};
 
-/// Every method but `version` and `field` answers the number of the refusal, 0 if accepted, and leaves its place in `place`.
-/// After a refusal `group`, `out` and `nodes` are as they were; every other lent number is 0.
-pub trait Calls {
-    /// The version of the interface.
-    fn version(&self) -> u64;
-
+/// The calls that the benchmark times, which plain programs answer too.
+///
+/// Every method answers the number of the refusal, 0 if accepted, and leaves its place in `place`. After a refusal `group`,
+/// `out` and `nodes` are as they were; every other lent number is 0.
+pub trait Timed {
     /// Judges a group: refusals 2 to 5.
     fn judge(&self, group: &Group, place: &mut u64) -> u64;
 
@@ -17,55 +16,27 @@ pub trait Calls {
     /// Writes a group's header text and counts its bytes: refusals 2 to 5, 12.
     fn write_header(&self, group: &Group, out: &mut [u8], count: &mut u64, place: &mut u64) -> u64;
 
-    /// Finds where field `number` of a line begins and ends; never refused.
-    fn field(&self, line: &[u8], number: u64, part: &mut Part);
-
     /// Looks a point up on a day: refusals 2 to 9, 11, 13.
-    #[allow(clippy::too_many_arguments)]
-    fn lookup(&self, group: &Group, nodes: &[i32], lon: i64, lat: i64, day: i64, fix: &mut Fix, place: &mut u64)
-    -> u64;
+    fn lookup(&self, group: &Group, nodes: &[i32], at: Position, fix: &mut Fix, place: &mut u64) -> u64;
 
     /// Lists the grids in force in an area: refusals 2 to 5, 10.
-    #[allow(clippy::too_many_arguments)]
-    fn grids_in_force(
-        &self,
-        group: &Group,
-        west: i64,
-        east: i64,
-        south: i64,
-        north: i64,
-        list: &mut InForce,
-        place: &mut u64,
-    ) -> u64;
+    fn grids_in_force(&self, group: &Group, area: Area, list: &mut InForce, place: &mut u64) -> u64;
 
     /// Loads floats as nodes: refusals 2, 11, 12.
     fn load_nodes(&self, floats: &[f32], flag: f32, quantum: i64, nodes: &mut [i32], place: &mut u64) -> u64;
+}
 
-    /// Turns a lookup's number, place and fix into shifts in floats, or hands its refusal on; refusal 2 before it.
-    #[allow(clippy::too_many_arguments)]
-    fn screen_answer(
-        &self,
-        quantum: i64,
-        parameters: i64,
-        number: u64,
-        at: u64,
-        fix: &Fix,
-        shifts: &mut [f64; MOST_PARAMETERS],
-        place: &mut u64,
-    ) -> u64;
+/// All calls. `version` and `field` are never refused; the others answer as those of `Timed` do.
+pub trait Calls: Timed {
+    /// The version of the interface.
+    fn version(&self) -> u64;
 
-    /// Turns a point and a lookup's number, place and fix into the screen record; refusals as of `screen_answer`.
-    #[allow(clippy::too_many_arguments)]
-    fn screen_record(
-        &self,
-        lon: i64,
-        lat: i64,
-        quantum: i64,
-        parameters: i64,
-        number: u64,
-        at: u64,
-        fix: &Fix,
-        screen: &mut Screen,
-        place: &mut u64,
-    ) -> u64;
+    /// Finds where field `number` of a line begins and ends.
+    fn field(&self, line: &[u8], number: u64, part: &mut Part);
+
+    /// Turns what a lookup left into shifts in floats, or hands its refusal on; refusal 2 before it.
+    fn screen_answer(&self, found: &Found, shifts: &mut [f64; MOST_PARAMETERS], place: &mut u64) -> u64;
+
+    /// Turns a point and what a lookup left into the screen record; refusals as of `screen_answer`.
+    fn screen_record(&self, lon: i64, lat: i64, found: &Found, screen: &mut Screen, place: &mut u64) -> u64;
 }

@@ -1,15 +1,18 @@
-//! What all programs of the host share: the structs and constants of include/bulhyemik.h, its calls as a trait, the way from
-//! a program written in Rust to these calls, and lent output for tests.
+//! What all programs of the host share: the structs and constants of include/bulhyemik.h, its calls as traits, the ways from a
+//! program written in Rust or in C to these calls, and lent output for tests.
 
 mod adaptor;
 mod answers;
+mod arguments;
+mod c;
 mod calls;
 mod group;
 pub mod lent;
 
-pub use adaptor::{Answers, Refusal};
+pub use adaptor::{Answers, Program, Refusal, hand_back};
 pub use answers::{Entry, Fix, InForce, Part, Screen};
-pub use calls::Calls;
+pub use arguments::{Area, Found, Position};
+pub use calls::{Calls, Timed};
 pub use group::{Grid, Group, Name, Ramp};
 
 /// The version of the interface: major * 1,000,000 + minor * 1,000 + patch.

@@ -1,20 +1,11 @@
 //! The rectangles of a group's grids, and the ranges of their nodes.
 
-use interface::Grid;
-
-/// A rectangle of coordinates, sides included.
-#[derive(Clone, Copy, Default)]
-pub struct Sides {
-    pub west: i64,
-    pub east: i64,
-    pub south: i64,
-    pub north: i64,
-}
+use interface::{Area, Grid};
 
 /// The extent of a grid.
-pub fn sides(grid: &Grid) -> Sides {
+pub fn extent(grid: &Grid) -> Area {
     let (lon, lat) = (grid.lon + (grid.ni - 1) * grid.dlon, grid.lat + (grid.nj - 1) * grid.dlat);
-    Sides { west: grid.lon.min(lon), east: grid.lon.max(lon), south: grid.lat.min(lat), north: grid.lat.max(lat) }
+    Area { west: grid.lon.min(lon), east: grid.lon.max(lon), south: grid.lat.min(lat), north: grid.lat.max(lat) }
 }
 
 /// Place behind a grid's last node.
@@ -22,12 +13,12 @@ pub fn end(grid: &Grid, parameters: i64) -> i64 {
     grid.start + grid.ni * grid.nj * parameters
 }
 
-impl Sides {
-    pub fn holds(&self, lon: i64, lat: i64) -> bool {
-        self.west <= lon && lon <= self.east && self.south <= lat && lat <= self.north
-    }
+/// Whether a point lies in an area.
+pub fn holds(area: &Area, lon: i64, lat: i64) -> bool {
+    area.west <= lon && lon <= area.east && area.south <= lat && lat <= area.north
+}
 
-    pub fn meets(&self, other: &Sides) -> bool {
-        self.west <= other.east && other.west <= self.east && self.south <= other.north && other.south <= self.north
-    }
+/// Whether two areas share a coordinate.
+pub fn meet(a: &Area, b: &Area) -> bool {
+    a.west <= b.east && b.west <= a.east && a.south <= b.north && b.south <= a.north
 }

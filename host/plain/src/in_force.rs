@@ -1,21 +1,21 @@
 //! Grids in force: for each grid the first of its coordinates in the area that no better grid holds.
 
-use crate::group::Sides;
+use crate::group::meet;
 use crate::judge::{LATITUDE, LONGITUDE, judge, refusal, within};
-use interface::{Entry, Group, Refusal};
+use interface::{Area, Entry, Group, Refusal};
 
 /// The part of a rectangle in an area, if there is one.
-fn part(sides: &Sides, area: &Sides) -> Option<Sides> {
-    sides.meets(area).then(|| Sides {
-        west: sides.west.max(area.west),
-        east: sides.east.min(area.east),
-        south: sides.south.max(area.south),
-        north: sides.north.min(area.north),
+fn part(rectangle: &Area, area: &Area) -> Option<Area> {
+    meet(rectangle, area).then(|| Area {
+        west: rectangle.west.max(area.west),
+        east: rectangle.east.min(area.east),
+        south: rectangle.south.max(area.south),
+        north: rectangle.north.min(area.north),
     })
 }
 
 /// The southmost, then westmost coordinate of a rectangle that no blocker holds; the blockers rise by west side.
-fn first_free(rectangle: &Sides, blockers: &[Sides]) -> Option<(i64, i64)> {
+fn first_free(rectangle: &Area, blockers: &[Area]) -> Option<(i64, i64)> {
     let mut rows: Vec<i64> = blockers.iter().map(|b| b.north + 1).collect();
     rows.push(rectangle.south);
     rows.sort_unstable();
@@ -24,7 +24,7 @@ fn first_free(rectangle: &Sides, blockers: &[Sides]) -> Option<(i64, i64)> {
 }
 
 /// The westmost longitude of a row, from `lon` on, that no blocker holds.
-fn first_free_in_row(mut lon: i64, lat: i64, blockers: &[Sides]) -> i64 {
+fn first_free_in_row(mut lon: i64, lat: i64, blockers: &[Area]) -> i64 {
     for b in blockers {
         if b.west > lon {
             break;
@@ -37,8 +37,8 @@ fn first_free_in_row(mut lon: i64, lat: i64, blockers: &[Sides]) -> i64 {
 }
 
 /// The grids in force in an area.
-pub fn in_force(group: &Group, area: Sides) -> Result<Vec<Entry>, Refusal> {
-    let sides = judge(group)?;
+pub fn in_force(group: &Group, area: Area) -> Result<Vec<Entry>, Refusal> {
+    let extents = judge(group)?;
     let admitted = within(area.west, LONGITUDE)
         && within(area.east, LONGITUDE)
         && within(area.south, LATITUDE)
@@ -49,12 +49,12 @@ pub fn in_force(group: &Group, area: Sides) -> Result<Vec<Entry>, Refusal> {
     let grids = &group.grid[..group.grids as usize];
     let mut order: Vec<(i64, usize)> = grids.iter().enumerate().map(|(k, grid)| (grid.rank, k)).collect();
     order.sort_unstable();
-    let mut better: Vec<Sides> = Vec::new();
+    let mut better: Vec<Area> = Vec::new();
     let mut list = Vec::new();
     for same_rank in order.chunk_by(|a, b| a.0 == b.0) {
         let mut seen = Vec::new();
         for &(_, k) in same_rank {
-            if let Some(rectangle) = part(&sides[k], &area) {
+            if let Some(rectangle) = part(&extents[k], &area) {
                 if let Some((lon, lat)) = first_free(&rectangle, &better) {
                     list.push(Entry { grid: k as i64 + 1, lon, lat });
                 }

@@ -1,7 +1,7 @@
 //! The judge: limits and refusals 2 to 5.
 
-use crate::group::{Sides, end, sides};
-use interface::{Grid, Group, MOST_GRIDS, NAME_BYTES, Name, Ramp, Refusal};
+use crate::group::{end, extent, meet};
+use interface::{Area, Grid, Group, MOST_GRIDS, NAME_BYTES, Name, Ramp, Refusal};
 
 pub const LONGITUDE: i64 = 1_296_000_000;
 pub const LATITUDE: i64 = 324_000_000;
@@ -75,34 +75,34 @@ fn limits(group: &Group) -> Result<(), Refusal> {
     }
 }
 
-/// Refusals 3 to 5 of a group within its limits; the sides of its grids.
-pub fn sound(group: &Group) -> Result<[Sides; MOST_GRIDS], Refusal> {
+/// Refusals 3 to 5 of a group within its limits; the extents of its grids.
+pub fn sound(group: &Group) -> Result<[Area; MOST_GRIDS], Refusal> {
     let grids = &group.grid[..group.grids as usize];
     for (k, grid) in grids.iter().enumerate() {
         if grids[..k].iter().any(|earlier| earlier.name == grid.name) {
             return Err(refusal(3, k + 1));
         }
     }
-    let mut all = [Sides::default(); MOST_GRIDS];
+    let mut all = [Area::default(); MOST_GRIDS];
     let mut ranks = [0; MOST_GRIDS];
     for (k, grid) in grids.iter().enumerate() {
-        let s = sides(grid);
-        let inside = -LONGITUDE <= s.west && s.east <= LONGITUDE && -LATITUDE <= s.south && s.north <= LATITUDE;
+        let e = extent(grid);
+        let inside = -LONGITUDE <= e.west && e.east <= LONGITUDE && -LATITUDE <= e.south && e.north <= LATITUDE;
         if !inside || end(grid, group.parameters) > NODE_LIST {
             return Err(refusal(4, k + 1));
         }
-        (all[k], ranks[k]) = (s, grid.rank);
+        (all[k], ranks[k]) = (e, grid.rank);
     }
     for k in 1..grids.len() {
-        if (0..k).any(|j| ranks[j] == ranks[k] && all[j].meets(&all[k])) {
+        if (0..k).any(|j| ranks[j] == ranks[k] && meet(&all[j], &all[k])) {
             return Err(refusal(5, k + 1));
         }
     }
     Ok(all)
 }
 
-/// Judges a group; the sides of its grids.
-pub fn judge(group: &Group) -> Result<[Sides; MOST_GRIDS], Refusal> {
+/// Judges a group; the extents of its grids.
+pub fn judge(group: &Group) -> Result<[Area; MOST_GRIDS], Refusal> {
     limits(group)?;
     sound(group)
 }

@@ -1,4 +1,4 @@
-//! Plain, unproved Rust for the same work as the library, written to be fast: what the benchmark compares with.
+//! Plain, unproved Rust for the calls that the benchmark times, written to be fast: what it compares with.
 
 mod back_end;
 mod group;

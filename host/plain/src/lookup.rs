@@ -1,9 +1,9 @@
 //! The lookup of a point on a day.
 
-use crate::group::end;
+use crate::group::{end, holds};
 use crate::judge::{LATITUDE, LONGITUDE, judge, refusal, within};
 use crate::round::nearest;
-use interface::{Fix, Group, MARK, Ramp, Refusal};
+use interface::{Fix, Group, MARK, Position, Ramp, Refusal};
 
 /// Cell index and distance from its lower node along an axis.
 fn cell(from: i64, spacing: i64, count: i64, at: i64) -> (i64, i64) {
@@ -27,8 +27,9 @@ fn factor(ramps: &[Ramp], day: i64) -> i64 {
 }
 
 /// The chosen grid's number and three results.
-pub fn lookup(group: &Group, nodes: &[i32], lon: i64, lat: i64, day: i64) -> Result<Fix, Refusal> {
-    let sides = judge(group)?;
+pub fn lookup(group: &Group, nodes: &[i32], at: Position) -> Result<Fix, Refusal> {
+    let extents = judge(group)?;
+    let Position { lon, lat, day } = at;
     if !within(lon, LONGITUDE) || !within(lat, LATITUDE) {
         return Err(refusal(6, 0));
     }
@@ -41,7 +42,7 @@ pub fn lookup(group: &Group, nodes: &[i32], lon: i64, lat: i64, day: i64) -> Res
         if end(grid, parameters) > nodes.len() as i64 {
             return Err(refusal(13, k + 1));
         }
-        if grid.rank < best && sides[k].holds(lon, lat) {
+        if grid.rank < best && holds(&extents[k], lon, lat) {
             (chosen, best) = (Some(k), grid.rank);
         }
     }

@@ -43,7 +43,7 @@ impl Text {
 }
 
 /// Writes the header of a group into `out` and answers the count of bytes.
-pub fn write(group: &Group, out: &mut [u8]) -> Result<u64, Refusal> {
+pub fn write(group: &Group, out: &mut [u8]) -> Result<usize, Refusal> {
     judge(group)?;
     let mut text = Text { bytes: [0; LONGEST], len: 0 };
     text.put(b"group");
@@ -63,5 +63,5 @@ pub fn write(group: &Group, out: &mut [u8]) -> Result<u64, Refusal> {
         return Err(refusal(12, 0));
     }
     out[..text.len].copy_from_slice(&text.bytes[..text.len]);
-    Ok(text.len as u64)
+    Ok(text.len)
 }

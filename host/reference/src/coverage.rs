@@ -4,16 +4,7 @@ use crate::geometry::{chosen, extent, grids};
 use crate::judge::judge;
 use crate::limits;
 use crate::refusal::refuse;
-use interface::{Entry, Grid, Group, Refusal};
-
-/// An area by its sides, in milliarcseconds, sides included.
-#[derive(Clone, Copy, Debug)]
-pub struct Area {
-    pub west: i64,
-    pub east: i64,
-    pub south: i64,
-    pub north: i64,
-}
+use interface::{Area, Entry, Grid, Group, Refusal};
 
 /// The grids in force, by rank and then by number: refusals 2 to 5, then 10.
 pub fn grids_in_force(record: &Group, area: Area) -> Result<Vec<Entry>, Refusal> {

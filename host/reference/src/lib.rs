@@ -15,10 +15,10 @@ mod screen;
 mod text;
 
 pub use back_end::Reference;
-pub use coverage::{Area, by_compression, by_every_coordinate, grids_in_force};
+pub use coverage::{by_compression, by_every_coordinate, grids_in_force};
 pub use field::field;
 pub use header::{read_header, write_header};
 pub use judge::judge;
 pub use load::load_nodes;
-pub use lookup::{Position, day_factor, lookup};
-pub use screen::{Found, Scale, screen_answer, screen_record};
+pub use lookup::{day_factor, lookup};
+pub use screen::{screen_answer, screen_record};

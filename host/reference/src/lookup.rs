@@ -5,15 +5,7 @@ use crate::judge::judge;
 use crate::limits;
 use crate::refusal::refuse;
 use crate::rounding::nearest_even;
-use interface::{Fix, Grid, Group, MARK, Ramp, Refusal};
-
-/// A point in milliarcseconds and a day.
-#[derive(Clone, Copy, Debug)]
-pub struct Position {
-    pub lon: i64,
-    pub lat: i64,
-    pub day: i64,
-}
+use interface::{Fix, Grid, Group, MARK, Position, Ramp, Refusal};
 
 /// Where a point stands on one axis: the cell's index, the spacing's size, the distance from the cell's lower node.
 struct Along {

@@ -1,7 +1,7 @@
 //! The marked cases of document 01, M1 to M12 and the others it names.
 
-use interface::{Entry, Fix, Grid, Group, MARK, Name, Ramp, Refusal};
-use reference::{Area, Position, day_factor, grids_in_force, judge, load_nodes, lookup};
+use interface::{Area, Entry, Fix, Grid, Group, MARK, Name, Position, Ramp, Refusal};
+use reference::{day_factor, grids_in_force, judge, load_nodes, lookup};
 
 const RAMP: Ramp = Ramp { a: 100, s0: 0, b: 200, s1: 1_000_000 };
 
@@ -69,10 +69,9 @@ fn m10_is_the_day_factor() {
 #[test]
 fn m11_and_m12_are_grids_in_force() {
     let area = Area { west: 0, east: 20, south: 0, north: 10 };
-    let world = Area { west: -648_000_000, east: 648_000_000, south: -324_000_000, north: 324_000_000 };
     let m11 = [grid("G1", 0, 3, 3), grid("G2", 0, 2, 1), grid("G3", 10, 2, 2)];
     assert_eq!(in_force(&m11, area), [(2, 0, 0), (3, 11, 0)]);
-    assert_eq!(in_force(&m11, world), [(2, 0, 0), (3, 11, 0)]);
+    assert_eq!(in_force(&m11, Area::EARTH), [(2, 0, 0), (3, 11, 0)]);
     let m12 = [m11[0], m11[1], grid("G3", 12, 2, 2)];
     assert_eq!(in_force(&m12, area), [(2, 0, 0), (3, 12, 0), (1, 11, 0)]);
     let touching = [m11[0], m11[1], grid("G3", 10, 2, 1)];

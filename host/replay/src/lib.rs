@@ -5,4 +5,4 @@ mod lent;
 mod run;
 
 pub use command::replay;
-pub use run::{Difference, run};
+pub use run::{Difference, run, run_timed};

@@ -3,7 +3,9 @@
 use crate::lent::filled;
 use cases::{Case, CaseFile, Expected, Input, NodeList};
 use interface::lent::{Element, Words, compare, patterned};
-use interface::{Calls, Fix, Grid, Group, InForce, MOST_PARAMETERS, Name, Part, Ramp, Screen};
+use interface::{
+    Area, Calls, Fix, Found, Grid, Group, InForce, MOST_PARAMETERS, Name, Part, Position, Ramp, Screen, Timed,
+};
 use std::fmt;
 
 /// A case that was answered otherwise than expected.
@@ -21,21 +23,19 @@ impl fmt::Display for Difference {
 }
 
 /// Runs every case of a file and answers those that differ; `done` is told how many have run.
-pub fn run(calls: &dyn Calls, file: &CaseFile, mut done: impl FnMut(usize)) -> Vec<Difference> {
-    let mut runner = Runner { calls, file, nodes: None };
-    let mut differences = Vec::new();
-    for (k, case) in file.cases.iter().enumerate() {
-        if let Err(why) = runner.case(&case.input, &case.expected) {
-            differences.push(Difference { case: case.clone(), why });
-        }
-        done(k + 1);
-    }
-    differences
+pub fn run(calls: &dyn Calls, file: &CaseFile, done: impl FnMut(usize)) -> Vec<Difference> {
+    Runner { timed: calls, others: Some(calls), file, nodes: None }.differences(done)
 }
 
-/// The calls, the file, and the node list that was made last.
+/// As `run`, by a back end of the timed calls alone: a case of another call differs.
+pub fn run_timed(timed: &dyn Timed, file: &CaseFile, done: impl FnMut(usize)) -> Vec<Difference> {
+    Runner { timed, others: None, file, nodes: None }.differences(done)
+}
+
+/// The back end's calls, the file, and the node list that was made last.
 struct Runner<'a> {
-    calls: &'a dyn Calls,
+    timed: &'a dyn Timed,
+    others: Option<&'a dyn Calls>,
     file: &'a CaseFile,
     nodes: Option<(String, Vec<i32>)>,
 }
@@ -69,31 +69,47 @@ fn factor_group(ramps: &[Ramp]) -> Group {
     group
 }
 
-impl Runner<'_> {
+impl<'a> Runner<'a> {
+    fn differences(&mut self, mut done: impl FnMut(usize)) -> Vec<Difference> {
+        let mut differences = Vec::new();
+        for (k, case) in self.file.cases.iter().enumerate() {
+            if let Err(why) = self.case(&case.input, &case.expected) {
+                differences.push(Difference { case: case.clone(), why });
+            }
+            done(k + 1);
+        }
+        differences
+    }
+
+    /// The calls that are not timed.
+    fn others(&self) -> Result<&'a dyn Calls, String> {
+        self.others.ok_or_else(|| "the back end has no such call".to_string())
+    }
+
     fn case(&mut self, input: &Input, expected: &Expected) -> Result<(), String> {
         match input {
             Input::ReadHeader { text } => self.read_header(text, expected),
             Input::JudgeRecord { group } => self.judge(self.file.group(group), expected),
             Input::WriteHeader { group, out_len } => self.write_header(self.file.group(group), *out_len, expected),
             Input::Field { line, number } => self.field(line, *number, expected),
-            Input::Lookup { group, nodes, lon, lat, day } => {
+            &Input::Lookup { ref group, ref nodes, lon, lat, day } => {
                 self.make_nodes(nodes);
                 let (_, made) = self.nodes.as_ref().expect("made just now");
-                self.lookup(self.file.group(group), made, [*lon, *lat, *day], expected)
+                self.lookup(self.file.group(group), made, Position { lon, lat, day }, expected)
             }
-            Input::InForce { group, west, east, south, north } => {
-                self.in_force(self.file.group(group), [*west, *east, *south, *north], expected)
+            &Input::InForce { ref group, west, east, south, north } => {
+                self.in_force(self.file.group(group), Area { west, east, south, north }, expected)
             }
             Input::Load { quantum, flag, out_len, floats } => self.load(floats, *flag, *quantum, *out_len, expected),
-            Input::Screen { lon, lat, quantum, parameters, number, at, fix } => {
-                self.screen([*lon, *lat], [*quantum, *parameters], [*number, *at], fix, expected)
+            &Input::Screen { lon, lat, quantum, parameters, number, at, fix } => {
+                self.screen(lon, lat, &Found { quantum, parameters, number, at, fix }, expected)
             }
             Input::DayFactor { ramps, day } => {
                 let fix = match *expected {
                     Expected::Factor(factor) => Expected::Fix(Fix { grid: 1, result: [factor, 0, 0] }),
                     _ => expected.clone(),
                 };
-                self.lookup(&factor_group(ramps), &[1_000_000; 4], [0, 0, *day], &fix)
+                self.lookup(&factor_group(ramps), &[1_000_000; 4], Position { lon: 0, lat: 0, day: *day }, &fix)
             }
         }
     }
@@ -107,7 +123,7 @@ impl Runner<'_> {
 
     fn read_header(&self, text: &[u8], expected: &Expected) -> Result<(), String> {
         let (mut group, mut place) = (Group::patterned(), lent());
-        let number = self.calls.read_header(text, &mut group, &mut place);
+        let number = self.timed.read_header(text, &mut group, &mut place);
         returned((number, place), expected)?;
         match expected {
             Expected::Group(read) => compare("group", group.words(), read.words()),
@@ -117,13 +133,13 @@ impl Runner<'_> {
 
     fn judge(&self, group: &Group, expected: &Expected) -> Result<(), String> {
         let mut place = lent();
-        let number = self.calls.judge(group, &mut place);
+        let number = self.timed.judge(group, &mut place);
         returned((number, place), expected)
     }
 
     fn write_header(&self, group: &Group, out_len: usize, expected: &Expected) -> Result<(), String> {
         let (mut out, mut count, mut place) = (patterned(out_len), lent(), lent());
-        let number = self.calls.write_header(group, &mut out, &mut count, &mut place);
+        let number = self.timed.write_header(group, &mut out, &mut count, &mut place);
         let (bytes, text): (u64, &[u8]) = match expected {
             Expected::Written { count, bytes } => (*count, bytes),
             _ => (0, &[]),
@@ -136,19 +152,13 @@ impl Runner<'_> {
     fn field(&self, line: &[u8], k: u64, expected: &Expected) -> Result<(), String> {
         let Expected::Part(expected) = expected else { return Err("a field is never refused".to_string()) };
         let mut part = Part::patterned();
-        self.calls.field(line, k, &mut part);
+        self.others()?.field(line, k, &mut part);
         compare("part", part.words(), expected.words())
     }
 
-    fn lookup(
-        &self,
-        group: &Group,
-        nodes: &[i32],
-        [lon, lat, day]: [i64; 3],
-        expected: &Expected,
-    ) -> Result<(), String> {
+    fn lookup(&self, group: &Group, nodes: &[i32], at: Position, expected: &Expected) -> Result<(), String> {
         let (mut fix, mut place) = (Fix::patterned(), lent());
-        let number = self.calls.lookup(group, nodes, lon, lat, day, &mut fix, &mut place);
+        let number = self.timed.lookup(group, nodes, at, &mut fix, &mut place);
         let found = match *expected {
             Expected::Fix(fix) => fix,
             _ => Fix::default(),
@@ -157,9 +167,9 @@ impl Runner<'_> {
         compare("fix", fix.words(), found.words())
     }
 
-    fn in_force(&self, group: &Group, [west, east, south, north]: [i64; 4], expected: &Expected) -> Result<(), String> {
+    fn in_force(&self, group: &Group, area: Area, expected: &Expected) -> Result<(), String> {
         let (mut list, mut place) = (InForce::patterned(), lent());
-        let number = self.calls.grids_in_force(group, west, east, south, north, &mut list, &mut place);
+        let number = self.timed.grids_in_force(group, area, &mut list, &mut place);
         let listed = match expected {
             Expected::InForce { count, entries } => InForce { count: *count, ..InForce::new(entries) },
             _ => InForce::default(),
@@ -170,7 +180,7 @@ impl Runner<'_> {
 
     fn load(&self, floats: &[f32], flag: f32, quantum: i64, out_len: usize, expected: &Expected) -> Result<(), String> {
         let (mut nodes, mut place) = (patterned(out_len), lent());
-        let number = self.calls.load_nodes(floats, flag, quantum, &mut nodes, &mut place);
+        let number = self.timed.load_nodes(floats, flag, quantum, &mut nodes, &mut place);
         let loaded: &[i32] = match expected {
             Expected::Nodes(loaded) => loaded,
             _ => &[],
@@ -181,14 +191,8 @@ impl Runner<'_> {
 
     /// A screen case expects five floats, all +0 where the lookup was refused: both calls must give them, and hand the
     /// lookup's refusal on.
-    fn screen(
-        &self,
-        [lon, lat]: [i64; 2],
-        [quantum, parameters]: [i64; 2],
-        [number, at]: [u64; 2],
-        fix: &Fix,
-        expected: &Expected,
-    ) -> Result<(), String> {
+    fn screen(&self, lon: i64, lat: i64, found: &Found, expected: &Expected) -> Result<(), String> {
+        let &Found { number, at, .. } = found;
         let (shown, answer) = match *expected {
             Expected::Screen([longitude, latitude, ref shift @ ..]) => {
                 let shift: [f64; MOST_PARAMETERS] = shift.map(f64::from_bits);
@@ -198,11 +202,11 @@ impl Runner<'_> {
             _ => (Screen::default(), expected.clone()),
         };
         let (mut screen, mut place) = (Screen::patterned(), lent());
-        let got = self.calls.screen_record(lon, lat, quantum, parameters, number, at, fix, &mut screen, &mut place);
+        let got = self.others()?.screen_record(lon, lat, found, &mut screen, &mut place);
         returned((got, place), &answer).map_err(|why| format!("record: {why}"))?;
         compare("screen", screen.words(), shown.words())?;
         let (mut shifts, mut place) = (Screen::patterned().shift, lent());
-        let got = self.calls.screen_answer(quantum, parameters, number, at, fix, &mut shifts, &mut place);
+        let got = self.others()?.screen_answer(found, &mut shifts, &mut place);
         returned((got, place), &answer).map_err(|why| format!("answer: {why}"))?;
         compare("shifts", &shifts, &shown.shift)
     }

@@ -1,255 +1,252 @@
 //! The second program with one fault: what a differential test must find.
 
-use interface::{Calls, Fix, Grid, Group, InForce, MARK, MOST_PARAMETERS, Part, Screen};
+use interface::{Area, Calls, Fix, Found, Grid, Group, InForce, MARK, MOST_PARAMETERS, Part, Position, Screen, Timed};
 use reference::Reference;
 
-#[derive(Clone, Copy, Debug, PartialEq, Eq)]
-pub enum Fault {
-    ClashNamesTheEarlierGrid,
-    FarEdgeIsNotJudged,
-    NameIsThatOfTheGridBeside,
-    OnlyTheFirstGridLineIsRead,
-    RefusedHeaderZeroesTheGroup,
-    OneByteBehindTheText,
-    PastTheLastFieldIsZero,
-    LookupAlwaysRefuses,
-    LookupAlwaysAnswersZero,
-    HalvesAwayFromZero,
-    WorseGridWhereTheBestLacksData,
-    GridAndFirstResultSwapped,
-    EmptyList,
-    FullList,
-    CornerOfTheGridForItsFirstCoordinate,
-    LastNodeIsNotWritten,
-    ZeroFlagCatchesBothZeros,
-    NegativeQuantumIsZero,
-    MissingShiftIsMinusZero,
-    NumberOutsideTheTableIsHandedOn,
-    PlaceOfTheLookupIsLost,
-    DegreesAfterARefusal,
-    NegativeParametersAreThree,
+/// `Mutant`, a back end by a function for each call, and `SOUND`, whose functions are the second program's calls.
+macro_rules! mutant {
+    ($($kind:ident { $(fn $call:ident($($name:ident: $type:ty),*) $(-> $answer:ty)?;)* })*) => {
+        pub struct Mutant {
+            $($($call: fn($($type),*) $(-> $answer)?,)*)*
+        }
+
+        const SOUND: Mutant = Mutant { $($($call: |$($name),*| Reference.$call($($name),*),)*)* };
+
+        $(impl $kind for Mutant {
+            $(fn $call(&self, $($name: $type),*) $(-> $answer)? {
+                (self.$call)($($name),*)
+            })*
+        })*
+    };
 }
 
-use Fault::*;
-
-impl Fault {
-    /// Each fault with the call that it breaks.
-    pub const ALL: [(Fault, &'static str); 23] = [
-        (ClashNamesTheEarlierGrid, "judge"),
-        (FarEdgeIsNotJudged, "judge"),
-        (NameIsThatOfTheGridBeside, "judge"),
-        (OnlyTheFirstGridLineIsRead, "read_header"),
-        (RefusedHeaderZeroesTheGroup, "read_header"),
-        (OneByteBehindTheText, "write_header"),
-        (PastTheLastFieldIsZero, "field"),
-        (LookupAlwaysRefuses, "lookup"),
-        (LookupAlwaysAnswersZero, "lookup"),
-        (HalvesAwayFromZero, "lookup"),
-        (WorseGridWhereTheBestLacksData, "lookup"),
-        (GridAndFirstResultSwapped, "lookup"),
-        (EmptyList, "grids_in_force"),
-        (FullList, "grids_in_force"),
-        (CornerOfTheGridForItsFirstCoordinate, "grids_in_force"),
-        (LastNodeIsNotWritten, "load_nodes"),
-        (ZeroFlagCatchesBothZeros, "load_nodes"),
-        (NegativeQuantumIsZero, "load_nodes"),
-        (MissingShiftIsMinusZero, "screen_answer"),
-        (NumberOutsideTheTableIsHandedOn, "screen_answer"),
-        (PlaceOfTheLookupIsLost, "screen_answer"),
-        (DegreesAfterARefusal, "screen_record"),
-        (NegativeParametersAreThree, "screen_record"),
-    ];
+mutant! {
+    Timed {
+        fn judge(group: &Group, place: &mut u64) -> u64;
+        fn read_header(text: &[u8], group: &mut Group, place: &mut u64) -> u64;
+        fn write_header(group: &Group, out: &mut [u8], count: &mut u64, place: &mut u64) -> u64;
+        fn lookup(group: &Group, nodes: &[i32], at: Position, fix: &mut Fix, place: &mut u64) -> u64;
+        fn grids_in_force(group: &Group, area: Area, list: &mut InForce, place: &mut u64) -> u64;
+        fn load_nodes(floats: &[f32], flag: f32, quantum: i64, nodes: &mut [i32], place: &mut u64) -> u64;
+    }
+    Calls {
+        fn version() -> u64;
+        fn field(line: &[u8], number: u64, part: &mut Part);
+        fn screen_answer(found: &Found, shifts: &mut [f64; MOST_PARAMETERS], place: &mut u64) -> u64;
+        fn screen_record(lon: i64, lat: i64, found: &Found, screen: &mut Screen, place: &mut u64) -> u64;
+    }
 }
 
-pub struct Mutant(pub Fault);
-
-/// The group without one of its grids: the last one takes its entry.
-fn without(group: &Group, grid: i64) -> Group {
-    let mut group = group.clone();
-    group.grids -= 1;
-    let last = group.grids as usize;
-    group.grid[grid as usize - 1] = group.grid[last];
-    group.grid[last] = Grid::default();
-    group
+/// `MUTANTS`: each fault by its name, the call that it bends, and the back end that has it.
+macro_rules! mutants {
+    ($($call:ident: $($fault:ident),*;)*) => {
+        pub const MUTANTS: &[(&str, &str, Mutant)] =
+            &[$($((stringify!($fault), stringify!($call), Mutant { $call: $fault, ..SOUND }),)*)*];
+    };
 }
 
-/// The group with each grid's name where that of the next one should be.
-fn named_beside(group: &Group) -> Group {
+mutants! {
+    judge: clash_names_the_earlier_grid, far_edge_is_not_judged, name_is_that_of_the_grid_beside;
+    read_header: only_the_first_grid_line_is_read, refused_header_zeroes_the_group;
+    write_header: one_byte_behind_the_text;
+    field: past_the_last_field_is_zero;
+    lookup: lookup_always_refuses, lookup_always_answers_zero, halves_away_from_zero,
+        worse_grid_where_the_best_lacks_data, grid_and_first_result_swapped;
+    grids_in_force: empty_list, full_list, corner_of_the_grid_for_its_first_coordinate;
+    load_nodes: last_node_is_not_written, zero_flag_catches_both_zeros, negative_quantum_is_zero;
+    screen_answer: missing_shift_is_minus_zero, number_outside_the_table_is_handed_on, place_of_the_lookup_is_lost;
+    screen_record: degrees_after_a_refusal, negative_parameters_are_three;
+}
+
+fn clash_names_the_earlier_grid(group: &Group, place: &mut u64) -> u64 {
+    let number = Reference.judge(group, place);
+    *place -= u64::from(number == 5);
+    number
+}
+
+fn far_edge_is_not_judged(group: &Group, place: &mut u64) -> u64 {
+    let number = Reference.judge(group, place);
+    if number != 4 {
+        return number;
+    }
+    *place = 0;
+    0
+}
+
+/// Each grid is judged by the name of the one before it.
+fn name_is_that_of_the_grid_beside(group: &Group, place: &mut u64) -> u64 {
     let mut other = group.clone();
     for (grid, beside) in other.grid[1..].iter_mut().zip(&group.grid) {
         grid.name = beside.name;
     }
-    other
+    Reference.judge(&other, place)
 }
 
-impl Calls for Mutant {
-    fn version(&self) -> u64 {
-        Reference.version()
+fn only_the_first_grid_line_is_read(text: &[u8], group: &mut Group, place: &mut u64) -> u64 {
+    let number = Reference.read_header(text, group, place);
+    if number == 0 {
+        let first = group.grid[0];
+        group.grid[..group.grids as usize].fill(first);
     }
+    number
+}
 
-    fn judge(&self, group: &Group, place: &mut u64) -> u64 {
-        if self.0 == NameIsThatOfTheGridBeside {
-            return Reference.judge(&named_beside(group), place);
-        }
-        let number = Reference.judge(group, place);
-        match (self.0, number) {
-            (ClashNamesTheEarlierGrid, 5) => *place -= 1,
-            (FarEdgeIsNotJudged, 4) => {
-                *place = 0;
-                return 0;
-            }
-            _ => {}
-        }
-        number
+fn refused_header_zeroes_the_group(text: &[u8], group: &mut Group, place: &mut u64) -> u64 {
+    let number = Reference.read_header(text, group, place);
+    if number != 0 {
+        *group = Group::default();
     }
+    number
+}
 
-    fn read_header(&self, text: &[u8], group: &mut Group, place: &mut u64) -> u64 {
-        let number = Reference.read_header(text, group, place);
-        match (self.0, number) {
-            (OnlyTheFirstGridLineIsRead, 0) => {
-                let first = group.grid[0];
-                group.grid[..group.grids as usize].fill(first);
-            }
-            (RefusedHeaderZeroesTheGroup, 1..=5) => *group = Group::default(),
-            _ => {}
-        }
-        number
+fn one_byte_behind_the_text(group: &Group, out: &mut [u8], count: &mut u64, place: &mut u64) -> u64 {
+    let number = Reference.write_header(group, out, count, place);
+    if number == 0 {
+        out.iter_mut().skip(*count as usize).take(1).for_each(|byte| *byte = 0);
     }
+    number
+}
 
-    fn write_header(&self, group: &Group, out: &mut [u8], count: &mut u64, place: &mut u64) -> u64 {
-        let number = Reference.write_header(group, out, count, place);
-        if (self.0, number) == (OneByteBehindTheText, 0) {
-            out.iter_mut().skip(*count as usize).take(1).for_each(|byte| *byte = 0);
-        }
-        number
+fn past_the_last_field_is_zero(line: &[u8], number: u64, part: &mut Part) {
+    Reference.field(line, number, part);
+    if number >= line.split(|&c| c == b'\t').count() as u64 {
+        *part = Part::default();
     }
+}
 
-    fn field(&self, line: &[u8], number: u64, part: &mut Part) {
-        Reference.field(line, number, part);
-        if self.0 == PastTheLastFieldIsZero && number >= line.split(|&c| c == b'\t').count() as u64 {
-            *part = Part::default();
-        }
-    }
+fn lookup_always_refuses(group: &Group, nodes: &[i32], at: Position, fix: &mut Fix, place: &mut u64) -> u64 {
+    let number = Reference.lookup(group, nodes, at, fix, place);
+    *fix = Fix::default();
+    if number == 0 { 7 } else { number }
+}
 
-    fn lookup(
-        &self,
-        group: &Group,
-        nodes: &[i32],
-        lon: i64,
-        lat: i64,
-        day: i64,
-        fix: &mut Fix,
-        place: &mut u64,
-    ) -> u64 {
-        let number = Reference.lookup(group, nodes, lon, lat, day, fix, place);
-        match (self.0, number) {
-            (LookupAlwaysRefuses, 0) => {
-                *fix = Fix::default();
-                return 7;
-            }
-            (LookupAlwaysAnswersZero, 0) => fix.result.fill(0),
-            (GridAndFirstResultSwapped, 0) => std::mem::swap(&mut fix.grid, &mut fix.result[0]),
-            (HalvesAwayFromZero, 0) if nodes.iter().all(|v| (-3..=3).contains(v)) => {
-                let doubled: Vec<i32> = nodes.iter().map(|v| 2 * v).collect();
-                let mut twice = Fix::default();
-                Reference.lookup(group, &doubled, lon, lat, day, &mut twice, place);
-                for (result, double) in fix.result.iter_mut().zip(twice.result) {
-                    *result += i64::from(double == 2 * *result + 1);
-                }
-            }
-            (WorseGridWhereTheBestLacksData, 8) => {
-                let blank: Vec<i32> = nodes.iter().map(|&v| if v == MARK { 0 } else { v.clamp(-3, 3) }).collect();
-                let mut best = Fix::default();
-                Reference.lookup(group, &blank, lon, lat, day, &mut best, place);
-                return Reference.lookup(&without(group, best.grid), nodes, lon, lat, day, fix, place);
-            }
-            _ => {}
-        }
-        number
-    }
+fn lookup_always_answers_zero(group: &Group, nodes: &[i32], at: Position, fix: &mut Fix, place: &mut u64) -> u64 {
+    let number = Reference.lookup(group, nodes, at, fix, place);
+    fix.result.fill(0);
+    number
+}
 
-    fn grids_in_force(
-        &self,
-        group: &Group,
-        west: i64,
-        east: i64,
-        south: i64,
-        north: i64,
-        list: &mut InForce,
-        place: &mut u64,
-    ) -> u64 {
-        let number = Reference.grids_in_force(group, west, east, south, north, list, place);
-        match (self.0, number) {
-            (EmptyList, 0) => *list = InForce::default(),
-            (FullList, 0) => list.count = group.grids,
-            (CornerOfTheGridForItsFirstCoordinate, 0) => {
-                for entry in &mut list.entry[..list.count as usize] {
-                    let grid = &group.grid[entry.grid as usize - 1];
-                    let far = grid.lon + (grid.ni - 1) * grid.dlon;
-                    entry.lon = grid.lon.min(far).max(west);
-                }
-            }
-            _ => {}
+fn halves_away_from_zero(group: &Group, nodes: &[i32], at: Position, fix: &mut Fix, place: &mut u64) -> u64 {
+    let number = Reference.lookup(group, nodes, at, fix, place);
+    if number == 0 && nodes.iter().all(|v| (-3..=3).contains(v)) {
+        let doubled: Vec<i32> = nodes.iter().map(|v| 2 * v).collect();
+        let mut twice = Fix::default();
+        Reference.lookup(group, &doubled, at, &mut twice, place);
+        for (result, double) in fix.result.iter_mut().zip(twice.result) {
+            *result += i64::from(double == 2 * *result + 1);
         }
-        number
     }
+    number
+}
 
-    fn load_nodes(&self, floats: &[f32], flag: f32, quantum: i64, nodes: &mut [i32], place: &mut u64) -> u64 {
-        let last = nodes.last().copied();
-        let quantum = if self.0 == NegativeQuantumIsZero { quantum.max(0) } else { quantum };
-        let number = Reference.load_nodes(floats, flag, quantum, nodes, place);
-        match (self.0, number, nodes) {
-            (LastNodeIsNotWritten, 0, [_, .., node]) => *node = last.unwrap_or(0),
-            (ZeroFlagCatchesBothZeros, 0, nodes) if flag == 0.0 => {
-                for (node, _) in nodes.iter_mut().zip(floats).filter(|(_, x)| **x == 0.0) {
-                    *node = MARK;
-                }
-            }
-            _ => {}
-        }
-        number
+/// Where the best grid has no data, it is left out: the last one takes its entry.
+fn worse_grid_where_the_best_lacks_data(
+    group: &Group,
+    nodes: &[i32],
+    at: Position,
+    fix: &mut Fix,
+    place: &mut u64,
+) -> u64 {
+    let number = Reference.lookup(group, nodes, at, fix, place);
+    if number != 8 {
+        return number;
     }
+    let blank: Vec<i32> = nodes.iter().map(|&v| if v == MARK { 0 } else { v.clamp(-3, 3) }).collect();
+    let mut best = Fix::default();
+    Reference.lookup(group, &blank, at, &mut best, place);
+    let mut others = group.clone();
+    others.grids -= 1;
+    let last = others.grids as usize;
+    others.grid[best.grid as usize - 1] = group.grid[last];
+    others.grid[last] = Grid::default();
+    Reference.lookup(&others, nodes, at, fix, place)
+}
 
-    fn screen_answer(
-        &self,
-        quantum: i64,
-        parameters: i64,
-        number: u64,
-        at: u64,
-        fix: &Fix,
-        shifts: &mut [f64; MOST_PARAMETERS],
-        place: &mut u64,
-    ) -> u64 {
-        let returned = Reference.screen_answer(quantum, parameters, number, at, fix, shifts, place);
-        match (self.0, returned) {
-            (MissingShiftIsMinusZero, 0) if shifts[2] == 0.0 => shifts[2] = -0.0,
-            (NumberOutsideTheTableIsHandedOn, 2) if number > 13 => {
-                *place = at;
-                return number;
-            }
-            (PlaceOfTheLookupIsLost, 3..) => *place = 0,
-            _ => {}
-        }
-        returned
-    }
+fn grid_and_first_result_swapped(group: &Group, nodes: &[i32], at: Position, fix: &mut Fix, place: &mut u64) -> u64 {
+    let number = Reference.lookup(group, nodes, at, fix, place);
+    std::mem::swap(&mut fix.grid, &mut fix.result[0]);
+    number
+}
 
-    fn screen_record(
-        &self,
-        lon: i64,
-        lat: i64,
-        quantum: i64,
-        parameters: i64,
-        number: u64,
-        at: u64,
-        fix: &Fix,
-        screen: &mut Screen,
-        place: &mut u64,
-    ) -> u64 {
-        let np = if self.0 == NegativeParametersAreThree && parameters < 0 { 3 } else { parameters };
-        let returned = Reference.screen_record(lon, lat, quantum, np, number, at, fix, screen, place);
-        if self.0 == DegreesAfterARefusal && returned == 7 {
-            screen.longitude = lon as f64 / 3_600_000.0;
-        }
-        returned
+fn empty_list(group: &Group, area: Area, list: &mut InForce, place: &mut u64) -> u64 {
+    let number = Reference.grids_in_force(group, area, list, place);
+    *list = InForce::default();
+    number
+}
+
+fn full_list(group: &Group, area: Area, list: &mut InForce, place: &mut u64) -> u64 {
+    let number = Reference.grids_in_force(group, area, list, place);
+    if number == 0 {
+        list.count = group.grids;
     }
+    number
+}
+
+fn corner_of_the_grid_for_its_first_coordinate(group: &Group, area: Area, list: &mut InForce, place: &mut u64) -> u64 {
+    let number = Reference.grids_in_force(group, area, list, place);
+    for entry in &mut list.entry[..list.count as usize] {
+        let grid = &group.grid[entry.grid as usize - 1];
+        let far = grid.lon + (grid.ni - 1) * grid.dlon;
+        entry.lon = grid.lon.min(far).max(area.west);
+    }
+    number
+}
+
+fn last_node_is_not_written(floats: &[f32], flag: f32, quantum: i64, nodes: &mut [i32], place: &mut u64) -> u64 {
+    let last = nodes.last().copied();
+    let number = Reference.load_nodes(floats, flag, quantum, nodes, place);
+    if let ([_, .., node], Some(last)) = (nodes, last) {
+        *node = last;
+    }
+    number
+}
+
+fn zero_flag_catches_both_zeros(floats: &[f32], flag: f32, quantum: i64, nodes: &mut [i32], place: &mut u64) -> u64 {
+    let number = Reference.load_nodes(floats, flag, quantum, nodes, place);
+    if number == 0 && flag == 0.0 {
+        for (node, _) in nodes.iter_mut().zip(floats).filter(|(_, x)| **x == 0.0) {
+            *node = MARK;
+        }
+    }
+    number
+}
+
+fn negative_quantum_is_zero(floats: &[f32], flag: f32, quantum: i64, nodes: &mut [i32], place: &mut u64) -> u64 {
+    Reference.load_nodes(floats, flag, quantum.max(0), nodes, place)
+}
+
+fn missing_shift_is_minus_zero(found: &Found, shifts: &mut [f64; MOST_PARAMETERS], place: &mut u64) -> u64 {
+    let returned = Reference.screen_answer(found, shifts, place);
+    if returned == 0 && shifts[2] == 0.0 {
+        shifts[2] = -0.0;
+    }
+    returned
+}
+
+fn number_outside_the_table_is_handed_on(found: &Found, shifts: &mut [f64; MOST_PARAMETERS], place: &mut u64) -> u64 {
+    let returned = Reference.screen_answer(found, shifts, place);
+    if returned != 2 || found.number <= 13 {
+        return returned;
+    }
+    *place = found.at;
+    found.number
+}
+
+fn place_of_the_lookup_is_lost(found: &Found, shifts: &mut [f64; MOST_PARAMETERS], place: &mut u64) -> u64 {
+    let returned = Reference.screen_answer(found, shifts, place);
+    *place = 0;
+    returned
+}
+
+fn degrees_after_a_refusal(lon: i64, lat: i64, found: &Found, screen: &mut Screen, place: &mut u64) -> u64 {
+    let returned = Reference.screen_record(lon, lat, found, screen, place);
+    if returned == 7 {
+        screen.longitude = lon as f64 / 3_600_000.0;
+    }
+    returned
+}
+
+fn negative_parameters_are_three(lon: i64, lat: i64, found: &Found, screen: &mut Screen, place: &mut u64) -> u64 {
+    let parameters = if found.parameters < 0 { 3 } else { found.parameters };
+    Reference.screen_record(lon, lat, &Found { parameters, ..*found }, screen, place)
 }
