@@ -84,9 +84,21 @@ pub fn all(sizes: Sizes) -> Vec<Row> {
     ]
 }
 
+/// The indices of the rows with one of these words in their name, of all rows if there are no words. Words that no name has
+/// are an error.
+pub fn named(rows: &[Row], words: &[&str]) -> Result<Vec<usize>, String> {
+    let has = |row: &Row, word: &str| row.name.contains(word);
+    if let Some(word) = words.iter().find(|word| !rows.iter().any(|row| has(row, word))) {
+        let names: String = rows.iter().map(|row| format!("\n  {}", row.name)).collect();
+        return Err(format!("no row has '{word}' in its name; the rows are{names}"));
+    }
+    let asked = |&k: &usize| words.is_empty() || words.iter().any(|word| has(&rows[k], word));
+    Ok((0..rows.len()).filter(asked).collect())
+}
+
 #[cfg(test)]
 mod tests {
-    use super::{Sizes, all};
+    use super::{Sizes, WHOLE, all, named};
     use crate::back_end;
     use crate::measure::answers;
     use reference::Reference;
@@ -103,5 +115,20 @@ mod tests {
             let refused = if row.name.contains("digits") { 2 } else { 0 };
             assert_eq!(answers[0][0], refused, "{}", row.name);
         }
+    }
+
+    #[test]
+    fn words_choose_the_rows_that_have_one_of_them() {
+        let rows = all(WHOLE);
+        let chosen = |words: &[&str]| -> Vec<&str> {
+            named(&rows, words).expect("each is in a name").into_iter().map(|k| rows[k].name).collect()
+        };
+        assert_eq!(chosen(&[]).len(), rows.len());
+        assert_eq!(chosen(&["one lookup"]), ["one lookup, 1 grid", "one lookup, 64 grids"]);
+        assert_eq!(chosen(&["stairs", "judge"]), ["judge of 64 grids", "grids in force, stairs"]);
+        let layouts = chosen(&["grids in force", "stairs"]);
+        assert!(layouts.len() > 1 && layouts.iter().all(|name| name.starts_with("grids in force")));
+        let why = named(&rows, &["stairs", "stares"]).expect_err("no name has it");
+        assert!(why.starts_with("no row has 'stares' in its name; the rows are\n  judge of 64 grids\n"), "{why}");
     }
 }

@@ -5,15 +5,39 @@ use crate::count::instructions;
 use crate::measure::{RUNS, answers, best_times};
 use crate::work::Row;
 
-/// What is measured.
-#[derive(Clone, Copy, PartialEq, Eq)]
+/// What is measured; of instructions, so many figures at a time.
+#[derive(Clone, Copy, Debug, PartialEq, Eq)]
 pub enum Measure {
     Time,
-    Instructions,
+    Instructions { jobs: usize },
 }
 
-/// Prints the table's head.
-pub fn print_head(back_ends: &[BackEnd]) {
+/// Prints a table of some of the rows, given by their indices; why it can't be had, otherwise.
+pub fn print(rows: &[Row], chosen: &[usize], measure: Measure, back_ends: &[BackEnd]) -> Result<(), String> {
+    print_head(back_ends);
+    let all = chosen.iter().flat_map(|&row| (0..back_ends.len()).map(move |back_end| (row, back_end)));
+    let mut counts = match measure {
+        Measure::Time => None,
+        Measure::Instructions { jobs } => Some(instructions(all, jobs)),
+    };
+    for row in chosen.iter().map(|&index| &rows[index]) {
+        alike(row, back_ends)?;
+        let figures: Vec<f64> = match &mut counts {
+            None => {
+                let times = best_times(&mut *(row.make)(), row.repeats, RUNS, back_ends);
+                times.iter().map(|time| time.as_secs_f64()).collect()
+            }
+            Some(counts) => {
+                let counts = counts.take(back_ends.len());
+                counts.map(|count| count.map(|n| n as f64)).collect::<Result<_, _>>()?
+            }
+        };
+        print_row(row, measure, &figures);
+    }
+    Ok(())
+}
+
+fn print_head(back_ends: &[BackEnd]) {
     let (_, plain) = back_ends.split_last().expect("the library is one");
     let names = back_ends.iter().map(|b| b.name.to_string());
     let ratios = plain.iter().map(|b| format!("library / {}", b.name));
@@ -22,30 +46,23 @@ pub fn print_head(back_ends: &[BackEnd]) {
     println!("|---|{}", "---:|".repeat(columns.len()));
 }
 
-/// Prints a row, number `index`; why it can't be had, otherwise.
-pub fn print_row(index: usize, row: &Row, measure: Measure, back_ends: &[BackEnd]) -> Result<(), String> {
+/// Says which back ends answer a row differently, if any.
+fn alike(row: &Row, back_ends: &[BackEnd]) -> Result<(), String> {
     let answers = answers(row, back_ends);
-    if let Some(k) = answers.iter().position(|answer| *answer != answers[0]) {
-        return Err(format!("{}: {} and {} answer differently", row.name, back_ends[0].name, back_ends[k].name));
+    match answers.iter().position(|answer| *answer != answers[0]) {
+        Some(k) => Err(format!("{}: {} and {} answer differently", row.name, back_ends[0].name, back_ends[k].name)),
+        None => Ok(()),
     }
-    let figures: Vec<f64> = match measure {
-        Measure::Time => {
-            let times = best_times(&mut *(row.make)(), row.repeats, RUNS, back_ends);
-            times.iter().map(|time| time.as_secs_f64()).collect()
-        }
-        Measure::Instructions => {
-            let counts = (0..back_ends.len()).map(|k| instructions(index, k));
-            counts.map(|count| count.map(|n| n as f64)).collect::<Result<_, _>>()?
-        }
-    };
+}
+
+fn print_row(row: &Row, measure: Measure, figures: &[f64]) {
     let (library, plain) = figures.split_last().expect("the library is one");
     let shown = figures.iter().map(|&figure| match measure {
         Measure::Time => time(figure),
-        Measure::Instructions => grouped(figure as u64),
+        Measure::Instructions { .. } => grouped(figure as u64),
     });
     let ratios = plain.iter().map(|plain| format!("{:.2}", library / plain));
     println!("| {} | {} |", row.name, shown.chain(ratios).collect::<Vec<_>>().join(" | "));
-    Ok(())
 }
 
 /// A time with three digits or so.

@@ -9,15 +9,17 @@ pub struct Refusal {
     pub place: u64,
 }
 
+type Answer<T> = Result<T, Refusal>;
+
 /// What answers each timed call. `out` and `nodes` are unchanged after a refusal.
 pub struct Answers {
-    pub judge: fn(&Group) -> Result<(), Refusal>,
-    pub read_header: fn(&[u8]) -> Result<Group, Refusal>,
+    pub judge: fn(&Group) -> Answer<()>,
+    pub read_header: fn(&[u8]) -> Answer<Group>,
     /// The count of bytes written.
-    pub write_header: fn(&Group, &mut [u8]) -> Result<usize, Refusal>,
-    pub lookup: fn(&Group, &[i32], Position) -> Result<Fix, Refusal>,
-    pub grids_in_force: fn(&Group, Area) -> Result<Vec<Entry>, Refusal>,
-    pub load_nodes: fn(&[f32], f32, i64, &mut [i32]) -> Result<(), Refusal>,
+    pub write_header: fn(&Group, &mut [u8]) -> Answer<usize>,
+    pub lookup: fn(&Group, &[i32], Position) -> Answer<Fix>,
+    pub grids_in_force: fn(&Group, Area) -> Answer<Vec<Entry>>,
+    pub load_nodes: fn(&[f32], f32, i64, &mut [i32]) -> Answer<()>,
 }
 
 /// A program that is known by its answers: a constant, so that nothing stands between the calls and its functions.
@@ -26,7 +28,7 @@ pub trait Program {
 }
 
 /// Hands a value back, zeros after a refusal, with the place; answers the refusal's number.
-pub fn hand_back<T: Default>(outcome: Result<T, Refusal>, into: &mut T, place: &mut u64) -> u64 {
+pub fn hand_back<T: Default>(outcome: Answer<T>, into: &mut T, place: &mut u64) -> u64 {
     let (number, at, value) = match outcome {
         Ok(value) => (0, 0, value),
         Err(refusal) => (refusal.number, refusal.place, T::default()),
