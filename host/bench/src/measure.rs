@@ -1,16 +1,16 @@
 //! Answers and best times of all back ends on the same work, run in turn.
 
 use crate::back_end::BackEnd;
-use crate::work::{Row, Work};
+use crate::work::Work;
 use std::time::{Duration, Instant};
 
 /// Timed runs of each back end; the best counts.
 pub const RUNS: usize = 25;
 
 /// What each back end answers, over inputs and lent memory of its own.
-pub fn answers(row: &Row, back_ends: &[BackEnd]) -> Vec<Vec<i64>> {
+pub fn answers(make: impl Fn() -> Box<dyn Work>, back_ends: &[BackEnd]) -> Vec<Vec<i64>> {
     let answer = |back_end| {
-        let mut work = (row.make)();
+        let mut work = make();
         work.run(back_end);
         work.answer()
     };

@@ -18,9 +18,7 @@ unsafe extern "C" {
 /// Plain C as a back end.
 pub struct PlainC;
 
-interface::timed_in_c!(
-    PlainC: plain_judge, plain_read_header, plain_write_header, plain_lookup, plain_grids_in_force, plain_load_nodes
-);
+interface::timed_in_c!(PlainC, "plain_");
 
 /// Looks points up in an accepted group that is judged once.
 pub fn track(group: &Group, nodes: &[i32], points: &[Position], numbers: &mut [u64], fixes: &mut [Fix]) {

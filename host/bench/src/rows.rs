@@ -108,7 +108,7 @@ mod tests {
     fn every_back_end_answers_alike() {
         let back_ends = back_end::all(&Reference);
         for row in all(Sizes { points: 30, digits: 1_000, floats: 1_000 }) {
-            let answers = answers(&row, &back_ends);
+            let answers = answers(&row.make, &back_ends);
             for (answer, back_end) in answers.iter().zip(&back_ends) {
                 assert!(*answer == answers[0], "{}: {} differs from {}", row.name, back_end.name, back_ends[0].name);
             }

@@ -2,9 +2,8 @@
 
 use crate::back_end::BackEnd;
 use crate::layouts::{Rectangle, group, wall};
-use crate::measure::best_times;
+use crate::measure::{answers, best_times};
 use crate::rows::text;
-use crate::work::Work;
 use crate::works::InForceEverywhere;
 use differ::Random;
 use std::io::Write;
@@ -33,12 +32,8 @@ fn ratio(layout: &Layout, runs: usize, back_ends: &[BackEnd]) -> f64 {
 
 /// Whether all back ends answer alike.
 fn alike(layout: &Layout, back_ends: &[BackEnd]) -> bool {
-    let answer = |back_end| {
-        let mut work = InForceEverywhere::new(group(layout));
-        work.run(back_end);
-        work.answer()
-    };
-    back_ends.windows(2).all(|two| answer(&two[0]) == answer(&two[1]))
+    let answers = answers(|| Box::new(InForceEverywhere::new(group(layout))), back_ends);
+    answers.iter().all(|answer| *answer == answers[0])
 }
 
 /// A rectangle anywhere, of an even width and height.

@@ -48,7 +48,7 @@ fn print_head(back_ends: &[BackEnd]) {
 
 /// Says which back ends answer a row differently, if any.
 fn alike(row: &Row, back_ends: &[BackEnd]) -> Result<(), String> {
-    let answers = answers(row, back_ends);
+    let answers = answers(&row.make, back_ends);
     match answers.iter().position(|answer| *answer != answers[0]) {
         Some(k) => Err(format!("{}: {} and {} answer differently", row.name, back_ends[0].name, back_ends[k].name)),
         None => Ok(()),

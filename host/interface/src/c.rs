@@ -1,24 +1,25 @@
 //! The timed calls over a program written in C.
 
-/// Declares the C functions of these names, each of the shape that its call has in include/bulhyemik.h, and answers the timed
-/// calls of a back end by them: a slice goes as pointer and length.
+/// Declares C functions whose names are a prefix and the call's name, each of the shape that its call has in
+/// include/bulhyemik.h, and answers the timed calls of a back end by them: a slice goes as pointer and length.
 ///
 /// The functions must be total; references and slices are valid memory that does not overlap where it is written, which is all
 /// that the header asks of a caller.
 #[macro_export]
 macro_rules! timed_in_c {
-    (
-        $back_end:ident: $judge:ident, $read_header:ident, $write_header:ident, $lookup:ident, $grids_in_force:ident,
-        $load_nodes:ident
-    ) => {
+    ($back_end:ident, $prefix:literal) => {
         const _: () = {
             use $crate::{Area, Fix, Group, InForce, Position};
 
             unsafe extern "C" {
-                fn $judge(group: &Group, place: &mut u64) -> u64;
-                fn $read_header(text: *const u8, text_len: usize, group: &mut Group, place: &mut u64) -> u64;
-                fn $write_header(group: &Group, out: *mut u8, out_len: usize, count: &mut u64, place: &mut u64) -> u64;
-                fn $lookup(
+                #[link_name = concat!($prefix, "judge")]
+                fn judge(group: &Group, place: &mut u64) -> u64;
+                #[link_name = concat!($prefix, "read_header")]
+                fn read_header(text: *const u8, text_len: usize, group: &mut Group, place: &mut u64) -> u64;
+                #[link_name = concat!($prefix, "write_header")]
+                fn write_header(group: &Group, out: *mut u8, out_len: usize, count: &mut u64, place: &mut u64) -> u64;
+                #[link_name = concat!($prefix, "lookup")]
+                fn lookup(
                     group: &Group,
                     nodes: *const i32,
                     nodes_len: usize,
@@ -28,7 +29,8 @@ macro_rules! timed_in_c {
                     fix: &mut Fix,
                     place: &mut u64,
                 ) -> u64;
-                fn $grids_in_force(
+                #[link_name = concat!($prefix, "grids_in_force")]
+                fn grids_in_force(
                     group: &Group,
                     west: i64,
                     east: i64,
@@ -37,7 +39,8 @@ macro_rules! timed_in_c {
                     list: &mut InForce,
                     place: &mut u64,
                 ) -> u64;
-                fn $load_nodes(
+                #[link_name = concat!($prefix, "load_nodes")]
+                fn load_nodes(
                     floats: *const f32,
                     floats_len: usize,
                     flag: f32,
@@ -50,25 +53,25 @@ macro_rules! timed_in_c {
 
             impl $crate::Timed for $back_end {
                 fn judge(&self, group: &Group, place: &mut u64) -> u64 {
-                    unsafe { $judge(group, place) }
+                    unsafe { judge(group, place) }
                 }
 
                 fn read_header(&self, text: &[u8], group: &mut Group, place: &mut u64) -> u64 {
-                    unsafe { $read_header(text.as_ptr(), text.len(), group, place) }
+                    unsafe { read_header(text.as_ptr(), text.len(), group, place) }
                 }
 
                 fn write_header(&self, group: &Group, out: &mut [u8], count: &mut u64, place: &mut u64) -> u64 {
-                    unsafe { $write_header(group, out.as_mut_ptr(), out.len(), count, place) }
+                    unsafe { write_header(group, out.as_mut_ptr(), out.len(), count, place) }
                 }
 
                 fn lookup(&self, group: &Group, nodes: &[i32], at: Position, fix: &mut Fix, place: &mut u64) -> u64 {
                     let Position { lon, lat, day } = at;
-                    unsafe { $lookup(group, nodes.as_ptr(), nodes.len(), lon, lat, day, fix, place) }
+                    unsafe { lookup(group, nodes.as_ptr(), nodes.len(), lon, lat, day, fix, place) }
                 }
 
                 fn grids_in_force(&self, group: &Group, area: Area, list: &mut InForce, place: &mut u64) -> u64 {
                     let Area { west, east, south, north } = area;
-                    unsafe { $grids_in_force(group, west, east, south, north, list, place) }
+                    unsafe { grids_in_force(group, west, east, south, north, list, place) }
                 }
 
                 fn load_nodes(
@@ -80,7 +83,7 @@ macro_rules! timed_in_c {
                     place: &mut u64,
                 ) -> u64 {
                     let (from, into) = (floats.as_ptr(), nodes.as_mut_ptr());
-                    unsafe { $load_nodes(from, floats.len(), flag, quantum, into, nodes.len(), place) }
+                    unsafe { load_nodes(from, floats.len(), flag, quantum, into, nodes.len(), place) }
                 }
             }
         };

@@ -35,10 +35,7 @@ mod c {
 /// not overlap where it is written, which is all that the header asks of a caller.
 pub struct Library;
 
-interface::timed_in_c!(
-    Library: bulhyemik_judge, bulhyemik_read_header, bulhyemik_write_header, bulhyemik_lookup, bulhyemik_grids_in_force,
-    bulhyemik_load_nodes
-);
+interface::timed_in_c!(Library, "bulhyemik_");
 
 impl Calls for Library {
     fn version(&self) -> u64 {
