@@ -113,10 +113,10 @@ module _ (quantum parameters : ℤ) (number place : ℕ) (fix : List ℤ) (q np 
   shifts-told s r fs e a b = (λ i. record { refusal = a i; lent = b i }) ∙ ap shiftsAnswer (shown-told s e)
 
   pub record-told : (lon lat x y : ℤ) (s : ScreenAnswer) (r : Refusal) (d : ScreenRecord) → x ≡ lon → y ≡ lat → s ≡ answerOf f q np
-      → r ≡ screenRefusal s → d ≡ recordOf (pointOf x y) (answerOf f q np)
+      → r ≡ screenRefusal s → d ≡ recordOf (pointOf x y) s
       → left (r .number) (r .place) (recordFloats d) ≡ recordAnswer lon lat (shownOf quantum parameters number place fix)
   record-told lon lat x y s r d ex ey e a b =
-      (λ i. record { refusal = a i; lent = recordFloats ((b ∙ (λ j. recordOf (pointOf (ex j) (ey j)) (sym e j))) i) })
+      (λ i. record { refusal = a i; lent = recordFloats ((b ∙ (λ j. recordOf (pointOf (ex j) (ey j)) s)) i) })
       ∙ ap (recordAnswer lon lat) (shown-told s e)
 
 -- the list of grids in force, stored part by part

@@ -360,13 +360,13 @@ pub extern "C" fn bulhyemik_screen_record(
 {
     let q = layout::count_of(quantum);
     let np = layout::count_of(parameters);
-    let found = lookup_of(number, at, fix);
     let point = Point {
         lon: Longitude(lon),
         lat: Latitude(lat),
     };
-    let r = screen::screen_record(point, found, q, np);
-    let refusal = screen_refusal(screen::screen_answer(found, q, np));
+    let shown = screen::screen_answer(lookup_of(number, at, fix), q, np);
+    let r = screen::record_of(point, shown);
+    let refusal = screen_refusal(shown);
     *screen = [r.longitude, r.latitude, r.first, r.second, r.third];
     *place = refusal.place;
     refusal.number

@@ -95,16 +95,11 @@ pub fn screen_answer(found: fix::Lookup, quantum: u64, parameters: u64) -> Scree
     }
 }
 
-// The point in degrees and its shifts as `screen_answer` has them; five times +0 after a refusal.
-pub fn screen_record(
-    point: group::Point,
-    found: fix::Lookup,
-    quantum: u64,
-    parameters: u64,
-) -> ScreenRecord
-    ensures { λ r. ⌜ r ≡ recordOf point (answerOf found quantum parameters) ⌝ }
+// The screen record of a point and its screen answer: the point in degrees with the shifts; five times +0 after a refusal.
+pub fn record_of(point: group::Point, answer: ScreenAnswer) -> ScreenRecord
+    ensures { λ r. ⌜ r ≡ recordOf point answer ⌝ }
 {
-    match screen_answer(found, quantum, parameters) {
+    match answer {
         ScreenAnswer::Fix(first, second, third) => ScreenRecord {
             longitude: degrees(point.lon.0),
             latitude: degrees(point.lat.0),
@@ -120,4 +115,16 @@ pub fn screen_record(
             third: 0.0,
         },
     }
+}
+
+// The point in degrees and its shifts as `screen_answer` has them; five times +0 after a refusal.
+pub fn screen_record(
+    point: group::Point,
+    found: fix::Lookup,
+    quantum: u64,
+    parameters: u64,
+) -> ScreenRecord
+    ensures { λ r. ⌜ r ≡ recordOf point (answerOf found quantum parameters) ⌝ }
+{
+    record_of(point, screen_answer(found, quantum, parameters))
 }

@@ -16,11 +16,11 @@ count-of-requires-2 c κs = search needs
 lookup-of-requires : tie.Need-lookup-of-requires
 lookup-of-requires c κs = search needs
 
-screen-record-requires : tie.Need-screen-record-requires
-screen-record-requires c κs = search needs
-
 screen-answer-requires : tie.Need-screen-answer-requires
 screen-answer-requires c κs = search needs
+
+record-of-requires : tie.Need-record-of-requires
+record-of-requires c κs = search needs
 
 screen-refusal-requires : tie.Need-screen-refusal-requires
 screen-refusal-requires c κs = search needs
@@ -30,7 +30,7 @@ returns c =
     let start = c .before .before .before .before .before .before .before .before in
     let s = start .args in
     record-told (s .quantum) (s .parameters) (s .number) (s .at) (s .fix .now) _ _ _ (c .before .before .before .before .before .before .before .count-of .ensures ∙ ap countOf (toZ-ofZ (start .fits .quantum))) (c .before .before .before .before .before .before .count-of2 .ensures ∙ ap countOf (toZ-ofZ (start .fits .parameters)))
-    (c .before .before .before .before .lookup-of .ensures) (s .lon) (s .lat) _ _ _ _ _ (toZ-ofZ (start .fits .lon)) (toZ-ofZ (start .fits .lat)) (c .before .before .screen-answer .ensures) (c .before .screen-refusal .ensures) (c .before .before .before .screen-record .ensures)
+    (c .before .before .before .before .lookup-of .ensures) (s .lon) (s .lat) _ _ _ _ _ (toZ-ofZ (start .fits .lon)) (toZ-ofZ (start .fits .lat)) (c .before .before .before .screen-answer .ensures) (c .before .screen-refusal .ensures) (c .before .before .record-of .ensures)
 
 pub bulhyemik-screen-record-spec : {M : Type 1} → statement M
 bulhyemik-screen-record-spec =
@@ -39,7 +39,7 @@ bulhyemik-screen-record-spec =
     count-of-requires
     count-of-requires-2
     lookup-of-requires
-    screen-record-requires
     screen-answer-requires
+    record-of-requires
     screen-refusal-requires
     returns)
