@@ -50,6 +50,13 @@ extern "C" {
  * raises the minor number; a changed struct, limit or meaning raises the major one. */
 #define BULHYEMIK_VERSION 1000000
 
+/* The library takes the bytes of a name eight at a time, the first as the lowest of a number. */
+#if defined(__BYTE_ORDER__) && defined(__ORDER_LITTLE_ENDIAN__)
+#if __BYTE_ORDER__ != __ORDER_LITTLE_ENDIAN__
+#error "bulhyemik.h: the library is made for machines that store the lowest byte of a number first"
+#endif
+#endif
+
 /* The refusals, and their places. */
 enum bulhyemik_refusal {
     BULHYEMIK_ACCEPTED = 0,    /* no refusal; place 0 */
