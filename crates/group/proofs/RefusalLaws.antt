@@ -3,13 +3,13 @@ use Prim.Native.Nat.{ℕ, _+_, _<_, _≤_}
 use mathlib.Core.Path.{_≡_, refl, sym, _∙_, ap, subst}
 use mathlib.Core.Bool.{Bool, true, false}
 use native.Mathlib.Omega.{arith}
-use borrow.Author.Tests.{lt-ltb, le-ltb}
+use borrow.Author.Tests.{lt-ltb, le-ltb, eq-eqb, ne-eqb}
 use Rattle.numbers.specs.First.{first, some}
 use Rattle.numbers.proofs.Bools.{true-false}
 use Rattle.group.specs.declared.Refusal.{Refusal}
 use Rattle.group.specs.declared.Verdict.{Verdict}
 use Rattle.group.specs.declared.Verdict.the-variants.{Accepted, Refused}
-use Rattle.group.specs.Refusals.{refusal, noRefusal, inTable, verdictRefusal, refuseIf, refuseFirst, unlessRefused, Told}
+use Rattle.group.specs.Refusals.{refusal, noRefusal, inTable, verdictRefusal, refuseIf, refuseFirst, unlessRefused, Told, lentAfter}
 
 -- ---- a stage that refuses, and one that is passed
 
@@ -67,9 +67,19 @@ module _ {A : Type 0} (refused : Refusal → A) where
     passed-first test n number base next e = passed-if (some test n) number (first test n + base) next e
 
     pub passed-verdict : (v : Verdict) (next : A) → unlessRefused refused v next ≡ x → (v ≡ Accepted) × (next ≡ x)
-    unfolding unlessRefused
     passed-verdict Accepted next e = (refl, e)
     passed-verdict (Refused r) next e = absurd (apart r e)
+
+  -- what holds of its refusals and of the answer at its end holds of a chain
+  module _ (P : A → Type 0) where
+    pub chain-if : (t : Bool) (number place : ℕ) (next : A) → P (refused (refusal number place)) → P next → P (refuseIf refused t number place next)
+    unfolding refuseIf
+    chain-if true number place next p q = p
+    chain-if false number place next p q = q
+
+    pub chain-verdict : (v : Verdict) (next : A) → ((r : Refusal) → v ≡ Refused r → P (refused r)) → P next → P (unlessRefused refused v next)
+    chain-verdict Accepted next p q = q
+    chain-verdict (Refused r) next p q = p r refl
 
 -- a verdict that refuses does not accept
 pub no-acceptance : (r : Refusal) → Refused r ≡ Accepted → ⊥
@@ -104,12 +114,24 @@ module _ {A : Type 0} {Accepts : A → Type 0} {refusalOf : A → Refusal} {refu
 
   pub told-if : (t : Bool) (number place : ℕ) {next : A} → inTable number ≡ true → Told (Accepts next) (refusalOf next)
       → Told (Accepts (refuseIf refused t number place next)) (refusalOf (refuseIf refused t number place next))
-  unfolding refuseIf
-  told-if true number place h after = told-by (refusal number place) h
-  told-if false number place h after = after
+  told-if t number place {next} h after = chain-if refused (λ x. Told (Accepts x) (refusalOf x)) t number place next (told-by (refusal number place) h) after
 
   pub told-verdict : (v : Verdict) {next : A} → Told (v ≡ Accepted) (verdictRefusal v) → Told (Accepts next) (refusalOf next)
       → Told (Accepts (unlessRefused refused v next)) (refusalOf (unlessRefused refused v next))
-  unfolding unlessRefused
   told-verdict Accepted h after = after
   told-verdict (Refused r) h after = told-by r (h .refused (no-acceptance r))
+
+-- ---- what lent memory holds
+
+-- no number of the table is 0
+pub not-zero : (number : ℕ) → inTable number ≡ true → number ≡ 0 → ⊥
+not-zero number t z = true-false t (ap inTable z)
+
+module _ {B : Type 0} (r : Refusal) (new old : B) where
+  pub lent-new : r .number ≡ 0 → lentAfter r new old ≡ new
+  unfolding lentAfter
+  lent-new z = rw (eq-eqb (r .number) 0 z) refl
+
+  pub lent-kept : (r .number ≡ 0 → ⊥) → lentAfter r new old ≡ old
+  unfolding lentAfter
+  lent-kept n = rw (ne-eqb (r .number) 0 n) refl

@@ -36,7 +36,7 @@ module _ {A : Type 0} (refused : Refusal → A) where
   refuseFirst test n number base next = refuseIf (some test n) number (first test n + base) next
 
   -- the verdict where it is a refusal, else what follows
-  unfoldable pub unlessRefused : Verdict → A → A
+  abbrev pub unlessRefused : Verdict → A → A
   unlessRefused (Refused r) next = refused r
   unlessRefused Accepted next = next
 

@@ -23,6 +23,6 @@ pub all-marked : AllHold table
 unfolding AllHold Holds table first gain nearest roundZ byteFits nameFits nameBlank headFits gridFits gridBlank
     farEdge spanOf lonSpan latSpan holds meet inside sameName sameRank refuseIf refuseFirst judgedLines judgedLimits judgedGrids judgedRanks judged
     betterOf chosen cellIndex cellAlong weightsOf usedSome valueOf rampFactor sumOf factorOf resultOf
-    F.spotOf F.cornersAt F.cornersOf F.cornerSome F.valueIn F.resultAt F.refuseIf F.fixIn
+    F.spotOf F.cornersAt F.cornersOf F.cornerSome F.valueIn F.resultAt F.fixIn
     chosenIn placeOf fixAt lookedIn looked firstInRow firstInRows firstIn ofRank byRank entriesOf areaFits inForceOf
 all-marked = (refl, (refl, (refl, (refl, (refl, (refl, (refl, (refl, (refl, (refl, (refl, (refl, (refl, (refl, tt))))))))))))))
