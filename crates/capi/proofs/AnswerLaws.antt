@@ -18,13 +18,15 @@ use Rattle.group.specs.Numbers.{gridsMost}
 use Rattle.header.specs.declared.Reading.{Reading}
 use Rattle.header.specs.declared.Written.{Written}
 use Rattle.header.specs.Header.{readHeader, written, writtenRefusal, writtenCount, bytesAfter}
+use Rattle.header.proofs.TableLaws.{read-told}
 use Rattle.nodes.specs.declared.Loaded.{Loaded}
 use Rattle.nodes.specs.Load.{loaded, loadedRefusal, nodesAfter}
 use Rattle.fix.specs.declared.Lookup.{Lookup}
 use Rattle.fix.specs.declared.Lookup.the-variants.{Fix, Refused}
 use Rattle.inforce.specs.declared.InForce.{InForce}
 use Rattle.inforce.specs.InForce.{noGrid, inForceOf}
-use Rattle.group.specs.Refusals.{refusal, verdictRefusal}
+use Rattle.group.specs.Refusals.{refusal, noRefusal, verdictRefusal, lentAfter}
+use Rattle.group.proofs.RefusalLaws.{no-acceptance, lent-new, lent-kept}
 use Rattle.fix.specs.Answers.{lookupRefusal}
 use Rattle.judge.specs.Judge.{judged}
 use Rattle.lookup.specs.Lookup.{looked}
@@ -33,7 +35,7 @@ use Rattle.screen.specs.declared.ScreenRecord.{ScreenRecord}
 use Rattle.screen.specs.Screen.{screenRefusal, shiftsOf, answerOf, recordOf}
 use Rattle.layout.specs.Layout.{groupOf, numbersOf, countOf, countAt, numberAt, stored, joined}
 use Rattle.layout.proofs.ListLaws.{sets-append, sets-whole, length-joined}
-use Rattle.capi.specs.Answers.{left, judgeAnswer, readBy, readOf, readAnswer, storedFound, foundAnswer, pointOf, lookupAnswer, lentText, writtenAnswer, writeAnswer, loadedBy, loadAnswer}
+use Rattle.capi.specs.Answers.{left, judgeAnswer, readOf, readAnswer, storedFound, foundAnswer, pointOf, lookupAnswer, lentText, writtenAnswer, writeAnswer, loadedBy, loadAnswer}
 use Rattle.capi.specs.InForce.{areaOf, entriesFrom, entryWords, listWords, storedEntry, storedList, listAnswer, inForceAnswer}
 use Rattle.capi.proofs.SmallLaws.{found-stored, in-force-stored}
 use Rattle.capi.specs.Screen.{lookupOf, shownOf, shiftsAnswer, recordFloats, recordAnswer}
@@ -75,14 +77,19 @@ module _ (l : List ℤ) (g : Group) (group : g ≡ groupOf l) where
       ∙ (λ i. writtenAnswer (written (group i) (length out)) (bytesAfter (group i) out))
 
 module _ (text : List ℕ) (lent : List ℤ) (r : Reading) (e : r ≡ readHeader text) where
-  pub read-accepted : (ns : List ℤ) → r .verdict ≡ verdict.Accepted → ns ≡ numbersOf (r .group) → left 0 0 ns ≡ readAnswer text lent
+  by-verdict : (v : Verdict) → r .verdict ≡ v
+      → record { refusal = verdictRefusal v; lent = lentAfter (verdictRefusal v) (numbersOf (r .group)) lent } ≡ readAnswer text lent
   unfolding readAnswer
-  read-accepted ns v n =
-      (λ i. left 0 0 (n i)) ∙ sym (ap (λ (x : Verdict). readBy x (numbersOf (r .group)) lent) v) ∙ ap (λ (x : Reading). readOf x lent) e
+  by-verdict v p = (λ i. readOf (record { verdict = sym p i; group = r .group }) lent) ∙ ap (λ (x : Reading). readOf x lent) e
+
+  pub read-accepted : (ns : List ℤ) → r .verdict ≡ verdict.Accepted → ns ≡ numbersOf (r .group) → left 0 0 ns ≡ readAnswer text lent
+  read-accepted ns v n = ap (left 0 0) (n ∙ sym (lent-new noRefusal (numbersOf (r .group)) lent refl)) ∙ by-verdict verdict.Accepted v
 
   pub read-refused : (f : Refusal) → r .verdict ≡ verdict.Refused f → left (f .number) (f .place) lent ≡ readAnswer text lent
-  unfolding readAnswer
-  read-refused f v = sym (ap (λ (x : Verdict). readBy x (numbersOf (r .group)) lent) v) ∙ ap (λ (x : Reading). readOf x lent) e
+  read-refused f v =
+      let t = read-told text in let w = sym (ap (λ (x : Reading). x .verdict) e) ∙ v in
+      ap (left (f .number) (f .place)) (sym (lent-kept f (numbersOf (r .group)) lent (λ z. no-acceptance f (sym w ∙ t .zero (ap (λ (x : Verdict). verdictRefusal x .number) w ∙ z)))))
+      ∙ by-verdict (verdict.Refused f) v
 
 pub load-told : (quantum : ℤ) (flag : Float) (floats : List Float) (nodes after : List ℤ) (q : ℕ) (l : Loaded) (r : Refusal)
     → q ≡ countOf quantum → l ≡ loaded q flag floats (length nodes) → after ≡ nodesAfter q flag floats nodes → r ≡ loadedRefusal l

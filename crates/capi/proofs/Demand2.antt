@@ -7,13 +7,15 @@ use lib.ListN.{length}
 use Rattle.group.specs.declared.Group.{Group}
 use Rattle.group.specs.declared.Verdict.{Verdict}
 use Rattle.group.specs.declared.Verdict.the-variants.{Accepted}
+use Rattle.group.specs.Refusals.{verdictRefusal}
+use Rattle.group.proofs.RefusalLaws.{lent-new}
 use Rattle.header.specs.Header.{readHeader, written, writtenRefusal, writtenCount, bytesAfter}
 use Rattle.header.proofs.Demand2.{text-read}
 use Rattle.header.proofs.ShapeLaws.{read-shaped}
 use Rattle.layout.specs.Layout.{groupOf, numbersOf}
 use Rattle.layout.proofs.BackLaws.{group-back}
 use Rattle.layout.proofs.KeptLaws.{accepted-kept}
-use Rattle.capi.specs.Answers.{readBy, readAnswer, writtenAnswer, writeAnswer}
+use Rattle.capi.specs.Answers.{readAnswer, writtenAnswer, writeAnswer}
 use Rattle.capi.specs.Demand2.{WrittenBack, ReadBack}
 use Rattle.capi.proofs.Demand1.{reads}
 
@@ -26,7 +28,7 @@ module _ (text : List ℕ) (group : List ℤ) (z : readAnswer text group .refusa
 
   filled : readAnswer text group .lent ≡ numbersOf g
   unfolding readAnswer
-  filled = ap (λ (v : Verdict). readBy v (numbersOf g) group .lent) accepted
+  filled = lent-new (verdictRefusal (readHeader text .verdict)) (numbersOf g) group (ap (λ (v : Verdict). verdictRefusal v .number) accepted)
 
   same-group : groupOf (readAnswer text group .lent) ≡ g
   same-group =

@@ -11,7 +11,6 @@ use lib.IntN.{ℤ, pos}
 use lib.ListN.{getD, replicate}
 use Rattle.group.specs.declared.Group.{Group}
 use Rattle.group.specs.declared.Point.{Point}
-use Rattle.group.specs.declared.Refusal.{Refusal}
 use Rattle.group.specs.declared.Verdict.{Verdict}
 use Rattle.group.specs.declared.Verdict.the-variants as verdict
 use Rattle.group.specs.Numbers.{gridsMost}
@@ -27,8 +26,9 @@ use Rattle.inforce.specs.declared.Area.{Area}
 use Rattle.inforce.specs.declared.GridInForce.{GridInForce}
 use Rattle.inforce.specs.declared.InForce.{InForce}
 use Rattle.inforce.specs.Area.{areaFits}
-use Rattle.inforce.specs.InForce.{noGrid, inForceOf, refusedBy}
+use Rattle.inforce.specs.InForce.{noGrid, inForceOf}
 use Rattle.inforce.specs.Demand3.{GridsInForce}
+use Rattle.inforce.proofs.StageLaws.{in-force-group, in-force-10}
 use Rattle.inforce.proofs.Demand3.{none-at, demand-3}
 use Rattle.layout.specs.Layout.{most, stored, joined}
 use Rattle.capi.specs.Answers.{foundNumbers, storedFound}
@@ -69,21 +69,13 @@ listed-small g a r s h = record { few = omega (arith, h .most); each = λ k. go 
     go k true e = let q = ap (λ (x : GridInForce). x .grid) (h .unused k (leb-true (r .count) k e)) in omega arith
     go k false e = let q = h .placed k (leb-false (r .count) k e) .number in omega arith
 
-refused : (g : Group) (a : Area) (r : Refusal) → judged g ≡ verdict.Refused r → inForceOf g a ≡ refusedBy r
-unfolding inForceOf
-refused g a r e = rw e
-
-outside : (g : Group) (a : Area) → judged g ≡ verdict.Accepted → areaFits a ≡ false → inForceOf g a ≡ refusedBy (record { number = 10; place = 0 })
-unfolding inForceOf
-outside g a e f = rw (e, f)
-
 list-small : (g : Group) (a : Area) → Small (inForceOf g a)
 list-small g a = go (judged g) refl (areaFits a) refl
   where
     go : (v : Verdict) → judged g ≡ v → (t : Bool) → areaFits a ≡ t → Small (inForceOf g a)
-    go (verdict.Refused r) e t f = refused-small (inForceOf g a) (ap (λ (x : InForce). x .count) (refused g a r e)) (ap (λ (x : InForce). x .entries) (refused g a r e))
+    go (verdict.Refused r) e t f = refused-small (inForceOf g a) (ap (λ (x : InForce). x .count) (in-force-group g a r e)) (ap (λ (x : InForce). x .entries) (in-force-group g a r e))
     go verdict.Accepted e true f = listed-small g a (inForceOf g a) (accepted-head g e .grids) (demand-3 g e a f)
-    go verdict.Accepted e false f = refused-small (inForceOf g a) (ap (λ (x : InForce). x .count) (outside g a e f)) (ap (λ (x : InForce). x .entries) (outside g a e f))
+    go verdict.Accepted e false f = refused-small (inForceOf g a) (ap (λ (x : InForce). x .count) (in-force-10 g a e f)) (ap (λ (x : InForce). x .entries) (in-force-10 g a e f))
 
 joined-same : {A : Type 0} (f h : ℕ → List A) (n : ℕ) → ((k : ℕ) → f k ≡ h k) → joined f n ≡ joined h n
 unfolding joined

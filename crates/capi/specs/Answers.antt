@@ -6,9 +6,7 @@ use lib.Ieee.{Float}
 use lib.ListN.{length}
 use Rattle.group.specs.declared.Point.{Point}
 use Rattle.group.specs.declared.Refusal.{Refusal}
-use Rattle.group.specs.declared.Verdict.{Verdict}
-use Rattle.group.specs.declared.Verdict.the-variants as verdict
-use Rattle.group.specs.Refusals.{refusal, noRefusal, verdictRefusal}
+use Rattle.group.specs.Refusals.{refusal, verdictRefusal, lentAfter}
 use Rattle.text.specs.Parts.{startOf, endOf}
 use Rattle.header.specs.declared.Reading.{Reading}
 use Rattle.header.specs.declared.Written.{Written}
@@ -41,12 +39,8 @@ judgeAnswer group = verdictRefusal (judged (groupOf group))
 
 -- ---- reading: the group's numbers, which stay as they were after a refusal
 
-abbrev pub readBy : Verdict → List ℤ → List ℤ → Answer (List ℤ)
-readBy verdict.Accepted read lent = record { refusal = noRefusal; lent = read }
-readBy (verdict.Refused r) read lent = record { refusal = r; lent = lent }
-
 abbrev pub readOf : Reading → List ℤ → Answer (List ℤ)
-readOf r lent = readBy (r .verdict) (numbersOf (r .group)) lent
+readOf r lent = record { refusal = verdictRefusal (r .verdict); lent = lentAfter (verdictRefusal (r .verdict)) (numbersOf (r .group)) lent }
 
 unfoldable pub readAnswer : List ℕ → List ℤ → Answer (List ℤ)
 readAnswer text lent = readOf (readHeader text) lent

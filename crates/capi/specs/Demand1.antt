@@ -2,14 +2,12 @@
 -- after a refusal memory lent for output is as it was, and every number handed back beside it is 0.
 use Prim.Native.Nat.{ℕ}
 use mathlib.Core.Path.{_≡_}
-use mathlib.Core.Bool.{true}
 use mathlib.Core.List.{List}
 use lib.IntN.{ℤ, pos}
 use lib.Ieee.{Float}
 use lib.ListN.{length, replicate}
-use Rattle.group.specs.declared.Refusal.{Refusal}
 use Rattle.group.specs.declared.Verdict.the-variants.{Accepted}
-use Rattle.group.specs.Refusals.{noRefusal, inTable}
+use Rattle.group.specs.Refusals.{Told}
 use Rattle.judge.specs.Judge.{judged}
 use Rattle.header.specs.declared.Written.the-variants.{Count}
 use Rattle.header.specs.Header.{readHeader, written}
@@ -26,12 +24,6 @@ use Rattle.layout.specs.Layout.{countOf, groupOf}
 use Rattle.capi.specs.Answers.{Answer, pointOf, lentText, judgeAnswer, readAnswer, writeAnswer, lookupAnswer, loadAnswer}
 use Rattle.capi.specs.InForce.{listWords, inForceAnswer}
 use Rattle.capi.specs.Screen.{shownOf, shiftsAnswer, recordAnswer}
-
--- r is what a call told that is accepted exactly where A holds
-pub record Told (A : Type 0) (r : Refusal) : Type 0 where
-  pub accepted : A → r ≡ noRefusal
-  pub zero : r .number ≡ 0 → A
-  pub refused : (A → ⊥) → inTable (r .number) ≡ true
 
 -- what an answer left where it is a refusal
 abbrev pub LeftBeside : {B : Type 0} → B → Answer B → Type 0

@@ -1,6 +1,6 @@
 -- The three ways of a fix, what its two tests say of the used corners, and that it depends on nothing but what those hold.
 use Prim.Native.Nat.{ℕ, _<_}
-use mathlib.Core.Path.{_≡_, refl, ap}
+use mathlib.Core.Path.{_≡_, refl, _∙_, ap}
 use mathlib.Core.Bool.{Bool, true, false, cond}
 use mathlib.Core.List.{List}
 use mathlib.Core.Logic.{_↔_}
@@ -9,23 +9,25 @@ use lib.Dec.{ltb}
 use lib.IntN.{ℤ, pos}
 use Rattle.numbers.proofs.FirstLaws.{first-same, some-by, by-some}
 use Rattle.group.specs.Numbers.{isMark}
+use Rattle.group.specs.Refusals.{refuseIf}
+use Rattle.group.proofs.RefusalLaws.{if-here, if-past}
 use Rattle.cell.specs.Cell.{isBeyond, usedSome, valueOf}
 use Rattle.cell.specs.Used.{SomeUsed}
 use Rattle.cell.proofs.ValueLaws.{used-some, some-used, some-same, value-same}
 use Rattle.day.specs.Day.{resultOf}
 use Rattle.fix.specs.declared.Place.{Place}
 use Rattle.fix.specs.declared.Lookup.the-variants as L
-use Rattle.fix.specs.Fix.{spotOf, cornersOf, cornerSome, valueIn, resultAt, refuseIf, fixIn, SameNodes}
+use Rattle.fix.specs.Fix.{spotOf, cornersOf, cornerSome, valueIn, resultAt, fixIn, SameNodes}
 
 module _ (l : Place) (nodes : List ℤ) (factor : ℤ) (grid : ℕ) where
   pub fix-marked : cornerSome isMark l nodes ≡ true → fixIn l nodes factor grid ≡ L.Refused (record { number = 8; place = 0 })
-  unfolding fixIn refuseIf
-  fix-marked e = rw e refl
+  unfolding fixIn
+  fix-marked e = if-here L.Refused (cornerSome isMark l nodes) 8 0 _ e
 
   pub fix-beyond : cornerSome isMark l nodes ≡ false → cornerSome isBeyond l nodes ≡ true
       → fixIn l nodes factor grid ≡ L.Refused (record { number = 11; place = 0 })
-  unfolding fixIn refuseIf
-  fix-beyond e f = rw (e, f) refl
+  unfolding fixIn
+  fix-beyond e f = if-past L.Refused (cornerSome isMark l nodes) 8 0 _ e ∙ if-here L.Refused (cornerSome isBeyond l nodes) 11 0 _ f
 
   pub fix-found : cornerSome isMark l nodes ≡ false → cornerSome isBeyond l nodes ≡ false
       → fixIn l nodes factor grid
@@ -36,8 +38,8 @@ module _ (l : Place) (nodes : List ℤ) (factor : ℤ) (grid : ℕ) where
         second = resultAt l nodes factor 1;
         third = resultAt l nodes factor 2;
       })
-  unfolding fixIn refuseIf
-  fix-found e f = rw (e, f) refl
+  unfolding fixIn
+  fix-found e f = if-past L.Refused (cornerSome isMark l nodes) 8 0 _ e ∙ if-past L.Refused (cornerSome isBeyond l nodes) 11 0 _ f
 
 -- ---- a test of the corners is passed exactly where a used corner of some parameter has the property that it tests
 
@@ -79,8 +81,8 @@ module _ (l : Place) (nodes others : List ℤ) (same : SameNodes l nodes others)
   pub fix-same : (factor : ℤ) (grid : ℕ) → fixIn l nodes factor grid ≡ fixIn l others factor grid
   unfolding fixIn
   fix-same factor grid i =
-      refuseIf (corner-same isMark i) 8 0
-      (refuseIf (corner-same isBeyond i) 11 0
+      refuseIf L.Refused (corner-same isMark i) 8 0
+      (refuseIf L.Refused (corner-same isBeyond i) 11 0
       (L.Fix
       (record {
         grid = grid;

@@ -8,6 +8,7 @@ use lib.ListN.{getD}
 use Rattle.numbers.specs.First.{some}
 use Rattle.cell.specs.declared.Corners.{Corners}
 use Rattle.group.specs.Numbers.{parametersMost, spacingMost, nodesLeast, listMost, isMark}
+use Rattle.group.specs.Refusals.{refuseIf}
 use Rattle.cell.specs.Cell.{cellAlong, weightsOf, isBeyond, usedSome, valueOf}
 use Rattle.cell.specs.Used.{SameUsed}
 use Rattle.day.specs.Day.{resultOf}
@@ -55,15 +56,11 @@ valueIn l nodes p = valueOf (spotOf l .weights) (cornersOf l nodes p)
 unfoldable pub resultAt : Place → List ℤ → ℤ → ℕ → ℤ
 resultAt l nodes factor p = cond (ltb p (l .np)) (resultOf (valueIn l nodes p) factor) (pos 0)
 
--- the refusal where a test is true, else what follows
-unfoldable pub refuseIf : Bool → ℕ → ℕ → Lookup → Lookup
-refuseIf t number place next = cond t (L.Refused (record { number = number; place = place })) next
-
 -- 8, then 11, then the fix in the grid of this number
 unfoldable pub fixIn : Place → List ℤ → ℤ → ℕ → Lookup
 fixIn l nodes factor grid =
-    refuseIf (cornerSome isMark l nodes) 8 0
-    (refuseIf (cornerSome isBeyond l nodes) 11 0
+    refuseIf L.Refused (cornerSome isMark l nodes) 8 0
+    (refuseIf L.Refused (cornerSome isBeyond l nodes) 11 0
     (L.Fix
     (record {
       grid = grid;

@@ -1,2 +1,3 @@
--- The laws of the limits.
+-- The laws of the limits and of refusals.
 pub mod LimitLaws
+pub mod RefusalLaws

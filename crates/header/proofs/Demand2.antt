@@ -1,15 +1,13 @@
 -- Demand 2 of the header text, proved of what reading and writing answer; and a group as a record beside its text.
 use Prim.Native.Nat.{ℕ, _+_, _≤_}
 use mathlib.Core.Path.{_≡_, refl, sym, ap, subst, _∙_}
-use mathlib.Core.Bool.{Bool, true, false, cond}
 use mathlib.Core.List.{List}
 use native.Mathlib.Omega.{arith}
-use borrow.Author.Tests.{leb-true}
-use lib.Dec.{leb}
+use borrow.Author.Tests.{ltb-false}
+use lib.Dec.{ltb}
 use lib.ListN.{length, take, drop}
 use lib.Seq.{take-append-seam, drop-at}
 use Rattle.text.specs.Put.{put}
-use Rattle.group.specs.Refusals.{refusal}
 use Rattle.group.specs.Blank.{blankGroup}
 use Rattle.group.specs.declared.Ramp.{Ramp}
 use Rattle.group.specs.declared.Grid.{Grid}
@@ -17,13 +15,15 @@ use Rattle.group.specs.declared.Group.{Group}
 use Rattle.group.specs.declared.Refusal.{Refusal}
 use Rattle.group.specs.declared.Verdict.{Verdict}
 use Rattle.group.specs.declared.Verdict.the-variants.{Accepted, Refused}
+use Rattle.group.proofs.RefusalLaws.{no-acceptance, passed-if, passed-verdict, not-zero, lent-kept}
 use Rattle.judge.specs.Judge.{judged}
 use Rattle.header.specs.declared.Reading.{Reading}
 use Rattle.header.specs.declared.Written.the-variants as W
 use Rattle.header.specs.Whole.{Header, stopped, header, readLines, groupOf, acceptedReading, headerText}
-use Rattle.header.specs.Header.{verdictReading, judgedReading, readHeader, writtenIf, written, bytesIf, bytesAfter}
+use Rattle.header.specs.Header.{verdictReading, judgedReading, readHeader, written, writtenRefusal, writtenCount, bytesAfter}
 use Rattle.header.specs.Demand2.{InFront, TextRead, TextWritten, Shaped, Formed, JudgedAsText}
 use Rattle.header.proofs.HeaderLaws.{count-answer}
+use Rattle.header.proofs.TableLaws.{no-count, written-told}
 use Rattle.header.proofs.TripLaws.{same-bytes}
 use Rattle.header.proofs.FormedLaws.{as-text, same-group}
 
@@ -40,11 +40,11 @@ unfolding readHeader
 judged-read t g e = in-lines (readLines t) e
   where
     in-verdict : (h : Group) (v : Verdict) → judged h ≡ v → verdictReading h v ≡ acceptedReading g → judged g ≡ Accepted
-    in-verdict h (Refused r) p f = let y : Refused r ≡ Accepted = ap (λ (a : Reading). a .verdict) f in absurd (let z : _≡_ {A = ℕ} 0 1 = cc in omega arith)
+    in-verdict h (Refused r) p f = absurd (no-acceptance r (ap (λ (a : Reading). a .verdict) f))
     in-verdict h Accepted p f = ap judged (sym (ap (λ (a : Reading). a .group) f)) ∙ p
 
     in-lines : (x : Header Ramp Grid) → judgedReading x ≡ acceptedReading g → judged g ≡ Accepted
-    in-lines (stopped r) f = let y : Refused r ≡ Accepted = ap (λ (a : Reading). a .verdict) f in absurd (let z : _≡_ {A = ℕ} 0 1 = cc in omega arith)
+    in-lines (stopped r) f = absurd (no-acceptance r (ap (λ (a : Reading). a .verdict) f))
     in-lines (header h rs ds) f = in-verdict (groupOf h rs ds) (judged (groupOf h rs ds)) refl f
 
 blank-read : (t : List ℕ) (q : Refusal) → readHeader t .verdict ≡ Refused q → readHeader t .group ≡ blankGroup
@@ -53,7 +53,7 @@ blank-read t q e = in-lines (readLines t) e
   where
     in-verdict : (h : Group) (v : Verdict) → verdictReading h v .verdict ≡ Refused q → verdictReading h v .group ≡ blankGroup
     in-verdict h (Refused r) f = refl
-    in-verdict h Accepted f = absurd (let z : _≡_ {A = ℕ} 0 1 = cc in omega arith)
+    in-verdict h Accepted f = absurd (no-acceptance q (sym f))
 
     in-lines : (x : Header Ramp Grid) → judgedReading x .verdict ≡ Refused q → judgedReading x .group ≡ blankGroup
     in-lines (stopped r) f = refl
@@ -85,32 +85,19 @@ text-read t =
 module _ (g : Group) (out : List ℕ) where
   counted : (n : ℕ) → written g (length out) ≡ W.Count n → (judged g ≡ Accepted) × (n ≡ length (headerText g)) × (length (headerText g) ≤ length out)
   unfolding written
-  counted n e = in-verdict (judged g) refl e
-    where
-      in-room : (b : Bool) → judged g ≡ Accepted → leb (length (headerText g)) (length out) ≡ b → cond b (W.Count (length (headerText g))) (W.Refused (refusal 12 0)) ≡ W.Count n
-          → (judged g ≡ Accepted) × (n ≡ length (headerText g)) × (length (headerText g) ≤ length out)
-      in-room true p l f = let z : n ≡ length (headerText g) = cc in (p, z, leb-true (length (headerText g)) (length out) l)
-      in-room false p l f = absurd (let z : _≡_ {A = ℕ} 0 1 = cc in omega arith)
-
-      in-verdict : (v : Verdict) → judged g ≡ v → writtenIf v (length (headerText g)) (length out) ≡ W.Count n
-          → (judged g ≡ Accepted) × (n ≡ length (headerText g)) × (length (headerText g) ≤ length out)
-      in-verdict (Refused r) p f = absurd (let z : _≡_ {A = ℕ} 0 1 = cc in omega arith)
-      in-verdict Accepted p f = in-room (leb (length (headerText g)) (length out)) p refl f
+  counted n e =
+      let a = passed-verdict W.Refused (W.Count n) (no-count n) (judged g) _ e in
+      let b = passed-if W.Refused (W.Count n) (no-count n) (ltb (length out) (length (headerText g))) 12 0 _ (a .1) in
+      (a .0, sym (ap writtenCount (b .1)), ltb-false (length out) (length (headerText g)) (b .0))
 
   after-count : (n : ℕ) → written g (length out) ≡ W.Count n → bytesAfter g out ≡ put 0 (headerText g) out
   after-count n e = let c = counted n e in sym (count-answer g out (c .0) (length (headerText g)) (put 0 (headerText g) out) refl (c .2) refl .1)
 
   unchanged : (q : Refusal) → written g (length out) ≡ W.Refused q → bytesAfter g out ≡ out
-  unfolding written bytesAfter
-  unchanged q e = in-verdict (judged g) e
-    where
-      in-room : (b : Bool) → cond b (W.Count (length (headerText g))) (W.Refused (refusal 12 0)) ≡ W.Refused q → cond b (put 0 (headerText g) out) out ≡ out
-      in-room true f = absurd (let z : _≡_ {A = ℕ} 0 1 = cc in omega arith)
-      in-room false f = refl
-
-      in-verdict : (v : Verdict) → writtenIf v (length (headerText g)) (length out) ≡ W.Refused q → bytesIf v (headerText g) out ≡ out
-      in-verdict (Refused r) f = refl
-      in-verdict Accepted f = in-room (leb (length (headerText g)) (length out)) f
+  unfolding bytesAfter
+  unchanged q e =
+      lent-kept (writtenRefusal (written g (length out))) (put 0 (headerText g) out) out
+      (not-zero _ (written-told g (length out) .refused (λ c. no-count (c .0) q (sym e ∙ c .1))))
 
 pub text-written : (g : Group) → Shaped g → (out : List ℕ) → TextWritten g out (written g (length out)) (bytesAfter g out)
 text-written g s out =

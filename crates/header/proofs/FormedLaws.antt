@@ -23,7 +23,8 @@ use Rattle.group.specs.declared.Ramp.{Ramp}
 use Rattle.group.specs.declared.Grid.{Grid}
 use Rattle.group.specs.declared.Group.{Group}
 use Rattle.group.specs.declared.Verdict.the-variants.{Accepted, Refused}
-use Rattle.judge.specs.Judge.{unusedRamp, unusedGrid, badRamp, badGrid, refuseIf, refuseFirst, judgedLines, judged}
+use Rattle.group.proofs.RefusalLaws.{if-here, if-past, first-here, first-past}
+use Rattle.judge.specs.Judge.{unusedRamp, unusedGrid, badRamp, badGrid, judgedLines, judgedLimits, judgedGrids, judgedRanks, judged}
 use Rattle.judge.proofs.LimitLaws.{ramps-most, grids-between}
 use Rattle.judge.proofs.Accepted.{accepted}
 use Rattle.line.specs.Lines.{rampLine, rampText, gridText}
@@ -115,21 +116,29 @@ module _ (g : Group) (f : Formed g) where
       clear k l = elim (decLt k (g .grids)) [ yes u ↦ rw (lt-leb (g .grids) k u) | no u ↦ rw (le-leb (g .grids) k (omega arith), f .no-grid k l (omega arith)) ]
 
   judged-head : headFits g ≡ false → judged g ≡ Refused (refusal 2 1)
-  unfolding judged refuseIf
-  judged-head e = rw e
+  unfolding judged judgedLimits
+  judged-head e = if-here Refused (not (headFits g)) 2 1 _ (ap not e)
 
   module _ (e : headFits g ≡ true) where
-    judged-lines : judged g ≡ judgedLines g
-    unfolding judged refuseIf
-    judged-lines = rw (e, no-unused-ramp, no-unused-grid)
+    judged-lines : judged g ≡ judgedLines g (judgedGrids g (judgedRanks g Accepted))
+    unfolding judged judgedLimits
+    judged-lines =
+        if-past Refused (not (headFits g)) 2 1 _ (ap not e)
+        ∙ if-past Refused (some (unusedRamp g) 8) 2 1 _ no-unused-ramp
+        ∙ if-past Refused (some (unusedGrid g) 64) 2 1 _ no-unused-grid
 
     judged-ramp : some (badRamp g) (g .ramps) ≡ true → judged g ≡ Refused (refusal 2 (first (badRamp g) (g .ramps) + 2))
-    unfolding judgedLines refuseFirst refuseIf
-    judged-ramp s = judged-lines ∙ rw s
+    unfolding judgedLines
+    judged-ramp s = judged-lines ∙ first-here Refused (badRamp g) (g .ramps) 2 2 _ s
 
     judged-grid : some (badRamp g) (g .ramps) ≡ false → some (badGrid g) (g .grids) ≡ true → judged g ≡ Refused (refusal 2 (first (badGrid g) (g .grids) + (2 + g .ramps)))
-    unfolding judgedLines refuseFirst refuseIf
-    judged-grid s t = let c : g .ramps + 2 ≡ 2 + g .ramps = omega arith in judged-lines ∙ rw (s, t) (ap (λ (m : ℕ). Refused (refusal 2 (first (badGrid g) (g .grids) + m))) c)
+    unfolding judgedLines
+    judged-grid s t =
+        let c : g .ramps + 2 ≡ 2 + g .ramps = omega arith in
+        judged-lines
+        ∙ first-past Refused (badRamp g) (g .ramps) 2 2 _ s
+        ∙ first-here Refused (badGrid g) (g .grids) 2 (g .ramps + 2) _ t
+        ∙ ap (λ (m : ℕ). Refused (refusal 2 (first (badGrid g) (g .grids) + m))) c
 
   -- the group line is judged by its numbers
   head-numbers : headFits g ≡ headWithin (headOfGroup g)

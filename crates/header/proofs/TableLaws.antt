@@ -1,31 +1,33 @@
--- Every number by which reading or writing refuses stands in the table of refusals.
+-- Reading and writing tell 0 exactly where they are accepted, else a number of the table of refusals.
 use Prim.Native.Nat.{ℕ, zero, suc, _+_}
-use mathlib.Core.Path.{_≡_, refl, ap, subst, _∙_}
+use mathlib.Core.Path.{_≡_, refl}
 use mathlib.Core.Bool.{Bool, true, false, cond}
 use mathlib.Core.List.{List, [], _∷_}
 use mathlib.Core.Option.{Option, none, some}
 use native.Mathlib.Omega.{arith}
-use lib.Dec.{eqb, leb}
+use lib.Dec.{eqb}
 use lib.ListN.{length, drop}
 use lib.IntN.{ℤ}
 use Rattle.text.specs.Parts.{split}
 use Rattle.text.specs.Fields.{same, readInts}
-use Rattle.group.specs.Refusals.{refusal, inTable}
+use Rattle.group.specs.Refusals.{refusal, inTable, verdictRefusal, Told}
+use Rattle.group.proofs.RefusalLaws.{Answers, no-acceptance, told-accepted, told-by, told-if, told-verdict}
 use Rattle.group.specs.declared.Refusal.{Refusal}
-use Rattle.group.specs.declared.Verdict.{Verdict}
-use Rattle.group.specs.declared.Verdict.the-variants.{Accepted, Refused}
+use Rattle.group.specs.declared.Verdict.the-variants.{Accepted}
 use Rattle.group.specs.declared.Ramp.{Ramp}
 use Rattle.group.specs.declared.Grid.{Grid}
 use Rattle.group.specs.declared.Group.{Group}
 use Rattle.judge.specs.Judge.{judged}
-use Rattle.judge.proofs.TableLaws.{judged-table}
+use Rattle.judge.proofs.TableLaws.{judged-told}
 use Rattle.line.specs.declared.Head.{Head}
 use Rattle.line.specs.Line.{Line, bad, good}
 use Rattle.line.specs.Lines.{keyed, formed, fields, groupWord, headTexts, headFit, headOf, headLine, rampWord, rampTexts, rampFit, rampOf, rampLine, gridWord, gridTexts, gridFit, gridOf}
+use Rattle.header.specs.declared.Reading.{Reading}
+use Rattle.header.specs.declared.Written.{Written}
 use Rattle.header.specs.declared.Written.the-variants as W
 use Rattle.header.specs.Items.{Items, refused, items, onLine, readItems}
-use Rattle.header.specs.Whole.{Header, stopped, header, ending, afterGrids, afterRampsOf, afterHeadOf, readLinesOf, gridLines, readLines, groupOf, headerText}
-use Rattle.header.specs.Header.{verdictReading, judgedReading, readHeader, writtenIf, written}
+use Rattle.header.specs.Whole.{Header, stopped, header, ending, afterGrids, afterRampsOf, afterHeadOf, readLinesOf, gridLines, readLines, groupOf, refusedReading}
+use Rattle.header.specs.Header.{judgedReading, readHeader, written, writtenRefusal}
 
 abbrev InTable : Refusal → Type 0
 InTable r = inTable (r .number) ≡ true
@@ -103,30 +105,27 @@ module _ {R D : Type 0} (ramp : ℕ → List ℕ → Line Refusal R) (grid : Hea
 
 -- ---- reading and writing
 
-pub read-table : (t : List ℕ) (r : Refusal) → readHeader t .verdict ≡ Refused r → inTable (r .number) ≡ true
+readings : Answers (λ (x : Reading). x .verdict ≡ Accepted) (λ (x : Reading). verdictRefusal (x .verdict)) refusedReading
+readings = record { back = λ r. refl; never = no-acceptance }
+
+pub read-told : (t : List ℕ) → Told (readHeader t .verdict ≡ Accepted) (verdictRefusal (readHeader t .verdict))
 unfolding readHeader
-read-table t r e =
+read-told t =
     in-lines (readLines t)
     (lines-in rampLine gridLines (λ n l. keyed-in 0 4 rampTexts rampFit rampOf (refusal 1 n) (refusal 2 n) refl refl rampWord (split 9 l))
     (λ h ls n l. keyed-in 1 8 gridTexts gridFit gridOf (refusal 1 n) (refusal 2 n) refl refl gridWord (split 9 l)) t)
-    e
   where
-    in-verdict : (g : Group) (v : Verdict) → judged g ≡ v → verdictReading g v .verdict ≡ Refused r → InTable r
-    in-verdict g Accepted p f = let z : _≡_ {A = ℕ} 0 1 = cc in absurd (omega arith)
-    in-verdict g (Refused q) p f = judged-table g r (p ∙ f)
+    in-lines : (x : Header Ramp Grid) → HeaderIn x → Told (judgedReading x .verdict ≡ Accepted) (verdictRefusal (judgedReading x .verdict))
+    in-lines (stopped r) p = told-by readings r p
+    in-lines (header h rs ds) p = told-verdict readings (judged (groupOf h rs ds)) (judged-told (groupOf h rs ds)) (told-accepted refl)
 
-    in-lines : (x : Header Ramp Grid) → HeaderIn x → judgedReading x .verdict ≡ Refused r → InTable r
-    in-lines (stopped q) p f = let z : q ≡ r = cc in subst InTable z p
-    in-lines (header h rs ds) p f = in-verdict (groupOf h rs ds) (judged (groupOf h rs ds)) refl f
+-- a refusal is no count
+pub no-count : (n : ℕ) (r : Refusal) → W.Refused r ≡ W.Count n → ⊥
+no-count n r e = let z : _≡_ {A = ℕ} 0 1 = cc in omega arith
 
-pub written-table : (g : Group) (room : ℕ) (r : Refusal) → written g room ≡ W.Refused r → inTable (r .number) ≡ true
+writings : Answers (λ (w : Written). (n : ℕ) × (w ≡ W.Count n)) writtenRefusal W.Refused
+writings = record { back = λ r. refl; never = λ r e. no-count (e .0) r (e .1) }
+
+pub written-told : (g : Group) (room : ℕ) → Told ((n : ℕ) × (written g room ≡ W.Count n)) (writtenRefusal (written g room))
 unfolding written
-written-table g room r e = in-verdict (judged g) refl e
-  where
-    in-room : (b : Bool) (n : ℕ) → cond b (W.Count n) (W.Refused (refusal 12 0)) ≡ W.Refused r → InTable r
-    in-room true n f = let z : _≡_ {A = ℕ} 0 1 = cc in absurd (omega arith)
-    in-room false n f = let z : refusal 12 0 ≡ r = cc in subst InTable z refl
-
-    in-verdict : (v : Verdict) → judged g ≡ v → writtenIf v (length (headerText g)) room ≡ W.Refused r → InTable r
-    in-verdict (Refused q) p f = let z : q ≡ r = cc in judged-table g r (p ∙ ap Refused z)
-    in-verdict Accepted p f = in-room (leb (length (headerText g)) room) (length (headerText g)) f
+written-told g room = told-verdict writings (judged g) (judged-told g) (told-if writings _ 12 0 refl (told-accepted (_, refl)))

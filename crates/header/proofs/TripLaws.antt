@@ -20,6 +20,7 @@ use Rattle.group.specs.declared.Ramp.{Ramp}
 use Rattle.group.specs.declared.Grid.{Grid}
 use Rattle.group.specs.declared.Group.{Group}
 use Rattle.group.specs.Blank.{blankRamp, blankGrid}
+use Rattle.group.proofs.RefusalLaws.{no-acceptance}
 use Rattle.judge.specs.Judge.{judged}
 use Rattle.line.specs.declared.Head.{Head}
 use Rattle.line.specs.Line.{Line, good, bad}
@@ -192,14 +193,14 @@ unfolding readHeader headerText
 same-bytes t g e = in-lines (readLines t) refl e
   where
     in-verdict : (h : Head) (rs : List Ramp) (ds : List Grid) (v : Verdict) → Read t h rs ds → verdictReading (groupOf h rs ds) v ≡ acceptedReading g → headerText g ≡ t
-    in-verdict h rs ds (Refused r) s f = let y : Refused r ≡ Accepted = ap (λ (a : Reading). a .verdict) f in absurd (let z : _≡_ {A = ℕ} 0 1 = cc in omega arith)
+    in-verdict h rs ds (Refused r) s f = absurd (no-acceptance r (ap (λ (a : Reading). a .verdict) f))
     in-verdict h rs ds Accepted s f =
         ap headerText (sym (ap (λ (a : Reading). a .group) f))
         ∙ (λ i. linesText rampText gridText h (take-entries rampsMost blankRamp rs (h .ramps) (s .ramps) i) (take-entries gridsMost blankGrid ds (h .grids) (s .grids) i))
         ∙ s .text tt
 
     in-lines : (x : Header Ramp Grid) → readLines t ≡ x → judgedReading x ≡ acceptedReading g → headerText g ≡ t
-    in-lines (stopped r) p f = let y : Refused r ≡ Accepted = ap (λ (a : Reading). a .verdict) f in absurd (let z : _≡_ {A = ℕ} 0 1 = cc in omega arith)
+    in-lines (stopped r) p f = absurd (no-acceptance r (ap (λ (a : Reading). a .verdict) f))
     in-lines (header h rs ds) p f = in-verdict h rs ds (judged (groupOf h rs ds)) (same-lines rampLine rampText RampFormed rampFits ramp-kind gridLines gridText GridsFormed gridFits Always grid-lines t h rs ds p) f
 
 -- so the text of a group is unique

@@ -1,12 +1,10 @@
 -- Reading and writing a header: document 01's 'Header text', refusals 1 to 5 and 12.
 use Prim.Native.Nat.{ℕ}
-use mathlib.Core.Bool.{cond}
 use mathlib.Core.List.{List}
-use lib.Dec.{leb}
+use lib.Dec.{ltb}
 use lib.ListN.{length}
 use Rattle.text.specs.Put.{put}
 use Rattle.group.specs.declared.Verdict.{Verdict}
-use Rattle.group.specs.declared.Verdict.the-variants.{Accepted, Refused}
 use Rattle.group.specs.declared.Ramp.{Ramp}
 use Rattle.group.specs.declared.Grid.{Grid}
 use Rattle.group.specs.declared.Group.{Group}
@@ -15,13 +13,14 @@ use Rattle.header.specs.declared.Reading.{Reading}
 use Rattle.header.specs.declared.Written.{Written}
 use Rattle.header.specs.declared.Written.the-variants as W
 use Rattle.group.specs.declared.Refusal.{Refusal}
-use Rattle.group.specs.Refusals.{refusal, noRefusal}
+use Rattle.group.specs.Refusals.{noRefusal, refuseIf, unlessRefused, lentAfter}
 use Rattle.header.specs.Whole.{Header, stopped, header, readLines, groupOf, refusedReading, acceptedReading, headerText}
 
+-- a group that was read: its judge's refusal, else the group
 abbrev pub verdictReading : Group → Verdict → Reading
-verdictReading g Accepted = acceptedReading g
-verdictReading g (Refused r) = refusedReading r
+verdictReading g v = unlessRefused refusedReading v (acceptedReading g)
 
+-- the lines that were read: their refusal, else the group that they make, judged
 abbrev pub judgedReading : Header Ramp Grid → Reading
 judgedReading (stopped r) = refusedReading r
 judgedReading (header h rs ds) = verdictReading (groupOf h rs ds) (judged (groupOf h rs ds))
@@ -30,13 +29,12 @@ judgedReading (header h rs ds) = verdictReading (groupOf h rs ds) (judged (group
 unfoldable pub readHeader : List ℕ → Reading
 readHeader text = judgedReading (readLines text)
 
--- what writing answers: the refusal of the group, or 12, or the count of bytes
-abbrev pub writtenIf : Verdict → ℕ → ℕ → Written
-writtenIf (Refused r) count room = W.Refused r
-writtenIf Accepted count room = cond (leb count room) (W.Count count) (W.Refused (refusal 12 0))
-
+-- what writing answers: 2 to 5, then 12, else the count of bytes
 unfoldable pub written : Group → ℕ → Written
-written g room = writtenIf (judged g) (length (headerText g)) room
+written g room =
+    unlessRefused W.Refused (judged g)
+    (refuseIf W.Refused (ltb room (length (headerText g))) 12 0
+    (W.Count (length (headerText g))))
 
 -- what writing refuses, and the count that it hands back, 0 beside a refusal
 abbrev pub writtenRefusal : Written → Refusal
@@ -48,9 +46,5 @@ writtenCount (W.Count n) = n
 writtenCount (W.Refused r) = 0
 
 -- what the lent bytes are then: the text from the first on, and all behind it as it was; after a refusal all is as it was
-abbrev pub bytesIf : Verdict → List ℕ → List ℕ → List ℕ
-bytesIf (Refused r) text out = out
-bytesIf Accepted text out = cond (leb (length text) (length out)) (put 0 text out) out
-
 unfoldable pub bytesAfter : Group → List ℕ → List ℕ
-bytesAfter g out = bytesIf (judged g) (headerText g) out
+bytesAfter g out = lentAfter (writtenRefusal (written g (length out))) (put 0 (headerText g) out) out

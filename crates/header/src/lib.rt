@@ -6,10 +6,10 @@ ghost use Rattle.group.specs.Numbers.{rampsMost, gridsMost};
 ghost use Rattle.text.specs.Parts.{split};
 ghost use Rattle.text.specs.Put.{Wrote};
 ghost use Rattle.judge.specs.Judge.{judged};
-ghost use Rattle.line.specs.Lines.{rampLine, rampText, gridLine, gridText};
+ghost use Rattle.line.specs.Lines.{rampLine, rampText, gridText};
 ghost use Rattle.group.specs.Blank.{blankRamp, blankGrid};
-ghost use Rattle.header.specs.Items.{readItems, closed, Are};
-ghost use Rattle.header.specs.Answers.{refusedRamps, refusedGrids};
+ghost use Rattle.header.specs.Items.{readItems, closed};
+ghost use Rattle.header.specs.Answers.{refusedRamps, refusedGrids, RampsAre, GridsAre};
 ghost use Rattle.header.specs.Whole.{refusedReading, linesReading, gridLines, afterRampsOf, readLines, headerText};
 ghost use Rattle.header.specs.Header.{readHeader, written, bytesAfter};
 ghost use Rattle.header.specs.Writing.{Wide};
@@ -92,7 +92,7 @@ fn refused_grids(refusal: Refusal) -> GridsRead
 // The ramps of a header, from line 2 on, which begins at `at`.
 fn read_ramps(text: &[u8], at: usize, count: u64) -> RampsRead
     requires { ⌜ (at ≤ length (now text)) × (count ≤ rampsMost) ⌝ }
-    ensures { λ r. ⌜ Are rampsMost blankRamp (now (text .entry)) (readItems rampLine count 2 (split 10 (drop at (now (text .entry))))) (r .verdict) (r .ramps) (r .next) ⌝ }
+    ensures { λ r. ⌜ RampsAre (now (text .entry)) at count r ⌝ }
 {
     let mut ramps = blank_ramps();
     let mut next = at;
@@ -126,7 +126,7 @@ fn read_ramps(text: &[u8], at: usize, count: u64) -> RampsRead
 // The grids of a header, from line `first` on, which begins at `at`.
 fn read_grids(text: &[u8], at: usize, count: u64, first: u64) -> GridsRead
     requires { ⌜ (at ≤ length (now text)) × ((count ≤ gridsMost) × (first ≤ rampsMost + 2)) ⌝ }
-    ensures { λ r. ⌜ Are gridsMost blankGrid (now (text .entry)) (readItems gridLine count first (split 10 (drop at (now (text .entry))))) (r .verdict) (r .grids) (r .next) ⌝ }
+    ensures { λ r. ⌜ GridsAre (now (text .entry)) at count first r ⌝ }
 {
     let mut grids = blank_grids();
     let mut next = at;

@@ -30,6 +30,7 @@ use Rattle.inforce.specs.InForce.{inForceIn, shown, noGrid, listed, inFo
 use Rattle.inforce.specs.Demand3.{entryAt, Placed, GridsInForce}
 use Rattle.inforce.proofs.AreaLaws.{area-size, area-inside, inside-area}
 use Rattle.inforce.proofs.GroupLaws.{placed-in}
+use Rattle.inforce.proofs.StageLaws.{in-force-listed}
 
 -- the order of distances is that of coordinates
 module _ (m a b : ℕ) where
@@ -137,5 +138,4 @@ module _ (g : Group) (e : judged g ≡ Accepted) (a : Area) (f : areaFits a ≡ 
           absurd (h (lonAt (s .lon)) (latAt (s .lat)) k (p .inside) (c .0) (c .1))
 
   pub demand-3 : GridsInForce g a (inForceOf g a)
-  unfolding inForceOf
-  demand-3 = rw (e, f) of-list
+  demand-3 = subst (GridsInForce g a) (sym (in-force-listed g a e f)) of-list

@@ -1,26 +1,18 @@
--- Every number by which the grids in force are refused stands in the table of refusals.
-use mathlib.Core.Path.{_≡_, refl, sym, ap, _∙_}
-use mathlib.Core.Bool.{Bool, true, false, cond}
-use native.Mathlib.Omega.{arith}
-use Prim.Native.Nat.{ℕ}
+-- The call for grids in force tells 0 exactly where it answers a list, else a number of the table of refusals.
+use mathlib.Core.Path.{_≡_, refl}
 use Rattle.group.specs.declared.Group.{Group}
-use Rattle.group.specs.declared.Refusal.{Refusal}
-use Rattle.group.specs.declared.Verdict.{Verdict}
-use Rattle.group.specs.declared.Verdict.the-variants.{Accepted, Refused}
-use Rattle.group.specs.Refusals.{refusal, inTable, verdictRefusal}
+use Rattle.group.specs.declared.Verdict.the-variants.{Accepted}
+use Rattle.group.specs.Refusals.{verdictRefusal, Told}
+use Rattle.group.proofs.RefusalLaws.{Answers, no-acceptance, told-accepted, told-if, told-verdict}
 use Rattle.judge.specs.Judge.{judged}
-use Rattle.judge.proofs.TableLaws.{judged-table}
+use Rattle.judge.proofs.TableLaws.{judged-told}
 use Rattle.inforce.specs.declared.Area.{Area}
-use Rattle.inforce.specs.Area.{areaFits}
-use Rattle.inforce.specs.InForce.{inForceIn, listed, refusedBy, unlessRefused, inForceOf}
+use Rattle.inforce.specs.declared.InForce.{InForce}
+use Rattle.inforce.specs.InForce.{refusedBy, inForceOf}
 
-module _ (g : Group) (a : Area) (r : Refusal) where
-  by : (v : Verdict) → judged g ≡ v → (b : Bool) → unlessRefused v (cond b (listed (inForceIn g a)) (refusedBy (refusal 10 0))) .verdict ≡ Refused r
-      → inTable (r .number) ≡ true
-  by (Refused s) e b h = judged-table g r (e ∙ h)
-  by Accepted e true h = absurd (let z : _≡_ {A = ℕ} 0 1 = cc in omega arith)
-  by Accepted e false h = ap (λ (v : Verdict). inTable (verdictRefusal v .number)) (sym h)
+lists : Answers (λ (x : InForce). x .verdict ≡ Accepted) (λ (x : InForce). verdictRefusal (x .verdict)) refusedBy
+lists = record { back = λ r. refl; never = no-acceptance }
 
-  pub in-force-table : inForceOf g a .verdict ≡ Refused r → inTable (r .number) ≡ true
-  unfolding inForceOf
-  in-force-table h = by (judged g) refl (areaFits a) h
+pub listed-told : (g : Group) (a : Area) → Told (inForceOf g a .verdict ≡ Accepted) (verdictRefusal (inForceOf g a .verdict))
+unfolding inForceOf
+listed-told g a = told-verdict lists (judged g) (judged-told g) (told-if lists _ 10 0 refl (told-accepted refl))

@@ -1,16 +1,16 @@
 -- Document 01's grids in force: refusals 2 to 5, then 10, else the list of the area.
 use Prim.Native.Nat.{ℕ, _-_, _^_, _≤_, _<_}
 use mathlib.Core.Path.{_≡_}
-use mathlib.Core.Bool.{cond}
+use mathlib.Core.Bool.{not}
 use mathlib.Core.List.{List, _++_, map}
 use lib.IntN.{pos}
 use lib.ListN.{length, getD, take, replicate}
 use Rattle.group.specs.declared.Group.{Group}
 use Rattle.group.specs.declared.Refusal.{Refusal}
-use Rattle.group.specs.declared.Verdict.{Verdict}
 use Rattle.group.specs.declared.Verdict.the-variants.{Accepted, Refused}
 use Rattle.group.specs.Numbers.{gridsMost, rankMost}
 use Rattle.group.specs.Record.{gridAt}
+use Rattle.group.specs.Refusals.{refuseIf, unlessRefused}
 use Rattle.flat.specs.Order.{byRank}
 use Rattle.judge.specs.Judge.{judged}
 use Rattle.ingroup.specs.InGroup.{chosenIn}
@@ -50,14 +50,12 @@ shownList l = record { verdict = Accepted; count = l .count; entries = shownFirs
 abbrev pub refusedBy : Refusal → InForce
 refusedBy r = record { verdict = Refused r; count = 0; entries = replicate gridsMost noGrid }
 
--- the verdict where it is a refusal, else what follows
-abbrev pub unlessRefused : Verdict → InForce → InForce
-unlessRefused (Refused r) next = refusedBy r
-unlessRefused Accepted next = next
-
+-- 2 to 5, then 10, else the list
 unfoldable pub inForceOf : Group → Area → InForce
 inForceOf g a =
-    unlessRefused (judged g) (cond (areaFits a) (listed (inForceIn g a)) (refusedBy (record { number = 10; place = 0 })))
+    unlessRefused refusedBy (judged g)
+    (refuseIf refusedBy (not (areaFits a)) 10 0
+    (listed (inForceIn g a)))
 
 -- a list whose coordinates fit 63 bits
 pub record Narrow (l : Listing) : Type 0 where

@@ -1,70 +1,71 @@
--- What the verdict that a group is accepted says of it.
+-- A group is accepted exactly where it is sound; and what that says of it in sizes.
 use Prim.Native.Nat.{ℕ, _+_, _<_}
-use mathlib.Core.Path.{_≡_, refl}
+use mathlib.Core.Path.{_≡_, sym, _∙_, ap}
 use mathlib.Core.Bool.{Bool, true, false, not}
 use native.Mathlib.Omega.{arith}
 use borrow.Author.Tests.{ltb-false, not-false}
 use Rattle.numbers.specs.First.{first, some}
-use Rattle.numbers.proofs.FirstLaws.{none-at}
+use Rattle.numbers.proofs.FirstLaws.{none-at, passed-some}
 use Rattle.group.specs.declared.Group.{Group}
-use Rattle.group.specs.declared.Verdict.{Verdict}
-use Rattle.group.specs.declared.Verdict.the-variants.{Accepted}
+use Rattle.group.specs.declared.Verdict.the-variants.{Accepted, Refused}
 use Rattle.group.specs.Record.{rampAt, gridAt}
 use Rattle.group.specs.Numbers.{rampsMost, gridsMost}
 use Rattle.group.specs.Limits.{rampFits, gridFits, headFits}
+use Rattle.group.proofs.RefusalLaws.{no-acceptance, if-past, first-past, passed-if, passed-first}
 use Rattle.extent.specs.Extent.{inside, Sized}
 use Rattle.extent.specs.Sides.{Edges}
-use Rattle.judge.specs.Judge.{unusedRamp, unusedGrid, badRamp, badGrid, sameName, namedEarlier, outside, sameRank, rankedEarlier, refuseIf, refuseFirst, judgedGrids, judgedLines, judged, Sound}
+use Rattle.judge.specs.Judge.{unusedRamp, unusedGrid, badRamp, badGrid, sameName, namedEarlier, outside, sameRank, rankedEarlier, judgedLines, judgedLimits, judgedGrids, judgedRanks, judged, Sound}
 use Rattle.flat.specs.Lists.{Measured}
 use Rattle.judge.specs.Rules.{Head}
 use Rattle.judge.proofs.LimitLaws.{head-sized, grid-sized, grid-edges, measured}
-
--- a stage that leads to acceptance did not refuse, and what follows it is accepted
-stage : (t : Bool) (n p : ℕ) (o : Verdict) → refuseIf t n p o ≡ Accepted → (t ≡ false) × (o ≡ Accepted)
-unfolding refuseIf
-stage true n p o e = absurd (let z : _≡_ {A = ℕ} 0 1 = cc in omega arith)
-stage false n p o e = (refl, e)
-
-stage-first : (test : ℕ → Bool) (n m b : ℕ) (o : Verdict) → refuseFirst test n m b o ≡ Accepted → (some test n ≡ false) × (o ≡ Accepted)
-unfolding refuseFirst
-stage-first test n m b o e = stage (some test n) m (first test n + b) o e
 
 -- a test that some entry passes is false: it is false of each
 none : (p : ℕ → Bool) (n k : ℕ) → some p n ≡ false → k < n → p k ≡ false
 none p n k e l = none-at p n k (ltb-false (first p n) n e) l
 
+some-none : (p : ℕ → Bool) (n : ℕ) → ((k : ℕ) → k < n → p k ≡ false) → some p n ≡ false
+some-none p n h = sym (passed-some p n n (record { bound = omega arith; clear = h }) (omega arith))
+
+-- what no stage refuses is accepted
+pub sound-accepted : (g : Group) → Sound g → judged g ≡ Accepted
+unfolding judged judgedLimits judgedLines judgedGrids judgedRanks
+sound-accepted g s =
+    if-past Refused (not (headFits g)) 2 1 _ (ap not (s .head))
+    ∙ if-past Refused (some (unusedRamp g) rampsMost) 2 1 _ (some-none (unusedRamp g) rampsMost (s .no-ramp))
+    ∙ if-past Refused (some (unusedGrid g) gridsMost) 2 1 _ (some-none (unusedGrid g) gridsMost (s .no-grid))
+    ∙ first-past Refused (badRamp g) (g .ramps) 2 2 _ (some-none (badRamp g) (g .ramps) (λ k l. ap not (s .ramp k l)))
+    ∙ first-past Refused (badGrid g) (g .grids) 2 (g .ramps + 2) _ (some-none (badGrid g) (g .grids) (λ k l. ap not (s .grid k l)))
+    ∙ first-past Refused (namedEarlier g) (g .grids) 3 1 _ (some-none (namedEarlier g) (g .grids) (λ i l. some-none _ i (λ k m. s .names i k l m)))
+    ∙ first-past Refused (outside g) (g .grids) 4 1 _ (some-none (outside g) (g .grids) (λ k l. ap not (s .edges k l)))
+    ∙ first-past Refused (rankedEarlier g) (g .grids) 5 1 _ (some-none (rankedEarlier g) (g .grids) (λ i l. some-none _ i (λ k m. s .ranks i k l m)))
+
+-- what is accepted no stage refuses
 module _ (g : Group) (e : judged g ≡ Accepted) where
-  line-one : (not (headFits g) ≡ false) × ((some (unusedRamp g) rampsMost ≡ false) × ((some (unusedGrid g) gridsMost ≡ false) × (judgedLines g ≡ Accepted)))
-  unfolding judged
-  line-one =
-      let a = stage (not (headFits g)) 2 1 _ e in
-      let b = stage (some (unusedRamp g) rampsMost) 2 1 _ (a .1) in
-      (a .0, (b .0, stage (some (unusedGrid g) gridsMost) 2 1 _ (b .1)))
-
-  lines : (some (badRamp g) (g .ramps) ≡ false) × ((some (badGrid g) (g .grids) ≡ false) × (judgedGrids g ≡ Accepted))
-  unfolding judgedLines
-  lines =
-      let a = stage-first (badRamp g) (g .ramps) 2 2 _ (line-one .1 .1 .1) in
-      (a .0, stage-first (badGrid g) (g .grids) 2 (g .ramps + 2) _ (a .1))
-
-  last : (some (namedEarlier g) (g .grids) ≡ false) × ((some (outside g) (g .grids) ≡ false) × (some (rankedEarlier g) (g .grids) ≡ false))
-  unfolding judgedGrids
-  last =
-      let a = stage-first (namedEarlier g) (g .grids) 3 1 _ (lines .1 .1) in
-      let b = stage-first (outside g) (g .grids) 4 1 _ (a .1) in
-      (a .0, (b .0, stage-first (rankedEarlier g) (g .grids) 5 1 _ (b .1) .0))
+  tests : (not (headFits g) ≡ false) × (some (unusedRamp g) rampsMost ≡ false) × (some (unusedGrid g) gridsMost ≡ false)
+      × (some (badRamp g) (g .ramps) ≡ false) × (some (badGrid g) (g .grids) ≡ false)
+      × (some (namedEarlier g) (g .grids) ≡ false) × (some (outside g) (g .grids) ≡ false) × (some (rankedEarlier g) (g .grids) ≡ false)
+  unfolding judged judgedLimits judgedLines judgedGrids judgedRanks
+  tests =
+      let a = passed-if Refused Accepted no-acceptance (not (headFits g)) 2 1 _ e in
+      let b = passed-if Refused Accepted no-acceptance (some (unusedRamp g) rampsMost) 2 1 _ (a .1) in
+      let c = passed-if Refused Accepted no-acceptance (some (unusedGrid g) gridsMost) 2 1 _ (b .1) in
+      let d = passed-first Refused Accepted no-acceptance (badRamp g) (g .ramps) 2 2 _ (c .1) in
+      let f = passed-first Refused Accepted no-acceptance (badGrid g) (g .grids) 2 (g .ramps + 2) _ (d .1) in
+      let h = passed-first Refused Accepted no-acceptance (namedEarlier g) (g .grids) 3 1 _ (f .1) in
+      let i = passed-first Refused Accepted no-acceptance (outside g) (g .grids) 4 1 _ (h .1) in
+      (a .0, b .0, c .0, d .0, f .0, h .0, i .0, passed-first Refused Accepted no-acceptance (rankedEarlier g) (g .grids) 5 1 _ (i .1) .0)
 
   pub accepted : Sound g
   accepted =
       record {
-        head = not-false (headFits g) (line-one .0);
-        ramp = λ k l. not-false (rampFits (rampAt g k)) (none (badRamp g) (g .ramps) k (lines .0) l);
-        grid = λ k l. not-false (gridFits (gridAt g k)) (none (badGrid g) (g .grids) k (lines .1 .0) l);
-        no-ramp = λ k l. none (unusedRamp g) rampsMost k (line-one .1 .0) l;
-        no-grid = λ k l. none (unusedGrid g) gridsMost k (line-one .1 .1 .0) l;
-        edges = λ k l. not-false (inside (g .parameters) (gridAt g k)) (none (outside g) (g .grids) k (last .1 .0) l);
-        names = λ i k l m. none (λ j. sameName (gridAt g j .name) (gridAt g i .name)) i k (none (namedEarlier g) (g .grids) i (last .0) l) m;
-        ranks = λ i k l m. none (λ j. sameRank (gridAt g j) (gridAt g i)) i k (none (rankedEarlier g) (g .grids) i (last .1 .1) l) m;
+        head = not-false (headFits g) (tests .0);
+        ramp = λ k l. not-false (rampFits (rampAt g k)) (none (badRamp g) (g .ramps) k (tests .3) l);
+        grid = λ k l. not-false (gridFits (gridAt g k)) (none (badGrid g) (g .grids) k (tests .4) l);
+        no-ramp = λ k l. none (unusedRamp g) rampsMost k (tests .1) l;
+        no-grid = λ k l. none (unusedGrid g) gridsMost k (tests .2) l;
+        edges = λ k l. not-false (inside (g .parameters) (gridAt g k)) (none (outside g) (g .grids) k (tests .6) l);
+        names = λ i k l m. none (λ j. sameName (gridAt g j .name) (gridAt g i .name)) i k (none (namedEarlier g) (g .grids) i (tests .5) l) m;
+        ranks = λ i k l m. none (λ j. sameRank (gridAt g j) (gridAt g i)) i k (none (rankedEarlier g) (g .grids) i (tests .7) l) m;
       }
 
   -- the same in sizes

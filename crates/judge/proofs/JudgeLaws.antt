@@ -1,20 +1,18 @@
--- A stage of the judge, once for every test; and the flat comparison of grids as the comparison that document 01 asks for.
+-- What the judge's loops rely on and show; and the flat comparison of grids as the comparison that document 01 asks for.
 use Prim.Native.Nat.{ℕ, _+_, _<_, _≤_}
-use mathlib.Core.Path.{_≡_, sym, _∙_, ap, subst}
-use mathlib.Core.Bool.{Bool, true, false, not}
+use mathlib.Core.Path.{_≡_, _∙_, ap}
+use mathlib.Core.Bool.{Bool, false}
 use mathlib.Core.List.{List}
 use native.Mathlib.Omega.{arith}
-use borrow.Author.Tests.{lt-ltb, le-ltb, lt-leb, not-false}
+use borrow.Author.Tests.{lt-leb, not-false}
 use lib.Dec.{ltb}
 use Rattle.numbers.specs.First.{first, some}
 use Rattle.numbers.proofs.FirstLaws.{none-at, first-same}
 use Rattle.group.specs.declared.Group.{Group}
-use Rattle.group.specs.declared.Verdict.{Verdict}
-use Rattle.group.specs.declared.Verdict.the-variants.{Refused}
 use Rattle.group.specs.Record.{gridAt}
-use Rattle.group.specs.Limits.{gridFits, headFits}
+use Rattle.group.specs.Limits.{gridFits}
 use Rattle.extent.specs.Extent.{inside}
-use Rattle.judge.specs.Judge.{sameName, sameRank, refuseIf, refuseFirst}
+use Rattle.judge.specs.Judge.{sameName, sameRank}
 use Rattle.judge.specs.Rules.{rampBreaks, gridBreaks, Grids}
 use Rattle.judge.specs.Marks.{marksOf, Listed, clash, sharesEarlier, Comparable}
 use Rattle.judge.specs.declared.RampRule.the-variants as R
@@ -30,41 +28,6 @@ ramp-kept g k l = rw (lt-leb (g .ramps) k l)
 
 pub grid-kept : (g : Group) (k : ℕ) → k < g .grids → gridBreaks G.Unused g k ≡ false
 grid-kept g k l = rw (lt-leb (g .grids) k l)
-
--- a stage by the answer of its loop
-module _ (test : ℕ → Bool) (n number base : ℕ) (next : Verdict) (i : ℕ) (e : i ≡ first test n) where
-  some-here : i < n → some test n ≡ true
-  some-here l = lt-ltb _ _ (subst (λ (m : ℕ). m < n) e l)
-
-  some-past : n ≤ i → some test n ≡ false
-  some-past l = le-ltb _ _ (subst (λ (m : ℕ). n ≤ m) e l)
-
-  pub at-here : i < n → Refused (record { number = number; place = i + base }) ≡ refuseFirst test n number base next
-  unfolding refuseIf refuseFirst
-  at-here l = rw (some-here l) (ap (λ (m : ℕ). Refused (record { number = number; place = m + base })) e)
-
-  pub at-past : n ≤ i → refuseFirst test n number base next ≡ next
-  unfolding refuseIf refuseFirst
-  at-past l = rw (some-past l)
-
-  -- the same where the place is fixed
-  pub fixed-here : i < n → Refused (record { number = number; place = base }) ≡ refuseIf (some test n) number base next
-  unfolding refuseIf
-  fixed-here l = rw (some-here l)
-
-  pub fixed-past : n ≤ i → refuseIf (some test n) number base next ≡ next
-  unfolding refuseIf
-  fixed-past l = rw (some-past l)
-
--- the first stage, by the answer of its test
-module _ {r : Bool} (g : Group) (next : Verdict) (e : r ≡ headFits g) where
-  pub head-here : not r ≡ true → Refused (record { number = 2; place = 1 }) ≡ refuseIf (not (headFits g)) 2 1 next
-  unfolding refuseIf
-  head-here t = rw (sym e, t)
-
-  pub head-past : not r ≡ false → refuseIf (not (headFits g)) 2 1 next ≡ next
-  unfolding refuseIf
-  head-past t = rw (sym e, t)
 
 -- what the loops that found nothing say of each grid
 pub grids-fit : (g : Group) (i : ℕ) → i ≡ first (gridBreaks G.Limits g) (g .grids) → g .grids ≤ i → Grids g

@@ -1,34 +1,26 @@
--- Every number by which the judge refuses stands in the table of refusals.
-use Prim.Native.Nat.{ℕ}
-use mathlib.Core.Path.{_≡_, refl, subst}
-use mathlib.Core.Bool.{Bool, true, false}
+-- The judge tells 0 exactly where it accepts a group, else a number of the table of refusals.
+use mathlib.Core.Path.{_≡_, refl, sym, ap, _∙_}
+use mathlib.Core.Bool.{true}
 use Rattle.group.specs.declared.Group.{Group}
 use Rattle.group.specs.declared.Refusal.{Refusal}
 use Rattle.group.specs.declared.Verdict.{Verdict}
 use Rattle.group.specs.declared.Verdict.the-variants.{Accepted, Refused}
-use Rattle.group.specs.Refusals.{inTable}
-use Rattle.judge.specs.Judge.{refuseIf, refuseFirst, judgedGrids, judgedLines, judged}
+use Rattle.group.specs.Refusals.{inTable, verdictRefusal, refuseFirst, Told}
+use Rattle.group.proofs.RefusalLaws.{no-acceptance, told-accepted, verdicts, told-if}
+use Rattle.judge.specs.Judge.{judgedLines, judgedLimits, judgedGrids, judgedRanks, judged}
 
-abbrev InTable : Verdict → Type 0
-InTable Accepted = Unit {0}
-InTable (Refused r) = inTable (r .number) ≡ true
-
-stage : (t : Bool) (n p : ℕ) (next : Verdict) → inTable n ≡ true → InTable next → InTable (refuseIf t n p next)
-unfolding refuseIf
-stage true n p next h k = h
-stage false n p next h k = k
-
-in-table : (g : Group) → InTable (judged g)
-unfolding judged judgedLines judgedGrids refuseFirst
-in-table g =
-    stage _ 2 1 _ refl
-    (stage _ 2 1 _ refl
-    (stage _ 2 1 _ refl
-    (stage _ 2 _ _ refl
-    (stage _ 2 _ _ refl
-    (stage _ 3 _ _ refl
-    (stage _ 4 _ _ refl
-    (stage _ 5 _ _ refl tt)))))))
+pub judged-told : (g : Group) → Told (judged g ≡ Accepted) (verdictRefusal (judged g))
+unfolding judged judgedLimits judgedLines judgedGrids judgedRanks refuseFirst
+judged-told g =
+    told-if verdicts _ 2 1 refl
+    (told-if verdicts _ 2 1 refl
+    (told-if verdicts _ 2 1 refl
+    (told-if verdicts _ 2 _ refl
+    (told-if verdicts _ 2 _ refl
+    (told-if verdicts _ 3 _ refl
+    (told-if verdicts _ 4 _ refl
+    (told-if verdicts _ 5 _ refl (told-accepted refl))))))))
 
 pub judged-table : (g : Group) (r : Refusal) → judged g ≡ Refused r → inTable (r .number) ≡ true
-judged-table g r e = subst InTable e (in-table g)
+judged-table g r e =
+    ap (λ (v : Verdict). inTable (verdictRefusal v .number)) (sym e) ∙ judged-told g .refused (λ a. no-acceptance r (sym e ∙ a))

@@ -1,16 +1,17 @@
 -- Refusals 2 to 5 of a group that is handed over as a record.
 use Prim.Native.Nat.{ℕ, _+_, _<_}
 use mathlib.Core.Path.{_≡_}
-use mathlib.Core.Bool.{Bool, true, false, cond, not, _&&_}
+use mathlib.Core.Bool.{Bool, true, false, not, _&&_}
 use lib.Dec.{leb, eqb}
 use lib.ListN.{getD}
-use Rattle.numbers.specs.First.{first, some, every}
+use Rattle.numbers.specs.First.{some, every}
 use Rattle.group.specs.declared.Name.{Name}
 use Rattle.group.specs.declared.Grid.{Grid}
 use Rattle.group.specs.declared.Group.{Group}
 use Rattle.group.specs.declared.Verdict.{Verdict}
 use Rattle.group.specs.declared.Verdict.the-variants.{Accepted, Refused}
 use Rattle.group.specs.Record.{rampAt, gridAt}
+use Rattle.group.specs.Refusals.{refuseIf, refuseFirst}
 use Rattle.group.specs.Numbers.{nameMost, rampsMost, gridsMost}
 use Rattle.group.specs.Limits.{rampFits, rampBlank, gridFits, gridBlank, headFits}
 use Rattle.extent.specs.Extent.{meet, inside}
@@ -50,36 +51,35 @@ sameRank f g = eqb (f .rank) (g .rank) && meet f g
 abbrev pub rankedEarlier : Group → ℕ → Bool
 rankedEarlier g k = some (λ j. sameRank (gridAt g j) (gridAt g k)) k
 
--- the refusal where a test is true, else what follows
-unfoldable pub refuseIf : Bool → ℕ → ℕ → Verdict → Verdict
-refuseIf t number place next = cond t (Refused (record { number = number; place = place })) next
+-- 2 of the ramp and grid lines: places are lines; the first ramp's is 2
+unfoldable pub judgedLines : Group → Verdict → Verdict
+judgedLines g next =
+    refuseFirst Refused (badRamp g) (g .ramps) 2 2
+    (refuseFirst Refused (badGrid g) (g .grids) 2 (g .ramps + 2)
+    next)
 
--- the first of n entries that a test names is refused, its place counted from base; where it names none, what follows
-unfoldable pub refuseFirst : (ℕ → Bool) → ℕ → ℕ → ℕ → Verdict → Verdict
-refuseFirst test n number base next = refuseIf (some test n) number (first test n + base) next
+-- 2: at line 1 the group line and every entry behind its count, then the lines behind it
+unfoldable pub judgedLimits : Group → Verdict → Verdict
+judgedLimits g next =
+    refuseIf Refused (not (headFits g)) 2 1
+    (refuseIf Refused (some (unusedRamp g) rampsMost) 2 1
+    (refuseIf Refused (some (unusedGrid g) gridsMost) 2 1
+    (judgedLines g next)))
 
--- 3 to 5: places are grids, from 1
-unfoldable pub judgedGrids : Group → Verdict
-judgedGrids g =
-    refuseFirst (namedEarlier g) (g .grids) 3 1
-    (refuseFirst (outside g) (g .grids) 4 1
-    (refuseFirst (rankedEarlier g) (g .grids) 5 1
-    Accepted))
+-- 3 and 4: places are grids, from 1
+unfoldable pub judgedGrids : Group → Verdict → Verdict
+judgedGrids g next =
+    refuseFirst Refused (namedEarlier g) (g .grids) 3 1
+    (refuseFirst Refused (outside g) (g .grids) 4 1
+    next)
 
--- 2 behind the group line: places are lines; the first ramp's is 2
-unfoldable pub judgedLines : Group → Verdict
-judgedLines g =
-    refuseFirst (badRamp g) (g .ramps) 2 2
-    (refuseFirst (badGrid g) (g .grids) 2 (g .ramps + 2)
-    (judgedGrids g))
+-- 5: places are grids, from 1
+unfoldable pub judgedRanks : Group → Verdict → Verdict
+judgedRanks g next = refuseFirst Refused (rankedEarlier g) (g .grids) 5 1 next
 
--- 2 at line 1: the group line, and every entry behind its count
+-- 2 to 5 in that order
 unfoldable pub judged : Group → Verdict
-judged g =
-    refuseIf (not (headFits g)) 2 1
-    (refuseIf (some (unusedRamp g) rampsMost) 2 1
-    (refuseIf (some (unusedGrid g) gridsMost) 2 1
-    (judgedLines g)))
+judged g = judgedLimits g (judgedGrids g (judgedRanks g Accepted))
 
 -- what an accepted group is known to be
 pub record Sound (g : Group) : Type 0 where

@@ -6,10 +6,11 @@ ghost use lib.Dec.{leb};
 ghost use lib.IntN.{pos};
 ghost use lib.ListN.{length, set, getD};
 ghost use Rattle.numbers.specs.First.{first, some};
+ghost use Rattle.group.specs.declared.Verdict.the-variants.{Accepted};
 ghost use Rattle.group.specs.Record.{noRamp, gridAt};
 ghost use Rattle.group.specs.Numbers.{rampsMost, gridsMost};
 ghost use Rattle.group.specs.Limits.{nameFits, headNumbersFit};
-ghost use Rattle.judge.specs.Judge.{judgedGrids, judgedLines, judged};
+ghost use Rattle.judge.specs.Judge.{judgedLines, judgedGrids, judgedRanks, judged};
 ghost use Rattle.judge.specs.Rules.{rampTest, gridTest, gridBreaks, Ready, Head, Grids};
 ghost use Rattle.judge.specs.Marks.{wordAt, nameMarks, marksOf, putFour, Listed, agree, clash, sharesEarlier, Comparable};
 use group::Grid;
@@ -277,7 +278,7 @@ fn first_sharing(shared: Shared, group: Group) -> u64
 // Refusals 3 to 5, of a group whose numbers are within their limits.
 fn judge_grids(group: Group) -> Verdict
     requires { ⌜ Head group × Grids group ⌝ }
-    ensures { λ r. ⌜ r ≡ judgedGrids group ⌝ }
+    ensures { λ r. ⌜ r ≡ judgedGrids group (judgedRanks group Accepted) ⌝ }
 {
     let n = group.grids;
     let name = first_sharing(Shared::Name, group);
@@ -307,7 +308,7 @@ fn judge_grids(group: Group) -> Verdict
 // Refusal 2 behind the group line, then 3 to 5.
 fn judge_lines(group: Group) -> Verdict
     requires { ⌜ Head group ⌝ }
-    ensures { λ r. ⌜ r ≡ judgedLines group ⌝ }
+    ensures { λ r. ⌜ r ≡ judgedLines group (judgedGrids group (judgedRanks group Accepted)) ⌝ }
 {
     let m = group.ramps;
     let ramps = group.ramp;

@@ -1,18 +1,17 @@
 -- An accepted lookup answers the fix in the chosen grid: no stage before it refuses.
 use Prim.Native.Nat.{ℕ, zero, suc, _<_}
 use mathlib.Core.Path.{_≡_, refl, sym, ap}
-use mathlib.Core.Bool.{Bool, true, false, not}
+use mathlib.Core.Bool.{false, not}
 use mathlib.Core.List.{List}
 use native.Mathlib.Omega.{arith}
 use borrow.Author.Tests.{not-false}
 use lib.IntN.{ℤ}
 use lib.ListN.{length}
-use Rattle.numbers.specs.First.{some}
 use Rattle.group.specs.declared.Group.{Group}
 use Rattle.group.specs.declared.Point.{Point}
-use Rattle.group.specs.declared.Verdict.{Verdict}
-use Rattle.group.specs.declared.Verdict.the-variants.{Accepted, Refused}
+use Rattle.group.specs.declared.Refusal.{Refusal}
 use Rattle.group.specs.Record.{gridAt}
+use Rattle.group.proofs.RefusalLaws.{passed-if, passed-first, passed-verdict}
 use Rattle.judge.specs.Judge.{judged}
 use Rattle.ingroup.specs.InGroup.{chosenIn}
 use Rattle.group.specs.Numbers.{isMark, dayFits}
@@ -23,23 +22,17 @@ use Rattle.fix.specs.declared.Fix.{Fix}
 use Rattle.fix.specs.declared.Lookup.{Lookup}
 use Rattle.fix.specs.declared.Lookup.the-variants as L
 use Rattle.fix.specs.Answers.{resultIn}
-use Rattle.fix.specs.Fix.{cornerSome, resultAt, refuseIf, fixIn}
-use Rattle.lookup.specs.Lookup.{pointFits, endsEarly, placeOf, fixAt, unlessRefused, lookedIn, looked, Ready}
+use Rattle.fix.specs.Fix.{cornerSome, resultAt, fixIn}
+use Rattle.lookup.specs.Lookup.{pointFits, endsEarly, placeOf, fixAt, lookedIn, looked, Ready}
 
--- a stage that leads to a fix did not refuse
-stage : (b : Bool) (n q : ℕ) (next : Lookup) (f : Fix) → refuseIf b n q next ≡ L.Fix f → (b ≡ false) × (next ≡ L.Fix f)
-unfolding refuseIf
-stage true n q next f e = absurd (let z : _≡_ {A = ℕ} 0 1 = cc in omega arith)
-stage false n q next f e = (refl, e)
-
-judge-stage : (v : Verdict) (next : Lookup) (f : Fix) → unlessRefused v next ≡ L.Fix f → (v ≡ Accepted) × (next ≡ L.Fix f)
-judge-stage Accepted next f e = (refl, e)
-judge-stage (Refused r) next f e = absurd (let z : _≡_ {A = ℕ} 0 1 = cc in omega arith)
+-- a refusal is no fix
+no-fix : (f : Fix) (r : Refusal) → L.Refused r ≡ L.Fix f → ⊥
+no-fix f r e = let z : _≡_ {A = ℕ} 0 1 = cc in omega arith
 
 choice-stage : (c : ℕ) (place : ℕ → Place) (nodes : List ℤ) (factor : ℤ) (f : Fix) → fixAt c place nodes factor ≡ L.Fix f
     → (k : ℕ) × ((c ≡ suc k) × (fixIn (place k) nodes factor (suc k) ≡ L.Fix f))
 unfolding fixAt
-choice-stage zero place nodes factor f e = absurd (let z : _≡_ {A = ℕ} 0 1 = cc in omega arith)
+choice-stage zero place nodes factor f e = absurd (no-fix f _ e)
 choice-stage (suc k) place nodes factor f e = (k, (refl, e))
 
 -- what is known of an accepted lookup: grid k, from 0, is chosen, and no used corner is the mark or beyond the limits
@@ -64,14 +57,14 @@ each f r n w (suc (suc (suc q))) h = absurd (omega arith)
 pub found : (g : Group) (nodes : List ℤ) (p : Point) (t : ℤ) (f : Fix) → looked g nodes p t ≡ L.Fix f → Found g nodes p t f
 unfolding looked lookedIn fixIn
 found g nodes p t f e =
-    let a = judge-stage (judged g) (lookedIn g nodes p t) f e in
-    let b = stage (not (pointFits p)) 6 0 _ f (a .1) in
-    let c = stage (not (dayFits t)) 9 0 _ f (b .1) in
-    let d = stage (some (endsEarly g (length nodes)) (g .grids)) 13 _ _ f (c .1) in
+    let a = passed-verdict L.Refused (L.Fix f) (no-fix f) (judged g) (lookedIn g nodes p t) e in
+    let b = passed-if L.Refused (L.Fix f) (no-fix f) (not (pointFits p)) 6 0 _ (a .1) in
+    let c = passed-if L.Refused (L.Fix f) (no-fix f) (not (dayFits t)) 9 0 _ (b .1) in
+    let d = passed-first L.Refused (L.Fix f) (no-fix f) (endsEarly g (length nodes)) (g .grids) 13 1 _ (c .1) in
     let s = choice-stage (chosenIn g (p .lon .0) (p .lat .0)) (λ k. placeOf (gridAt g k) (g .parameters) p) nodes (factorOf (g .ramp) (g .ramps) t) f (d .1) in
     let k = s .0 in let l = placeOf (gridAt g k) (g .parameters) p in
-    let m = stage (cornerSome isMark l nodes) 8 0 _ f (s .1 .1) in
-    let n = stage (cornerSome isBeyond l nodes) 11 0 _ f (m .1) in
+    let m = passed-if L.Refused (L.Fix f) (no-fix f) (cornerSome isMark l nodes) 8 0 _ (s .1 .1) in
+    let n = passed-if L.Refused (L.Fix f) (no-fix f) (cornerSome isBeyond l nodes) 11 0 _ (m .1) in
     let w = same-fix _ f (n .1) in
     record {
       k = k;

@@ -19,7 +19,8 @@ use Rattle.group.specs.declared.Point.{Point}
 use Rattle.group.specs.declared.Refusal.{Refusal}
 use Rattle.group.specs.declared.Verdict.{Verdict}
 use Rattle.group.specs.declared.Verdict.the-variants.{Accepted, Refused}
-use Rattle.group.specs.Refusals.{refusal, verdictRefusal}
+use Rattle.group.specs.Refusals.{refusal, verdictRefusal, refuseIf, refuseFirst, unlessRefused}
+use Rattle.group.proofs.RefusalLaws.{no-acceptance}
 use Rattle.judge.specs.Judge.{judged}
 use Rattle.ingroup.specs.InGroup.{chosenIn}
 use Rattle.group.specs.Numbers.{lonMost, latMost, lonAdmitted, latAdmitted, valueMost, mark, isMark, dayMost, dayFits}
@@ -29,9 +30,9 @@ use Rattle.day.specs.Day.{factorOf}
 use Rattle.fix.specs.declared.Lookup.{Lookup}
 use Rattle.fix.specs.declared.Lookup.the-variants as L
 use Rattle.fix.specs.Answers.{lookupRefusal}
-use Rattle.fix.specs.Fix.{cornerSome, resultAt, refuseIf, fixIn}
+use Rattle.fix.specs.Fix.{cornerSome, resultAt, fixIn}
 use Rattle.fix.proofs.FixLaws.{corner-some, some-corner}
-use Rattle.lookup.specs.Lookup.{pointFits, endsEarly, placeOf, fixAt, fixOf, unlessRefused, lookedIn, looked}
+use Rattle.lookup.specs.Lookup.{pointFits, endsEarly, placeOf, fixAt, fixOf, lookedIn, looked}
 use Rattle.lookup.specs.Demand2.{seenFrom, BestGrid, PointOutside, NoneHolds, UsedCorner, DayOutside, EndsBefore, Judged, Row, ShortList, Nothing, _then_, Refuses}
 use Rattle.lookup.proofs.BestLaws.{chosen-is-best, none-chosen-holds, one-best}
 
@@ -51,13 +52,13 @@ single-row n When r s h k = h .0 ∙ sym (k .0)
 
 -- a stage of the definition and the row that it stands for
 stage : (Now Next : Refusal → Type 0) (b : Bool) (n q : ℕ) (next : Lookup) → (b ≡ true → Now (refusal n q)) → (b ≡ false → (r : Refusal) → Now r → ⊥)
-    → (b ≡ false → Next (lookupRefusal next)) → (Now then Next) (lookupRefusal (refuseIf b n q next))
+    → (b ≡ false → Next (lookupRefusal next)) → (Now then Next) (lookupRefusal (refuseIf L.Refused b n q next))
 unfolding refuseIf
 stage Now Next true n q next yea nay on = inl (yea refl)
 stage Now Next false n q next yea nay on = inr (nay refl, on refl)
 
 row-stage : (When : Type 0) (Next : Refusal → Type 0) (b : Bool) (n : ℕ) (next : Lookup) → (b ≡ true → When) → (b ≡ false → When → ⊥)
-    → (b ≡ false → Next (lookupRefusal next)) → (Row n When then Next) (lookupRefusal (refuseIf b n 0 next))
+    → (b ≡ false → Next (lookupRefusal next)) → (Row n When then Next) (lookupRefusal (refuseIf L.Refused b n 0 next))
 row-stage When Next b n next yea nay on = stage (Row n When) Next b n 0 next (λ e. (refl, yea e)) (λ e r h. nay e (h .1)) on
 
 -- ---- what each test says
@@ -162,13 +163,13 @@ module _ (g : Group) (nodes : List ℤ) (p : Point) (t : ℤ) where
   in-choice a (suc k) e factor = let b = chosen-is-best g p a k e in inr (λ r h. h .1 k (b .among) (b .held), in-grid k factor b)
 
   judge-stage : (Next : Refusal → Type 0) (v : Verdict) (next : Lookup) → judged g ≡ v → (judged g ≡ Accepted → Next (lookupRefusal next))
-      → (Judged g then Next) (lookupRefusal (unlessRefused v next))
+      → (Judged g then Next) (lookupRefusal (unlessRefused L.Refused v next))
   judge-stage Next Accepted next e on =
-      inr (λ r h. let k : _≡_ {A = Verdict} Accepted (Refused r) = sym e ∙ h in absurd (let z : _≡_ {A = ℕ} 0 1 = cc in omega arith), on e)
+      inr (λ r h. no-acceptance r (sym h ∙ e), on e)
   judge-stage Next (Refused r) next e on = inl e
 
   stands : Refuses g nodes p t (lookupRefusal (looked g nodes p t))
-  unfolding Refuses looked lookedIn
+  unfolding Refuses looked lookedIn refuseFirst
   stands =
       judge-stage (Row 6 (PointOutside p) then From9) (judged g) (lookedIn g nodes p t) refl
       (λ a.

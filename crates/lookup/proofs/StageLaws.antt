@@ -1,7 +1,7 @@
 -- The refusals of a lookup in their order, each exactly where those before it don't refuse.
 use Prim.Native.Nat.{_+_}
-use mathlib.Core.Path.{_≡_, refl}
-use mathlib.Core.Bool.{true, false}
+use mathlib.Core.Path.{_≡_, refl, _∙_, ap}
+use mathlib.Core.Bool.{true, false, not}
 use mathlib.Core.List.{List}
 use lib.IntN.{ℤ}
 use lib.ListN.{length}
@@ -12,8 +12,8 @@ use Rattle.group.specs.declared.Refusal.{Refusal}
 use Rattle.group.specs.declared.Verdict.the-variants.{Accepted, Refused}
 use Rattle.judge.specs.Judge.{judged}
 use Rattle.fix.specs.declared.Lookup.the-variants as L
-use Rattle.fix.specs.Fix.{refuseIf}
 use Rattle.group.specs.Numbers.{dayFits}
+use Rattle.group.proofs.RefusalLaws.{if-here, if-past, first-here, first-past}
 use Rattle.lookup.specs.Lookup.{pointFits, endsEarly, fixOf, lookedIn, looked, Ready}
 
 module _ (g : Group) (nodes : List ℤ) (p : Point) (t : ℤ) where
@@ -26,19 +26,25 @@ module _ (g : Group) (nodes : List ℤ) (p : Point) (t : ℤ) where
   looked-accepted e = rw e refl
 
   pub looked-6 : pointFits p ≡ false → lookedIn g nodes p t ≡ L.Refused (record { number = 6; place = 0 })
-  unfolding lookedIn refuseIf
-  looked-6 e = rw e refl
+  unfolding lookedIn
+  looked-6 e = if-here L.Refused (not (pointFits p)) 6 0 _ (ap not e)
 
   pub looked-9 : pointFits p ≡ true → dayFits t ≡ false → lookedIn g nodes p t ≡ L.Refused (record { number = 9; place = 0 })
-  unfolding lookedIn refuseIf
-  looked-9 e f = rw (e, f) refl
+  unfolding lookedIn
+  looked-9 e f = if-past L.Refused (not (pointFits p)) 6 0 _ (ap not e) ∙ if-here L.Refused (not (dayFits t)) 9 0 _ (ap not f)
 
   pub looked-13 : pointFits p ≡ true → dayFits t ≡ true → some (endsEarly g (length nodes)) (g .grids) ≡ true
       → lookedIn g nodes p t ≡ L.Refused (record { number = 13; place = first (endsEarly g (length nodes)) (g .grids) + 1 })
-  unfolding lookedIn refuseIf
-  looked-13 e f h = rw (e, f, h) refl
+  unfolding lookedIn
+  looked-13 e f h =
+      if-past L.Refused (not (pointFits p)) 6 0 _ (ap not e)
+      ∙ if-past L.Refused (not (dayFits t)) 9 0 _ (ap not f)
+      ∙ first-here L.Refused (endsEarly g (length nodes)) (g .grids) 13 1 _ h
 
   pub looked-on : Ready g (length nodes) p t
       → lookedIn g nodes p t ≡ fixOf g nodes p t
-  unfolding lookedIn refuseIf
-  looked-on r = rw (r .point, r .day, r .ends) refl
+  unfolding lookedIn
+  looked-on r =
+      if-past L.Refused (not (pointFits p)) 6 0 _ (ap not (r .point))
+      ∙ if-past L.Refused (not (dayFits t)) 9 0 _ (ap not (r .day))
+      ∙ first-past L.Refused (endsEarly g (length nodes)) (g .grids) 13 1 _ (r .ends)

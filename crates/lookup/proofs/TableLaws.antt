@@ -1,56 +1,42 @@
--- Every number by which a lookup refuses stands in the table of refusals, so that 0 is a fix.
+-- A lookup tells 0 exactly where it is a fix, else a number of the table of refusals.
 use Prim.Native.Nat.{ℕ, zero, suc}
-use mathlib.Core.Path.{_≡_, refl, ap, subst}
-use mathlib.Core.Bool.{Bool, true, false}
+use mathlib.Core.Path.{_≡_, refl, ap}
 use mathlib.Core.List.{List}
 use mathlib.Core.Logic.{_↔_}
+use native.Mathlib.Omega.{arith}
 use lib.IntN.{ℤ}
-use Rattle.numbers.proofs.Bools.{true-false}
 use Rattle.group.specs.declared.Group.{Group}
 use Rattle.group.specs.declared.Point.{Point}
 use Rattle.group.specs.declared.Refusal.{Refusal}
-use Rattle.group.specs.declared.Verdict.{Verdict}
-use Rattle.group.specs.declared.Verdict.the-variants.{Accepted, Refused}
-use Rattle.group.specs.Refusals.{inTable}
+use Rattle.group.specs.Refusals.{refusal, refuseFirst, Told}
+use Rattle.group.proofs.RefusalLaws.{Answers, told-accepted, told-by, told-if, told-verdict}
 use Rattle.judge.specs.Judge.{judged}
-use Rattle.judge.proofs.TableLaws.{judged-table}
+use Rattle.judge.proofs.TableLaws.{judged-told}
 use Rattle.fix.specs.declared.Fix.{Fix}
 use Rattle.fix.specs.declared.Place.{Place}
 use Rattle.fix.specs.declared.Lookup.{Lookup}
 use Rattle.fix.specs.declared.Lookup.the-variants as L
 use Rattle.fix.specs.Answers.{lookupRefusal}
-use Rattle.fix.specs.Fix.{refuseIf, fixIn}
-use Rattle.lookup.specs.Lookup.{fixAt, unlessRefused, lookedIn, looked}
+use Rattle.fix.specs.Fix.{fixIn}
+use Rattle.lookup.specs.Lookup.{fixAt, lookedIn, looked}
 
-abbrev InTable : Lookup → Type 0
-InTable (L.Fix f) = Unit {0}
-InTable (L.Refused r) = inTable (r .number) ≡ true
+lookups : Answers (λ (x : Lookup). (f : Fix) × (x ≡ L.Fix f)) lookupRefusal L.Refused
+lookups = record { back = λ r. refl; never = λ r e. let f = e .1 in let z : _≡_ {A = ℕ} 0 1 = cc in omega arith }
 
-stage : (b : Bool) (n q : ℕ) (next : Lookup) → inTable n ≡ true → InTable next → InTable (refuseIf b n q next)
-unfolding refuseIf
-stage true n q next h k = h
-stage false n q next h k = k
-
-fix-stage : (c : ℕ) (place : ℕ → Place) (nodes : List ℤ) (factor : ℤ) → InTable (fixAt c place nodes factor)
+in-choice : (c : ℕ) (place : ℕ → Place) (nodes : List ℤ) (factor : ℤ)
+    → Told ((f : Fix) × (fixAt c place nodes factor ≡ L.Fix f)) (lookupRefusal (fixAt c place nodes factor))
 unfolding fixAt fixIn
-fix-stage zero place nodes factor = refl
-fix-stage (suc k) place nodes factor = stage _ 8 0 _ refl (stage _ 11 0 _ refl tt)
+in-choice zero place nodes factor = told-by lookups (refusal 7 0) refl
+in-choice (suc k) place nodes factor = told-if lookups _ 8 0 refl (told-if lookups _ 11 0 refl (told-accepted (_, refl)))
 
 module _ (g : Group) (nodes : List ℤ) (p : Point) (t : ℤ) where
-  in-table : InTable (looked g nodes p t)
-  unfolding looked lookedIn
-  in-table = judge-stage (judged g) refl _ (stage _ 6 0 _ refl (stage _ 9 0 _ refl (stage _ 13 _ _ refl (fix-stage _ _ _ _))))
-    where
-      judge-stage : (v : Verdict) → judged g ≡ v → (next : Lookup) → InTable next → InTable (unlessRefused v next)
-      judge-stage Accepted e next h = h
-      judge-stage (Refused r) e next h = judged-table g r e
-
-  pub looked-table : (r : Refusal) → looked g nodes p t ≡ L.Refused r → inTable (r .number) ≡ true
-  looked-table r e = subst InTable e in-table
+  pub looked-told : Told ((f : Fix) × (looked g nodes p t ≡ L.Fix f)) (lookupRefusal (looked g nodes p t))
+  unfolding looked lookedIn refuseFirst
+  looked-told =
+      told-verdict lookups (judged g) (judged-told g)
+      (told-if lookups _ 6 0 refl
+      (told-if lookups _ 9 0 refl
+      (told-if lookups _ 13 _ refl (in-choice _ _ _ _))))
 
   pub zero-fix : (lookupRefusal (looked g nodes p t) .number ≡ 0) ↔ ((f : Fix) × (looked g nodes p t ≡ L.Fix f))
-  zero-fix = (go (looked g nodes p t) in-table, λ f. ap (λ (r : Lookup). lookupRefusal r .number) (f .1))
-    where
-      go : (r : Lookup) → InTable r → lookupRefusal r .number ≡ 0 → (f : Fix) × (r ≡ L.Fix f)
-      go (L.Fix f) h z = (f, refl)
-      go (L.Refused r) h z = absurd (true-false h (ap inTable z))
+  zero-fix = (looked-told .zero, λ f. ap (λ (r : Refusal). r .number) (looked-told .accepted f))

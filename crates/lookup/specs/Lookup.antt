@@ -1,19 +1,19 @@
 -- Document 01's lookup of a point on a day: refusals 2 to 5, then 6, 9, 13, 7, 8, 11, else the fix in the chosen grid.
-use Prim.Native.Nat.{ℕ, zero, suc, _+_}
+use Prim.Native.Nat.{ℕ, zero, suc}
 use mathlib.Core.Path.{_≡_}
 use mathlib.Core.Bool.{Bool, true, false, not, _&&_}
 use mathlib.Core.List.{List}
 use lib.Dec.{ltb}
 use lib.IntN.{ℤ, _-ℤ_, natAbs}
 use lib.ListN.{length}
-use Rattle.numbers.specs.First.{first, some}
+use Rattle.numbers.specs.First.{some}
 use Rattle.group.specs.declared.Grid.{Grid}
 use Rattle.group.specs.declared.Group.{Group}
 use Rattle.group.specs.declared.Point.{Point}
-use Rattle.group.specs.declared.Verdict.{Verdict}
-use Rattle.group.specs.declared.Verdict.the-variants.{Accepted, Refused}
+use Rattle.group.specs.declared.Verdict.the-variants.{Accepted}
 use Rattle.group.specs.Numbers.{lonAdmitted, latAdmitted, dayFits}
 use Rattle.group.specs.Record.{gridAt}
+use Rattle.group.specs.Refusals.{refusal, refuseIf, refuseFirst, unlessRefused}
 use Rattle.extent.specs.Extent.{nodeEnd}
 use Rattle.judge.specs.Judge.{judged}
 use Rattle.ingroup.specs.InGroup.{chosenIn}
@@ -21,7 +21,7 @@ use Rattle.day.specs.Day.{factorOf}
 use Rattle.fix.specs.declared.Place.{Place}
 use Rattle.fix.specs.declared.Lookup.{Lookup}
 use Rattle.fix.specs.declared.Lookup.the-variants as L
-use Rattle.fix.specs.Fix.{refuseIf, fixIn}
+use Rattle.fix.specs.Fix.{fixIn}
 
 -- 6: the point is within the limits
 abbrev pub pointFits : Point → Bool
@@ -47,28 +47,24 @@ placeOf g np p =
 
 -- 7 where no grid is chosen (its number is 0), else 8 or 11, or the fix, in the chosen one
 unfoldable pub fixAt : ℕ → (ℕ → Place) → List ℤ → ℤ → Lookup
-fixAt zero place nodes factor = L.Refused (record { number = 7; place = 0 })
+fixAt zero place nodes factor = L.Refused (refusal 7 0)
 fixAt (suc k) place nodes factor = fixIn (place k) nodes factor (suc k)
 
 -- 7, 8 or 11, or the fix
 abbrev pub fixOf : Group → List ℤ → Point → ℤ → Lookup
 fixOf g nodes p t = fixAt (chosenIn g (p .lon .0) (p .lat .0)) (λ k. placeOf (gridAt g k) (g .parameters) p) nodes (factorOf (g .ramp) (g .ramps) t)
 
--- the verdict where it is a refusal, else what follows
-abbrev pub unlessRefused : Verdict → Lookup → Lookup
-unlessRefused (Refused r) next = L.Refused r
-unlessRefused Accepted next = next
-
 -- in an accepted group: 6, 9, 13, then 7, 8, 11
 unfoldable pub lookedIn : Group → List ℤ → Point → ℤ → Lookup
 lookedIn g nodes p t =
-    refuseIf (not (pointFits p)) 6 0
-    (refuseIf (not (dayFits t)) 9 0
-    (refuseIf (some (endsEarly g (length nodes)) (g .grids)) 13 (first (endsEarly g (length nodes)) (g .grids) + 1)
+    refuseIf L.Refused (not (pointFits p)) 6 0
+    (refuseIf L.Refused (not (dayFits t)) 9 0
+    (refuseFirst L.Refused (endsEarly g (length nodes)) (g .grids) 13 1
     (fixOf g nodes p t)))
 
+-- 2 to 5 first
 unfoldable pub looked : Group → List ℤ → Point → ℤ → Lookup
-looked g nodes p t = unlessRefused (judged g) (lookedIn g nodes p t)
+looked g nodes p t = unlessRefused L.Refused (judged g) (lookedIn g nodes p t)
 
 -- what 7, 8 and 11 may rely on: an accepted group, a point and a day within the limits, and each node range within the list
 pub record Ready (g : Group) (count : ℕ) (p : Point) (t : ℤ) : Type 0 where

@@ -3,8 +3,9 @@ use mathlib.Core.Path.{refl}
 use Rattle.numbers.specs.First.{first}
 use Rattle.numbers.specs.Round.{gain, nearest, roundZ}
 use Rattle.group.specs.Limits.{byteFits, nameFits, nameBlank, headFits, gridFits, gridBlank}
+use Rattle.group.specs.Refusals.{refuseIf, refuseFirst}
 use Rattle.extent.specs.Extent.{farEdge, spanOf, lonSpan, latSpan, holds, meet, inside}
-use Rattle.judge.specs.Judge.{sameName, sameRank, refuseIf, refuseFirst, judgedGrids, judgedLines, judged}
+use Rattle.judge.specs.Judge.{sameName, sameRank, judgedLines, judgedLimits, judgedGrids, judgedRanks, judged}
 use Rattle.choice.specs.Choice.{betterOf, chosen}
 use Rattle.ingroup.specs.InGroup.{chosenIn}
 use Rattle.cell.specs.Cell.{cellIndex, cellAlong, weightsOf, usedSome, valueOf}
@@ -20,8 +21,8 @@ use Rattle.marked.specs.Marked.{Holds, AllHold, table}
 
 pub all-marked : AllHold table
 unfolding AllHold Holds table first gain nearest roundZ byteFits nameFits nameBlank headFits gridFits gridBlank
-    farEdge spanOf lonSpan latSpan holds meet inside sameName sameRank refuseIf refuseFirst judgedGrids judgedLines judged
+    farEdge spanOf lonSpan latSpan holds meet inside sameName sameRank refuseIf refuseFirst judgedLines judgedLimits judgedGrids judgedRanks judged
     betterOf chosen cellIndex cellAlong weightsOf usedSome valueOf rampFactor sumOf factorOf resultOf
-    F.spotOf F.cornersAt F.cornersOf F.cornerSome F.valueIn F.resultAt F.refuseIf F.fixIn
+    F.spotOf F.cornersAt F.cornersOf F.cornerSome F.valueIn F.resultAt F.fixIn
     chosenIn placeOf fixAt lookedIn looked firstInRow firstInRows firstIn ofRank byRank entriesOf areaFits inForceOf
 all-marked = (refl, (refl, (refl, (refl, (refl, (refl, (refl, (refl, (refl, (refl, (refl, (refl, (refl, (refl, tt))))))))))))))

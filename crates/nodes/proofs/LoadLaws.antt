@@ -19,7 +19,7 @@ use Rattle.numbers.proofs.OrderLaws.{within-test}
 use Rattle.group.specs.Numbers.{valueMost, mark, valueFits}
 use Rattle.nodes.specs.declared.Loaded.{Loaded}
 use Rattle.nodes.specs.declared.Loaded.the-variants.{Done, Refused}
-use Rattle.group.specs.Refusals.{refusal}
+use Rattle.group.specs.Refusals.{refusal, refuseIf, refuseFirst, lentAfter}
 use Rattle.nodes.specs.Load.{signed, marks, steps, refused, nodeOf, firstRefused, loaded, nodesAfter}
 use Rattle.nodes.specs.Size.{sizeOf}
 use Rattle.nodes.proofs.Fields.{value-nearest, sign}
@@ -116,5 +116,5 @@ worked c =
     record { quantum = c .quantum; flag = c .flag; bits = c .bits; answer = loaded (c .quantum) flag floats 1; node = getD (nodesAfter (c .quantum) flag floats (pos 7 ∷ [])) 0 (pos 0) }
 
 pub cases : map worked table ≡ table
-unfolding table loaded nodesAfter firstRefused first refused nodeOf steps marks roundZ nearest gain ofBits toBits isNan
+unfolding table loaded nodesAfter refuseIf refuseFirst lentAfter first refused nodeOf steps marks roundZ nearest gain ofBits toBits isNan
 cases = refl

@@ -1,32 +1,18 @@
--- Every number by which loading refuses stands in the table of refusals.
-use Prim.Native.Nat.{ℕ, suc}
-use mathlib.Core.Path.{_≡_, refl, subst}
-use mathlib.Core.Bool.{Bool, true, false, not, cond}
+-- Loading tells 0 exactly where it is done, else a number of the table of refusals.
+use Prim.Native.Nat.{ℕ}
+use mathlib.Core.Path.{_≡_, refl}
 use mathlib.Core.List.{List}
-use lib.Dec.{ltb, eqb}
-use lib.ListN.{length}
+use native.Mathlib.Omega.{arith}
 use lib.Ieee.{Float}
-use Rattle.group.specs.declared.Refusal.{Refusal}
-use Rattle.group.specs.Refusals.{refusal, inTable}
+use Rattle.group.specs.Refusals.{refuseFirst, Told}
+use Rattle.group.proofs.RefusalLaws.{Answers, told-accepted, told-if}
 use Rattle.nodes.specs.declared.Loaded.{Loaded}
 use Rattle.nodes.specs.declared.Loaded.the-variants.{Done, Refused}
-use Rattle.nodes.specs.Load.{firstRefused, loaded}
+use Rattle.nodes.specs.Load.{loaded, loadedRefusal}
 
-abbrev InTable : Loaded → Type 0
-InTable Done = Unit {0}
-InTable (Refused r) = inTable (r .number) ≡ true
+loadings : Answers (λ (l : Loaded). l ≡ Done) loadedRefusal Refused
+loadings = record { back = λ r. refl; never = λ r e. let z : _≡_ {A = ℕ} 0 1 = cc in omega arith }
 
-stages : (a b c : Bool) (p : ℕ) → InTable (cond a (Refused (refusal 2 0)) (cond b (Refused (refusal 12 0)) (cond c (Refused (refusal 11 p)) Done)))
-stages true b c p = refl
-stages false true c p = refl
-stages false false true p = refl
-stages false false false p = tt
-
-in-table : (q : ℕ) (flag : Float) (floats : List Float) (n : ℕ) → InTable (loaded q flag floats n)
-unfolding loaded
-in-table q flag floats n =
-    let k = firstRefused q flag floats in
-    stages (ltb 20 q) (not (eqb (length floats) n)) (ltb k (length floats)) (suc k)
-
-pub loaded-table : (q : ℕ) (flag : Float) (floats : List Float) (n : ℕ) (r : Refusal) → loaded q flag floats n ≡ Refused r → inTable (r .number) ≡ true
-loaded-table q flag floats n r e = subst InTable e (in-table q flag floats n)
+pub loaded-told : (q : ℕ) (flag : Float) (floats : List Float) (n : ℕ) → Told (loaded q flag floats n ≡ Done) (loadedRefusal (loaded q flag floats n))
+unfolding loaded refuseFirst
+loaded-told q flag floats n = told-if loadings _ 2 0 refl (told-if loadings _ 12 0 refl (told-if loadings _ 11 _ refl (told-accepted refl)))

@@ -1,5 +1,5 @@
 -- What loading floats into nodes means: document 01, 'Loading and showing' and refusals 2, 12 and 11.
-use Prim.Native.Nat.{ℕ, suc, _*_, _^_}
+use Prim.Native.Nat.{ℕ, _*_, _^_}
 use mathlib.Core.Bool.{Bool, true, false, not, cond, _&&_, _||_}
 use mathlib.Core.List.{List, map}
 use lib.Dec.{ltb, eqb}
@@ -10,7 +10,7 @@ use Rattle.numbers.specs.Round.{roundZ}
 use Rattle.numbers.specs.First.{first}
 use Rattle.group.specs.declared.Refusal.{Refusal}
 use Rattle.group.specs.Numbers.{quantumMost, mark, valueFits}
-use Rattle.group.specs.Refusals.{refusal, noRefusal}
+use Rattle.group.specs.Refusals.{noRefusal, refuseIf, refuseFirst, lentAfter}
 use Rattle.nodes.specs.declared.Loaded.{Loaded}
 use Rattle.nodes.specs.declared.Loaded.the-variants.{Done, Refused}
 
@@ -49,16 +49,16 @@ firstRefused q flag floats = first (λ i. refused q flag (getD floats i nan)) (l
 -- what loading answers where n nodes are lent: Q by 2, then 12, then 11 at the first position, from 1
 unfoldable pub loaded : ℕ → Float → List Float → ℕ → Loaded
 loaded q flag floats n =
-    let k = firstRefused q flag floats in
-    cond (ltb quantumMost q) (Refused (refusal 2 0))
-    (cond (not (eqb (length floats) n)) (Refused (refusal 12 0))
-    (cond (ltb k (length floats)) (Refused (refusal 11 (suc k))) Done))
+    refuseIf Refused (ltb quantumMost q) 2 0
+    (refuseIf Refused (not (eqb (length floats) n)) 12 0
+    (refuseFirst Refused (λ i. refused q flag (getD floats i nan)) (length floats) 11 1
+    Done))
 
 -- what loading refuses
 abbrev pub loadedRefusal : Loaded → Refusal
 loadedRefusal Done = noRefusal
 loadedRefusal (Refused r) = r
 
--- the lent nodes afterwards: the node of each float where nothing is refused, else unchanged
+-- the lent nodes afterwards: the node of each float; after a refusal as they were
 unfoldable pub nodesAfter : ℕ → Float → List Float → List ℤ → List ℤ
-nodesAfter q flag floats nodes = cond (eqb (loadedRefusal (loaded q flag floats (length nodes)) .number) 0) (map (nodeOf q flag) floats) nodes
+nodesAfter q flag floats nodes = lentAfter (loadedRefusal (loaded q flag floats (length nodes))) (map (nodeOf q flag) floats) nodes

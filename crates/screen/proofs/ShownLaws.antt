@@ -1,6 +1,6 @@
 -- The screen's promises, of its own answers: results are shown exactly, degrees are rounded once.
 use mathlib.Core.Path.{_≡_, refl, sym, ap, _∙_, subst}
-use mathlib.Core.Bool.{Bool, true, false, cond}
+use mathlib.Core.Bool.{Bool, true, false, not}
 use Prim.Native.Nat.{ℕ, zero, suc, _*_, _^_, _≤_, _<_}
 use native.Mathlib.Omega.{arith}
 use native.Mathlib.Nat.{mul-one}
@@ -8,9 +8,9 @@ use lib.Dec.{lit<, lit≤}
 use lib.IntN.{ℤ, pos, natAbs}
 use lib.Ieee.{binary64, round, ofInt}
 use borrow.Author.Tests.{lt-ltb, le-ltb, le-leb}
-use Rattle.numbers.proofs.Bools.{both, true-false}
+use Rattle.numbers.proofs.Bools.{both}
 use Rattle.group.specs.declared.Point.{Point}
-use Rattle.group.specs.Refusals.{refusal, inTable}
+use Rattle.group.proofs.RefusalLaws.{if-past}
 use Rattle.fix.specs.declared.Fix.{Fix}
 use Rattle.fix.specs.declared.Lookup.{Lookup}
 use Rattle.fix.specs.declared.Lookup.the-variants as L
@@ -20,7 +20,7 @@ use Rattle.screen.specs.declared.ScreenAnswer.the-variants as S
 use Rattle.screen.specs.Screen.{plusZero, shownShift, degreesOf, admitted, shown, answerOf, screenRefusal, recordOf}
 use Rattle.screen.specs.Shown.{below, Times, nearestTo, shiftAt, ShowsResults, ShowsPoint}
 use Rattle.screen.proofs.Exact.{div-at, cast-exact, like, shift-exact}
-use Rattle.screen.proofs.TableLaws.{InTable, in-table}
+use Rattle.screen.proofs.TableLaws.{answer-told}
 
 -- ---- results
 
@@ -58,7 +58,7 @@ pub shown-exactly : (f : Fix) (q np : ℕ) → q ≤ 20 → 1 ≤ np → np ≤ 
 unfolding answerOf
 shown-exactly f q np k l m h =
     let t : admitted q np ≡ true = both (le-leb q 20 k) (both (le-leb 1 np l) (le-leb np 3 m)) in
-    subst (ShowsResults (resultIn f) q np) (ap (λ (b : Bool). cond b (shown (L.Fix f) q np) (S.Refused (refusal 2 0))) (sym t)) (by-fix f q np k m h)
+    subst (ShowsResults (resultIn f) q np) (sym (if-past S.Refused (not (admitted q np)) 2 0 (shown (L.Fix f) q np) (ap not t))) (by-fix f q np k m h)
 
 -- ---- degrees
 
@@ -74,15 +74,13 @@ degrees-rounded mas h =
 pub record-shown : (point : Point) (found : Lookup) (q np : ℕ) → screenRefusal (answerOf found q np) .number ≡ 0
     → ShowsPoint point (answerOf found q np) (recordOf point (answerOf found q np))
 unfolding recordOf
-record-shown point found q np e = go (answerOf found q np) (in-table found q np) e
-  where
-    go : (s : ScreenAnswer) → InTable s → screenRefusal s .number ≡ 0 → ShowsPoint point s (recordOf point s)
-    go (S.Fix a b c) t z =
-        record {
-          longitude = degrees-rounded (point .lon .0);
-          latitude = degrees-rounded (point .lat .0);
-          first = refl;
-          second = refl;
-          third = refl;
-        }
-    go (S.Refused r) t z = absurd (true-false t (ap inTable z))
+record-shown point found q np z =
+    let u = answer-told found q np .zero z in
+    subst (λ (s : ScreenAnswer). ShowsPoint point s (recordOf point s)) (sym (u .3))
+    (record {
+      longitude = degrees-rounded (point .lon .0);
+      latitude = degrees-rounded (point .lat .0);
+      first = refl;
+      second = refl;
+      third = refl;
+    })

@@ -1,6 +1,6 @@
 -- What the screen shows, as 64-bit floats: document 01, 'Loading and showing'.
 use Prim.Native.Nat.{ℕ, _^_}
-use mathlib.Core.Bool.{Bool, false, cond, _&&_}
+use mathlib.Core.Bool.{Bool, false, cond, not, _&&_}
 use mathlib.Core.List.{List, [], _∷_}
 use lib.Dec.{leb, ltb}
 use lib.IntN.{ℤ, pos}
@@ -8,7 +8,7 @@ use lib.Ieee.{Float, fin, binary64, ofInt, mul, div}
 use Rattle.group.specs.declared.Point.{Point}
 use Rattle.group.specs.declared.Refusal.{Refusal}
 use Rattle.group.specs.Numbers.{masInDegree, quantumMost, parametersMost}
-use Rattle.group.specs.Refusals.{refusal, noRefusal, inTable}
+use Rattle.group.specs.Refusals.{refusal, noRefusal, inTable, refuseIf}
 use Rattle.fix.specs.declared.Lookup.{Lookup}
 use Rattle.fix.specs.declared.Lookup.the-variants as lookup
 use Rattle.screen.specs.declared.ScreenAnswer.{ScreenAnswer}
@@ -49,7 +49,9 @@ shown (lookup.Refused r) q np = Refused (handedOn r)
 
 -- the same, with Q and NP judged first: 2 with place 0
 unfoldable pub answerOf : Lookup → ℕ → ℕ → ScreenAnswer
-answerOf found q np = cond (admitted q np) (shown found q np) (Refused (refusal 2 0))
+answerOf found q np =
+    refuseIf Refused (not (admitted q np)) 2 0
+    (shown found q np)
 
 -- what the screen refuses, and the shifts that it hands back beside it
 abbrev pub screenRefusal : ScreenAnswer → Refusal

@@ -1,6 +1,6 @@
 -- `grids_in_force` meets its contract, refusal by refusal.
 use mathlib.Core.Path.{_∙_, sym}
-use Rattle.inforce.specs.InForce.{inForceOf}
+use Rattle.inforce.proofs.StageLaws.{in-force-group, in-force-10, in-force-listed}
 use borrow.Author.Needs.{needs}
 use Rattle.inforce.proofs.grids_in_force.Statement.{statement}
 use Rattle.inforce.proofs.grids_in_force.Tie as tie
@@ -30,27 +30,21 @@ refused-by-requires-2 : tie.Need-refused-by-requires-2
 refused-by-requires-2 c κs = search needs
 
 returns : tie.Need-returns
-unfolding inForceOf
 returns c =
-    rw (sym (c .before .before .before .before .judge .ensures) ∙ c .before .before .verdict .given .1) (c .refused-by .ensures)
+    c .refused-by .ensures
+    ∙ sym (in-force-group _ _ _ (sym (c .before .before .before .before .judge .ensures) ∙ c .before .before .verdict .given .1))
 
 returns-2 : tie.Need-returns-2
-unfolding inForceOf
 returns-2 c =
-    rw (
-      sym (c .before .before .before .before .before .judge .ensures) ∙ c .before .before .before .enum-told .given .1,
-      sym (c .before .before .area-fits .ensures) ∙ c .before .if1 .taken,
-    )
-    (c .list-in .ensures)
+    c .list-in .ensures
+    ∙ sym (in-force-listed _ _ (sym (c .before .before .before .before .before .judge .ensures) ∙ c .before .before .before .enum-told .given .1)
+    (sym (c .before .before .area-fits .ensures) ∙ c .before .if1 .taken))
 
 returns-3 : tie.Need-returns-3
-unfolding inForceOf
 returns-3 c =
-    rw (
-      sym (c .before .before .before .before .before .judge .ensures) ∙ c .before .before .before .enum-told .given .1,
-      sym (c .before .before .area-fits .ensures) ∙ c .before .if1 .left,
-    )
-    (c .refused-by2 .ensures)
+    c .refused-by2 .ensures
+    ∙ sym (in-force-10 _ _ (sym (c .before .before .before .before .before .judge .ensures) ∙ c .before .before .before .enum-told .given .1)
+    (sym (c .before .before .area-fits .ensures) ∙ c .before .if1 .left))
 
 pub grids-in-force-spec : {M : Type 1} → statement M
 grids-in-force-spec =

@@ -1,10 +1,13 @@
 -- `judge` meets its contract, stage by stage.
-use mathlib.Core.Path.{_≡_, _∙_, sym}
+use mathlib.Core.Path.{_≡_, _∙_, sym, ap}
+use mathlib.Core.Bool.{Bool, not}
 use borrow.Author.Tests.{not-false}
+use Rattle.group.specs.declared.Verdict.the-variants.{Refused}
 use Rattle.group.specs.Limits.{headFits}
-use Rattle.judge.specs.Judge.{judged}
+use Rattle.group.proofs.RefusalLaws.{if-here, if-past, fixed-here, fixed-past}
+use Rattle.judge.specs.Judge.{judgedLimits, judged}
 use Rattle.judge.proofs.LimitLaws.{head-sized}
-use Rattle.judge.proofs.JudgeLaws.{ramp-kept, grid-kept, fixed-here, fixed-past, head-here, head-past}
+use Rattle.judge.proofs.JudgeLaws.{ramp-kept, grid-kept}
 use native.Mathlib.Omega.{arith}
 use borrow.Author.Needs.{needs}
 use Rattle.judge.proofs.judge.Statement.{statement}
@@ -17,9 +20,12 @@ heads : (c : tie.After-head-fits) → c .head-fits .result ≡ headFits (c .befo
 unfolding headFits
 heads c = c .head-fits .ensures
 
+head-test : (c : tie.After-head-fits) {b : Bool} → not (c .head-fits .result) ≡ b → not (headFits (c .before .args .group)) ≡ b
+head-test c t = sym (ap not (heads c)) ∙ t
+
 returns : tie.Need-returns
-unfolding judged
-returns c = head-here _ _ (heads (c .before)) (c .if1 .taken)
+unfolding judged judgedLimits
+returns c = sym (if-here Refused _ 2 1 _ (head-test (c .before) (c .if1 .taken)))
 
 first-ramp-requires : tie.Need-first-ramp-requires
 first-ramp-requires c κs =
@@ -27,10 +33,10 @@ first-ramp-requires c κs =
     (h .ramps, omega arith, ramp-kept (c .before .before .before .args .group))
 
 returns-2 : tie.Need-returns-2
-unfolding judged
+unfolding judged judgedLimits
 returns-2 c =
-    fixed-here _ _ _ _ _ _ (c .before .first-ramp .ensures) (c .if2 .taken)
-    ∙ sym (head-past _ _ (heads (c .before .before .before .before)) (c .before .before .before .if1 .left))
+    fixed-here Refused _ _ _ _ _ _ (c .before .first-ramp .ensures) (c .if2 .taken)
+    ∙ sym (if-past Refused _ 2 1 _ (head-test (c .before .before .before .before) (c .before .before .before .if1 .left)))
 
 first-grid-requires : tie.Need-first-grid-requires
 first-grid-requires c κs =
@@ -38,23 +44,23 @@ first-grid-requires c κs =
     (h .grids, omega arith, grid-kept (c .before .before .before .before .before .args .group), λ k l. tt)
 
 returns-3 : tie.Need-returns-3
-unfolding judged
+unfolding judged judgedLimits
 returns-3 c =
-    fixed-here _ _ _ _ _ _ (c .before .first-grid .ensures) (c .if3 .taken)
-    ∙ sym (head-past _ _ (heads (c .before .before .before .before .before .before)) (c .before .before .before .before .before .if1 .left)
-    ∙ fixed-past _ _ _ _ _ _ (c .before .before .before .first-ramp .ensures) (c .before .before .if2 .left))
+    fixed-here Refused _ _ _ _ _ _ (c .before .first-grid .ensures) (c .if3 .taken)
+    ∙ sym (if-past Refused _ 2 1 _ (head-test (c .before .before .before .before .before .before) (c .before .before .before .before .before .if1 .left))
+    ∙ fixed-past Refused _ _ _ _ _ _ (c .before .before .before .first-ramp .ensures) (c .before .before .if2 .left))
 
 judge-lines-requires : tie.Need-judge-lines-requires
 judge-lines-requires c κs =
     head-sized _ (sym (heads (c .before .before .before .before .before .before)) ∙ not-false _ (c .before .before .before .before .before .if1 .left))
 
 returns-4 : tie.Need-returns-4
-unfolding judged
+unfolding judged judgedLimits
 returns-4 c =
     c .judge-lines .ensures
-    ∙ sym (head-past _ _ (heads (c .before .before .before .before .before .before .before)) (c .before .before .before .before .before .before .if1 .left)
-    ∙ fixed-past _ _ _ _ _ _ (c .before .before .before .before .first-ramp .ensures) (c .before .before .before .if2 .left)
-    ∙ fixed-past _ _ _ _ _ _ (c .before .before .first-grid .ensures) (c .before .if3 .left))
+    ∙ sym (if-past Refused _ 2 1 _ (head-test (c .before .before .before .before .before .before .before) (c .before .before .before .before .before .before .if1 .left))
+    ∙ fixed-past Refused _ _ _ _ _ _ (c .before .before .before .before .first-ramp .ensures) (c .before .before .before .if2 .left)
+    ∙ fixed-past Refused _ _ _ _ _ _ (c .before .before .first-grid .ensures) (c .before .if3 .left))
 
 pub judge-spec : {M : Type 1} → statement M
 judge-spec =

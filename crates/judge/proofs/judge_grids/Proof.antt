@@ -1,8 +1,10 @@
 -- `judge_grids` meets its contract, stage by stage.
 use mathlib.Core.Path.{_∙_, sym}
-use Rattle.judge.specs.Judge.{judgedGrids}
+use Rattle.group.specs.declared.Verdict.the-variants.{Refused}
+use Rattle.group.proofs.RefusalLaws.{at-here, at-past}
+use Rattle.judge.specs.Judge.{judgedGrids, judgedRanks}
 use Rattle.judge.proofs.LimitLaws.{grid-sized}
-use Rattle.judge.proofs.JudgeLaws.{at-here, at-past, comparable}
+use Rattle.judge.proofs.JudgeLaws.{comparable}
 use native.Mathlib.Omega.{arith}
 use borrow.Author.Count.{below-none}
 use borrow.Author.Needs.{needs}
@@ -17,7 +19,7 @@ add-t8 c = search needs
 
 returns : tie.Need-returns
 unfolding judgedGrids
-returns c = at-here _ _ _ _ _ _ (c .before .first-sharing .ensures) (c .if1 .taken)
+returns c = at-here Refused _ _ _ _ _ _ (c .before .first-sharing .ensures) (c .if1 .taken)
 
 first-grid-requires : tie.Need-first-grid-requires
 first-grid-requires c κs =
@@ -30,8 +32,8 @@ add-t11 c = search needs
 returns-2 : tie.Need-returns-2
 unfolding judgedGrids
 returns-2 c =
-    at-here _ _ _ _ _ _ (c .before .first-grid .ensures) (c .if2 .taken)
-    ∙ sym (at-past _ _ _ _ _ _ (c .before .before .before .first-sharing .ensures) (c .before .before .if1 .left))
+    at-here Refused _ _ _ _ _ _ (c .before .first-grid .ensures) (c .if2 .taken)
+    ∙ sym (at-past Refused _ _ _ _ _ _ (c .before .before .before .first-sharing .ensures) (c .before .before .if1 .left))
 
 first-sharing-requires-2 : tie.Need-first-sharing-requires-2
 first-sharing-requires-2 c κs =
@@ -42,18 +44,18 @@ add-t13 : tie.Need-add-t13
 add-t13 c = search needs
 
 returns-3 : tie.Need-returns-3
-unfolding judgedGrids
+unfolding judgedGrids judgedRanks
 returns-3 c =
-    at-here _ _ _ _ _ _ (c .before .first-sharing2 .ensures) (c .if3 .taken)
-    ∙ sym (at-past _ _ _ _ _ _ (c .before .before .before .before .before .first-sharing .ensures) (c .before .before .before .before .if1 .left)
-    ∙ at-past _ _ _ _ _ _ (c .before .before .before .first-grid .ensures) (c .before .before .if2 .left))
+    at-here Refused _ _ _ _ _ _ (c .before .first-sharing2 .ensures) (c .if3 .taken)
+    ∙ sym (at-past Refused _ _ _ _ _ _ (c .before .before .before .before .before .first-sharing .ensures) (c .before .before .before .before .if1 .left)
+    ∙ at-past Refused _ _ _ _ _ _ (c .before .before .before .first-grid .ensures) (c .before .before .if2 .left))
 
 returns-4 : tie.Need-returns-4
-unfolding judgedGrids
+unfolding judgedGrids judgedRanks
 returns-4 c =
-    sym (at-past _ _ _ _ _ _ (c .before .before .before .before .before .first-sharing .ensures) (c .before .before .before .before .if1 .left)
-    ∙ at-past _ _ _ _ _ _ (c .before .before .before .first-grid .ensures) (c .before .before .if2 .left)
-    ∙ at-past _ _ _ _ _ _ (c .before .first-sharing2 .ensures) (c .if3 .left))
+    sym (at-past Refused _ _ _ _ _ _ (c .before .before .before .before .before .first-sharing .ensures) (c .before .before .before .before .if1 .left)
+    ∙ at-past Refused _ _ _ _ _ _ (c .before .before .before .first-grid .ensures) (c .before .before .if2 .left)
+    ∙ at-past Refused _ _ _ _ _ _ (c .before .first-sharing2 .ensures) (c .if3 .left))
 
 pub judge-grids-spec : {M : Type 1} → statement M
 judge-grids-spec =

@@ -1,7 +1,9 @@
 -- `judge_lines` meets its contract, stage by stage.
 use mathlib.Core.Path.{_∙_, sym}
+use Rattle.group.specs.declared.Verdict.the-variants.{Refused}
+use Rattle.group.proofs.RefusalLaws.{at-here, at-past}
 use Rattle.judge.specs.Judge.{judgedLines}
-use Rattle.judge.proofs.JudgeLaws.{at-here, at-past, grids-fit}
+use Rattle.judge.proofs.JudgeLaws.{grids-fit}
 use native.Mathlib.Omega.{arith}
 use borrow.Author.Count.{below-none}
 use borrow.Author.Needs.{needs}
@@ -16,7 +18,7 @@ add-t9 c = search needs
 
 returns : tie.Need-returns
 unfolding judgedLines
-returns c = at-here _ _ _ _ _ _ (c .before .first-ramp .ensures) (c .if1 .taken)
+returns c = at-here Refused _ _ _ _ _ _ (c .before .first-ramp .ensures) (c .if1 .taken)
 
 first-grid-requires : tie.Need-first-grid-requires
 first-grid-requires c κs = (omega arith, c .before .before .before .pre .grids, below-none _, λ k l. tt)
@@ -30,8 +32,8 @@ add-t13 c = search needs
 returns-2 : tie.Need-returns-2
 unfolding judgedLines
 returns-2 c =
-    at-here _ _ _ _ _ _ (c .before .first-grid .ensures) (c .if2 .taken)
-    ∙ sym (at-past _ _ _ _ _ _ (c .before .before .before .first-ramp .ensures) (c .before .before .if1 .left))
+    at-here Refused _ _ _ _ _ _ (c .before .first-grid .ensures) (c .if2 .taken)
+    ∙ sym (at-past Refused _ _ _ _ _ _ (c .before .before .before .first-ramp .ensures) (c .before .before .if1 .left))
 
 judge-grids-requires : tie.Need-judge-grids-requires
 judge-grids-requires c κs = (c .before .before .before .before .before .pre, grids-fit _ _ (c .before .first-grid .ensures) (c .if2 .left))
@@ -40,8 +42,8 @@ returns-3 : tie.Need-returns-3
 unfolding judgedLines
 returns-3 c =
     c .judge-grids .ensures
-    ∙ sym (at-past _ _ _ _ _ _ (c .before .before .before .before .first-ramp .ensures) (c .before .before .before .if1 .left)
-    ∙ at-past _ _ _ _ _ _ (c .before .before .first-grid .ensures) (c .before .if2 .left))
+    ∙ sym (at-past Refused _ _ _ _ _ _ (c .before .before .before .before .first-ramp .ensures) (c .before .before .before .if1 .left)
+    ∙ at-past Refused _ _ _ _ _ _ (c .before .before .first-grid .ensures) (c .before .if2 .left))
 
 pub judge-lines-spec : {M : Type 1} → statement M
 judge-lines-spec =

@@ -1,6 +1,6 @@
 -- `screen_answer`: the limits, then the lookup's answer.
 use mathlib.Core.Path.{_≡_, sym, ap, _∙_}
-use mathlib.Core.Bool.{Bool, true, false, cond, _&&_}
+use mathlib.Core.Bool.{true, false, not, _&&_}
 use Prim.Native.Nat.{ℕ, _≤_}
 use lib.Dec.{leb}
 use lib.Ieee.{Float}
@@ -10,27 +10,26 @@ use borrow.Author.Needs.{needs}
 use borrow.Author.Tests.{leb-true, not-true, not-false}
 use Rattle.numbers.proofs.Bools.{and-left}
 use Rattle.group.specs.declared.Refusal.{Refusal}
+use Rattle.group.specs.Refusals.{refusal}
+use Rattle.group.proofs.RefusalLaws.{if-here, if-past}
 use Rattle.group.specs.Numbers.{quantumMost, parametersMost}
 use Rattle.fix.specs.declared.Fix.{Fix}
 use Rattle.fix.specs.declared.Lookup.{Lookup}
 use Rattle.fix.specs.declared.Lookup.the-variants as lookup
-use Rattle.screen.specs.declared.ScreenAnswer.{ScreenAnswer}
 use Rattle.screen.specs.declared.ScreenAnswer.the-variants as answer
 use Rattle.screen.specs.Screen.{admitted, shownShift, handedOn, shown, answerOf}
 use Rattle.screen.proofs.screen_answer.Statement.{statement}
 use Rattle.screen.proofs.screen_answer.Tie as tie
 
-abbrev outside : ScreenAnswer
-outside = answer.Refused (record { number = 2; place = 0 })
-
 module _ (q np : ℕ) (found : Lookup) where
-  is-outside : admitted q np ≡ false → outside ≡ answerOf found q np
+  is-outside : admitted q np ≡ false → answer.Refused (refusal 2 0) ≡ answerOf found q np
   unfolding answerOf
-  is-outside h = ap (λ (t : Bool). cond t (shown found q np) outside) (sym h)
+  is-outside h = sym (if-here answer.Refused (not (admitted q np)) 2 0 (shown found q np) (ap not h))
 
   is-shown : (l : Lookup) → admitted q np ≡ true → found ≡ l → shown l q np ≡ answerOf found q np
   unfolding answerOf
-  is-shown l h e = ap (λ (m : Lookup). shown m q np) (sym e) ∙ ap (λ (t : Bool). cond t (shown found q np) outside) (sym h)
+  is-shown l h e =
+      ap (λ (m : Lookup). shown m q np) (sym e) ∙ sym (if-past answer.Refused (not (admitted q np)) 2 0 (shown found q np) (ap not h))
 
   is-fix : (f : Fix) (a b c : Float) → admitted q np ≡ true → found ≡ lookup.Fix f → a ≡ shownShift q np 0 (f .first) → b ≡ shownShift q np 1 (f .second) → c ≡ shownShift q np 2 (f .third) → answer.Fix a b c ≡ answerOf found q np
   unfolding shown
