@@ -26,23 +26,29 @@ module _ (text : List ℕ) (group : List ℤ) (z : readAnswer text group .refusa
   accepted : readHeader text .verdict ≡ Accepted
   accepted = reads text group .told .zero z
 
+  none : verdictRefusal (readHeader text .verdict) .number ≡ 0
+  none = ap (λ (v : Verdict). verdictRefusal v .number) accepted
+
   filled : readAnswer text group .lent ≡ numbersOf g
   unfolding readAnswer
-  filled = lent-new (verdictRefusal (readHeader text .verdict)) (numbersOf g) group (ap (λ (v : Verdict). verdictRefusal v .number) accepted)
+  filled = lent-new (verdictRefusal (readHeader text .verdict)) (numbersOf g) group none
 
   same-group : groupOf (readAnswer text group .lent) ≡ g
   same-group =
       let s = read-shaped text in
       ap groupOf filled
-      ∙ group-back g (accepted-kept g (text-read text .accepted accepted) (s .name) (s .ramp) (s .grid) (s .names))
+      ∙ group-back g (accepted-kept g (text-read text .accepted none) (s .name) (s .ramp) (s .grid) (s .names))
 
-  pub read-back : ReadBack text group
+  back : ReadBack text group
   unfolding writeAnswer
-  read-back =
+  back =
+      let r = text-read text in
       record {
         same-group = same-group;
         same-bytes = λ out room.
-            let w = text-read text .count accepted out room in
             subst (WrittenBack text out) (sym (ap (λ (h : Group). writtenAnswer (written h (length out)) (bytesAfter h out)) same-group))
-            (record { accepted = ap writtenRefusal w; count = ap writtenCount w; bytes = text-read text .bytes accepted out room });
+            (record { accepted = r .told none out room; count = r .count none out room; bytes = r .bytes none out room });
       }
+
+pub read-back : (text : List ℕ) (group : List ℤ) → readAnswer text group .refusal .number ≡ 0 → ReadBack text group
+read-back = back

@@ -74,7 +74,7 @@ list-small g a = go (judged g) refl (areaFits a) refl
   where
     go : (v : Verdict) → judged g ≡ v → (t : Bool) → areaFits a ≡ t → Small (inForceOf g a)
     go (verdict.Refused r) e t f = refused-small (inForceOf g a) (ap (λ (x : InForce). x .count) (in-force-group g a r e)) (ap (λ (x : InForce). x .entries) (in-force-group g a r e))
-    go verdict.Accepted e true f = listed-small g a (inForceOf g a) (accepted-head g e .grids) (demand-3 g e a f)
+    go verdict.Accepted e true f = listed-small g a (inForceOf g a) (accepted-head g e .grids) (demand-3 g a e f)
     go verdict.Accepted e false f = refused-small (inForceOf g a) (ap (λ (x : InForce). x .count) (in-force-10 g a e f)) (ap (λ (x : InForce). x .entries) (in-force-10 g a e f))
 
 joined-same : {A : Type 0} (f h : ℕ → List A) (n : ℕ) → ((k : ℕ) → f k ≡ h k) → joined f n ≡ joined h n

@@ -15,15 +15,17 @@ use Rattle.group.specs.declared.Group.{Group}
 use Rattle.group.specs.declared.Refusal.{Refusal}
 use Rattle.group.specs.declared.Verdict.{Verdict}
 use Rattle.group.specs.declared.Verdict.the-variants.{Accepted, Refused}
+use Rattle.group.specs.Refusals.{verdictRefusal}
 use Rattle.group.proofs.RefusalLaws.{no-acceptance, passed-if, passed-verdict, not-zero, lent-kept}
 use Rattle.judge.specs.Judge.{judged}
 use Rattle.header.specs.declared.Reading.{Reading}
+use Rattle.header.specs.declared.Written.{Written}
 use Rattle.header.specs.declared.Written.the-variants as W
 use Rattle.header.specs.Whole.{Header, stopped, header, readLines, groupOf, acceptedReading, headerText}
 use Rattle.header.specs.Header.{verdictReading, judgedReading, readHeader, written, writtenRefusal, writtenCount, bytesAfter}
 use Rattle.header.specs.Demand2.{InFront, TextRead, TextWritten, Shaped, Formed, JudgedAsText}
 use Rattle.header.proofs.HeaderLaws.{count-answer}
-use Rattle.header.proofs.TableLaws.{no-count, written-told}
+use Rattle.header.proofs.TableLaws.{no-count, read-told, written-told}
 use Rattle.header.proofs.TripLaws.{same-bytes}
 use Rattle.header.proofs.FormedLaws.{as-text, same-group}
 
@@ -71,13 +73,22 @@ module _ (t : List ℕ) (e : readHeader t .verdict ≡ Accepted) where
       let s = same-bytes t group whole in
       count-answer group out (judged-read t group whole) (length t) (put 0 t out) (ap length (sym s)) (subst (λ (x : List ℕ). length x ≤ length out) (sym s) l) (ap (λ (x : List ℕ). put 0 x out) (sym s))
 
+blank-beside : (t : List ℕ) → (verdictRefusal (readHeader t .verdict) .number ≡ 0 → ⊥) → readHeader t .group ≡ blankGroup
+blank-beside t n = by-verdict (readHeader t .verdict) refl
+  where
+    by-verdict : (v : Verdict) → readHeader t .verdict ≡ v → readHeader t .group ≡ blankGroup
+    by-verdict Accepted e = absurd (n (ap (λ (v : Verdict). verdictRefusal v .number) e))
+    by-verdict (Refused q) e = blank-read t q e
+
 pub text-read : (t : List ℕ) → TextRead t (readHeader t)
 text-read t =
+    let e = read-told t .zero in
     record {
-      accepted = λ e. judged-read t (group t e) (whole t e);
-      count = λ e out l. sym (written-back t e out l .0);
-      bytes = λ e out l. subst (InFront t out) (written-back t e out l .1) (put-front t out);
-      blank = blank-read t;
+      accepted = λ z. judged-read t (group t (e z)) (whole t (e z));
+      told = λ z out l. ap writtenRefusal (sym (written-back t (e z) out l .0));
+      count = λ z out l. ap writtenCount (sym (written-back t (e z) out l .0));
+      bytes = λ z out l. subst (InFront t out) (written-back t (e z) out l .1) (put-front t out);
+      blank = blank-beside t;
     }
 
 -- ---- writing
@@ -99,14 +110,30 @@ module _ (g : Group) (out : List ℕ) where
       lent-kept (writtenRefusal (written g (length out))) (put 0 (headerText g) out) out
       (not-zero _ (written-told g (length out) .refused (λ c. no-count (c .0) q (sym e ∙ c .1))))
 
+  back : Shaped g → (n : ℕ) → written g (length out) ≡ W.Count n → readHeader (take n (bytesAfter g out)) ≡ acceptedReading g
+  back s n e =
+      let c = counted n e in
+      ap readHeader ((λ i. take (c .1 i) (after-count n e i)) ∙ put-front (headerText g) out .front) ∙ same-group g s (c .0)
+
+  behind : (n : ℕ) → written g (length out) ≡ W.Count n → drop n (bytesAfter g out) ≡ drop n out
+  behind n e =
+      let c = counted n e in
+      (λ i. drop (c .1 i) (after-count n e i)) ∙ put-front (headerText g) out .behind ∙ ap (λ (k : ℕ). drop k out) (sym (c .1))
+
 pub text-written : (g : Group) → Shaped g → (out : List ℕ) → TextWritten g out (written g (length out)) (bytesAfter g out)
 text-written g s out =
-    let p = put-front (headerText g) out in
+    let counts = written-told g (length out) .zero in
     record {
-      back = λ n e. let c = counted g out n e in ap readHeader ((λ i. take (c .1 i) (after-count g out n e i)) ∙ p .front) ∙ same-group g s (c .0);
-      behind = λ n e. let c = counted g out n e in (λ i. drop (c .1 i) (after-count g out n e i)) ∙ p .behind ∙ ap (λ (k : ℕ). drop k out) (sym (c .1));
-      unchanged = unchanged g out;
+      back = λ z. let c = counts z in ap (λ (n : ℕ). readHeader (take n (bytesAfter g out))) (ap writtenCount (c .1)) ∙ back g out s (c .0) (c .1);
+      behind = λ z.
+          let c = counts z in let n = ap writtenCount (c .1) in
+          ap (λ (k : ℕ). drop k (bytesAfter g out)) n ∙ behind g out (c .0) (c .1) ∙ ap (λ (k : ℕ). drop k out) (sym n);
+      unchanged = λ n. by-answer n (written g (length out)) refl;
     }
+  where
+    by-answer : (writtenRefusal (written g (length out)) .number ≡ 0 → ⊥) → (w : Written) → written g (length out) ≡ w → bytesAfter g out ≡ out
+    by-answer n (W.Count k) e = absurd (n (ap (λ (w : Written). writtenRefusal w .number) e))
+    by-answer n (W.Refused q) e = unchanged g out q e
 
 -- ---- a record and its text
 

@@ -9,14 +9,13 @@ use Rattle.group.specs.Record.{rampAt, gridAt}
 use Rattle.group.specs.Limits.{nameFits, rampBlank, gridBlank}
 use Rattle.group.specs.Blank.{blankGroup}
 use Rattle.group.specs.declared.Group.{Group}
-use Rattle.group.specs.declared.Refusal.{Refusal}
-use Rattle.group.specs.declared.Verdict.the-variants.{Accepted, Refused}
+use Rattle.group.specs.declared.Verdict.the-variants.{Accepted}
 use Rattle.judge.specs.Judge.{judged}
 use Rattle.header.specs.declared.Reading.{Reading}
 use Rattle.header.specs.declared.Written.{Written}
-use Rattle.header.specs.declared.Written.the-variants as W
 use Rattle.header.specs.Whole.{acceptedReading, headerText}
-use Rattle.header.specs.Header.{readHeader, written, bytesAfter}
+use Rattle.group.specs.Refusals.{noRefusal, verdictRefusal}
+use Rattle.header.specs.Header.{readHeader, written, writtenRefusal, writtenCount, bytesAfter}
 
 -- the text stands in front, and every byte behind it is as it was
 pub record InFront (text before after : List ℕ) : Type 0 where
@@ -26,20 +25,23 @@ pub record InFront (text before after : List ℕ) : Type 0 where
 -- r answers the reading of t
 pub record TextRead (t : List ℕ) (r : Reading) : Type 0 where
   -- the group of an accepted text is accepted by the judge
-  pub accepted : r .verdict ≡ Accepted → judged (r .group) ≡ Accepted
+  pub accepted : verdictRefusal (r .verdict) .number ≡ 0 → judged (r .group) ≡ Accepted
   -- and written back as the same bytes into any output that is long enough: the text's length is answered, and the rest stays
-  pub count : r .verdict ≡ Accepted → (out : List ℕ) → length t ≤ length out → written (r .group) (length out) ≡ W.Count (length t)
-  pub bytes : r .verdict ≡ Accepted → (out : List ℕ) → length t ≤ length out → InFront t out (bytesAfter (r .group) out)
+  pub told : verdictRefusal (r .verdict) .number ≡ 0 → (out : List ℕ) → length t ≤ length out
+      → writtenRefusal (written (r .group) (length out)) ≡ noRefusal
+  pub count : verdictRefusal (r .verdict) .number ≡ 0 → (out : List ℕ) → length t ≤ length out
+      → writtenCount (written (r .group) (length out)) ≡ length t
+  pub bytes : verdictRefusal (r .verdict) .number ≡ 0 → (out : List ℕ) → length t ≤ length out → InFront t out (bytesAfter (r .group) out)
   -- beside a refusal all numbers are 0, names empty, the unit arc-second
-  pub blank : (q : Refusal) → r .verdict ≡ Refused q → r .group ≡ blankGroup
+  pub blank : (verdictRefusal (r .verdict) .number ≡ 0 → ⊥) → r .group ≡ blankGroup
 
 -- w answers the writing of g into `out`, which is `after` then
 pub record TextWritten (g : Group) (out : List ℕ) (w : Written) (after : List ℕ) : Type 0 where
   -- the bytes written, as many as the count, read back as that group; all behind them stays
-  pub back : (n : ℕ) → w ≡ W.Count n → readHeader (take n after) ≡ acceptedReading g
-  pub behind : (n : ℕ) → w ≡ W.Count n → drop n after ≡ drop n out
+  pub back : writtenRefusal w .number ≡ 0 → readHeader (take (writtenCount w) after) ≡ acceptedReading g
+  pub behind : writtenRefusal w .number ≡ 0 → drop (writtenCount w) after ≡ drop (writtenCount w) out
   -- after a refusal the output is unchanged
-  pub unchanged : (q : Refusal) → w ≡ W.Refused q → after ≡ out
+  pub unchanged : (writtenRefusal w .number ≡ 0 → ⊥) → after ≡ out
 
 -- the arrays have their lengths, as in every record of the code
 pub record Shaped (g : Group) : Type 0 where

@@ -26,8 +26,8 @@ use Rattle.coverage.specs.InForce as flat
 use Rattle.inforce.specs.declared.Area.{Area}
 use Rattle.inforce.specs.declared.GridInForce.{GridInForce}
 use Rattle.inforce.specs.Area.{areaFits, InArea, lonAt, latAt}
-use Rattle.inforce.specs.InForce.{inForceIn, shown, noGrid, listed, inForceOf}
-use Rattle.inforce.specs.Demand3.{entryAt, Placed, GridsInForce}
+use Rattle.inforce.specs.InForce.{inForceIn, shown, noGrid, listed}
+use Rattle.inforce.specs.Demand3.{entryAt, Placed, GridsInForce, Demand3}
 use Rattle.inforce.proofs.AreaLaws.{area-size, area-inside, inside-area}
 use Rattle.inforce.proofs.GroupLaws.{placed-in}
 use Rattle.inforce.proofs.StageLaws.{in-force-listed}
@@ -137,5 +137,5 @@ module _ (g : Group) (e : judged g ≡ Accepted) (a : Area) (f : areaFits a ≡ 
           let c = chosen-holds g (lonAt (s .lon)) (latAt (s .lat)) k (p .chosen ∙ n) in
           absurd (h (lonAt (s .lon)) (latAt (s .lat)) k (p .inside) (c .0) (c .1))
 
-  pub demand-3 : GridsInForce g a (inForceOf g a)
-  demand-3 = subst (GridsInForce g a) (sym (in-force-listed g a e f)) of-list
+pub demand-3 : (g : Group) (a : Area) → Demand3 g a
+demand-3 g a e f = subst (GridsInForce g a) (sym (in-force-listed g a e f)) (of-list g e a f)

@@ -10,13 +10,15 @@ use Rattle.group.specs.declared.Group.{Group}
 use Rattle.group.specs.declared.Verdict.the-variants.{Accepted}
 use Rattle.group.specs.Numbers.{gridsMost}
 use Rattle.group.specs.Record.{gridAt}
+use Rattle.group.specs.Refusals.{noRefusal, verdictRefusal}
 use Rattle.extent.specs.Extent.{holds}
+use Rattle.judge.specs.Judge.{judged}
 use Rattle.ingroup.specs.InGroup.{chosenIn}
 use Rattle.inforce.specs.declared.Area.{Area}
 use Rattle.inforce.specs.declared.GridInForce.{GridInForce}
 use Rattle.inforce.specs.declared.InForce.{InForce}
-use Rattle.inforce.specs.Area.{InArea}
-use Rattle.inforce.specs.InForce.{noGrid}
+use Rattle.inforce.specs.Area.{areaFits, InArea}
+use Rattle.inforce.specs.InForce.{noGrid, inForceOf}
 
 abbrev pub entryAt : InForce → ℕ → GridInForce
 entryAt r i = getD (r .entries) i noGrid
@@ -35,7 +37,7 @@ pub record Placed (g : Group) (a : Area) (e : GridInForce) : Type 0 where
 
 pub record GridsInForce (g : Group) (a : Area) (r : InForce) : Type 0 where
   -- the list is no refusal, also where it is empty
-  pub accepted : r .verdict ≡ Accepted
+  pub accepted : verdictRefusal (r .verdict) ≡ noRefusal
   -- a grid chosen at one or more coordinates of the area is named
   pub named : (x y : ℤ) (k : ℕ) → InArea a x y → chosenIn g x y ≡ suc k → (i : ℕ) × (i < r .count) × (entryAt r i .grid ≡ suc k)
   -- and no other: a grid named is chosen at the coordinate beside it, which is the southmost, then westmost such
@@ -55,3 +57,9 @@ pub record GridsInForce (g : Group) (a : Area) (r : InForce) : Type 0 where
       → (i : ℕ) → i < r .count → entryAt r i .grid ≡ suc k → ⊥
   -- an area that no grid meets has the empty list
   pub empty : ((x y : ℤ) (k : ℕ) → InArea a x y → k < g .grids → holds (gridAt g k) x y ≡ true → ⊥) → r .count ≡ 0
+
+-- ---- the whole
+
+-- for every accepted group and admitted area
+abbrev pub Demand3 : Group → Area → Type 0
+Demand3 g a = judged g ≡ Accepted → areaFits a ≡ true → GridsInForce g a (inForceOf g a)
