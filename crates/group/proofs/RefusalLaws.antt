@@ -87,6 +87,10 @@ no-acceptance r e = let z : _≡_ {A = ℕ} 0 1 = cc in omega arith
 
 -- ---- what a call tells: 0 exactly where it is accepted, else a number of the table
 
+-- no number of the table is 0
+pub not-zero : (number : ℕ) → inTable number ≡ true → number ≡ 0 → ⊥
+not-zero number t z = true-false t (ap inTable z)
+
 module _ {A : Type 0} where
   pub told-accepted : A → Told A noRefusal
   told-accepted a = record { accepted = λ b. refl; zero = λ z. a; refused = λ n. absurd (n a) }
@@ -95,7 +99,7 @@ module _ {A : Type 0} where
   told-refused r n t =
       record {
         accepted = λ a. absurd (n a);
-        zero = λ z. absurd (true-false t (ap inTable z));
+        zero = λ z. absurd (not-zero (r .number) t z);
         refused = λ m. t;
       }
 
@@ -122,10 +126,6 @@ module _ {A : Type 0} {Accepts : A → Type 0} {refusalOf : A → Refusal} {refu
   told-verdict (Refused r) h after = told-by r (h .refused (no-acceptance r))
 
 -- ---- what lent memory holds
-
--- no number of the table is 0
-pub not-zero : (number : ℕ) → inTable number ≡ true → number ≡ 0 → ⊥
-not-zero number t z = true-false t (ap inTable z)
 
 module _ {B : Type 0} (r : Refusal) (new old : B) where
   pub lent-new : r .number ≡ 0 → lentAfter r new old ≡ new

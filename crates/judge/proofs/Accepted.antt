@@ -2,6 +2,7 @@
 use Prim.Native.Nat.{ℕ, _+_, _<_}
 use mathlib.Core.Path.{_≡_, sym, _∙_, ap}
 use mathlib.Core.Bool.{Bool, true, false, not}
+use mathlib.Core.Logic.{_↔_}
 use native.Mathlib.Omega.{arith}
 use borrow.Author.Tests.{ltb-false, not-false}
 use Rattle.numbers.specs.First.{first, some}
@@ -68,16 +69,21 @@ module _ (g : Group) (e : judged g ≡ Accepted) where
         ranks = λ i k l m. none (λ j. sameRank (gridAt g j) (gridAt g i)) i k (none (rankedEarlier g) (g .grids) i (tests .7) l) m;
       }
 
-  -- the same in sizes
+-- a group is accepted exactly where it is sound
+pub accepted-exactly : (g : Group) → (judged g ≡ Accepted) ↔ Sound g
+accepted-exactly g = (accepted g, sound-accepted g)
+
+module _ (g : Group) (e : judged g ≡ Accepted) where
+  -- what is accepted, in sizes
   pub accepted-head : Head g
-  accepted-head = head-sized g (accepted .head)
+  accepted-head = head-sized g (accepted g e .head)
 
   -- what filling the flat lists relies on
   pub accepted-measured : Measured g
-  accepted-measured = measured g accepted-head (record { fits = accepted .grid })
+  accepted-measured = measured g accepted-head (record { fits = accepted g e .grid })
 
   pub accepted-sized : (k : ℕ) → k < g .grids → Sized (gridAt g k)
-  accepted-sized k l = grid-sized (gridAt g k) (accepted .grid k l)
+  accepted-sized k l = grid-sized (gridAt g k) (accepted g e .grid k l)
 
   pub accepted-edges : (k : ℕ) → k < g .grids → Edges (gridAt g k)
-  accepted-edges k l = grid-edges (gridAt g k) (accepted .grid k l) (g .parameters) (accepted .edges k l)
+  accepted-edges k l = grid-edges (gridAt g k) (accepted g e .grid k l) (g .parameters) (accepted g e .edges k l)
