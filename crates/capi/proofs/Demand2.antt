@@ -9,7 +9,7 @@ use Rattle.group.specs.declared.Verdict.{Verdict}
 use Rattle.group.specs.declared.Verdict.the-variants.{Accepted}
 use Rattle.group.specs.Refusals.{verdictRefusal}
 use Rattle.group.proofs.RefusalLaws.{lent-new}
-use Rattle.header.specs.Header.{readHeader, written, writtenRefusal, writtenCount, bytesAfter}
+use Rattle.header.specs.Header.{readHeader, written, bytesAfter}
 use Rattle.header.proofs.Demand2.{text-read}
 use Rattle.header.proofs.ShapeLaws.{read-shaped}
 use Rattle.layout.specs.Layout.{groupOf, numbersOf}

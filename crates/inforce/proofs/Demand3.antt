@@ -10,6 +10,7 @@ use lib.ListN.{length, getD, replicate, length-append, length-map, length-replic
 use lib.Seq.{getD-append-add}
 use lib.Signed.{_≤ℤ_, _<ℤ_}
 use Rattle.numbers.proofs.Diff.{diff-pos, diff--, diff-<, diff-≤}
+use Rattle.numbers.proofs.Lists.{map-at}
 use Rattle.numbers.proofs.Machine.{lowered-raised}
 use Rattle.group.specs.declared.Group.{Group}
 use Rattle.group.specs.declared.Verdict.the-variants.{Accepted}
@@ -47,11 +48,6 @@ module _ (m a b : ℕ) where
       diff-≤ (omega arith)
 
 -- what stands in each place
-shown-at : (es : List Entry) (i : ℕ) → i < length es → getD (map shown es) i noGrid ≡ shown (getD es i flat.noEntry)
-shown-at [] i h = absurd (omega arith)
-shown-at (e ∷ es) zero h = refl
-shown-at (e ∷ es) (suc i) h = shown-at es i (omega arith)
-
 pub none-at : (n i : ℕ) → getD (replicate n noGrid) i noGrid ≡ noGrid
 none-at zero i = refl
 none-at (suc n) zero = refl
@@ -60,7 +56,7 @@ none-at (suc n) (suc i) = none-at n i
 module _ (es : List Entry) where
   used : (i : ℕ) → i < length es → entryAt (listed es) i ≡ shown (getD es i flat.noEntry)
   used i h =
-      List·getD-append (map shown es) (replicate (gridsMost - length es) noGrid) noGrid i (omega (arith, length-map es shown)) ∙ shown-at es i h
+      List·getD-append (map shown es) (replicate (gridsMost - length es) noGrid) noGrid i (omega (arith, length-map es shown)) ∙ map-at shown flat.noEntry noGrid es i h
 
   unused : (i : ℕ) → length es ≤ i → entryAt (listed es) i ≡ noGrid
   unused i h =

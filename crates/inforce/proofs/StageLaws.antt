@@ -3,9 +3,8 @@ use mathlib.Core.Path.{_≡_, refl, _∙_, ap}
 use mathlib.Core.Bool.{true, false, not}
 use Rattle.group.specs.declared.Group.{Group}
 use Rattle.group.specs.declared.Refusal.{Refusal}
-use Rattle.group.specs.declared.Verdict.{Verdict}
 use Rattle.group.specs.declared.Verdict.the-variants.{Accepted, Refused}
-use Rattle.group.specs.Refusals.{refusal, refuseIf, unlessRefused}
+use Rattle.group.specs.Refusals.{refusal, refuseIf}
 use Rattle.group.proofs.RefusalLaws.{if-here, if-past}
 use Rattle.judge.specs.Judge.{judged}
 use Rattle.inforce.specs.declared.Area.{Area}

@@ -1,5 +1,5 @@
 -- What the judge's loops rely on and show; and the flat comparison of grids as the comparison that document 01 asks for.
-use Prim.Native.Nat.{ℕ, _+_, _<_, _≤_}
+use Prim.Native.Nat.{ℕ, _<_, _≤_}
 use mathlib.Core.Path.{_≡_, _∙_, ap}
 use mathlib.Core.Bool.{Bool, false}
 use mathlib.Core.List.{List}

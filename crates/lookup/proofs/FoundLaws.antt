@@ -19,7 +19,6 @@ use Rattle.cell.specs.Cell.{isBeyond}
 use Rattle.day.specs.Day.{factorOf}
 use Rattle.fix.specs.declared.Place.{Place}
 use Rattle.fix.specs.declared.Fix.{Fix}
-use Rattle.fix.specs.declared.Lookup.{Lookup}
 use Rattle.fix.specs.declared.Lookup.the-variants as L
 use Rattle.fix.specs.Answers.{resultIn}
 use Rattle.fix.specs.Fix.{cornerSome, resultAt, fixIn}

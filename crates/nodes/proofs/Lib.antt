@@ -6,3 +6,4 @@ pub mod Fields
 pub mod Steps
 pub mod LoadLaws
 pub mod TableLaws
+pub mod Demand2

@@ -5,22 +5,21 @@ use mathlib.Core.List.{List, [], _∷_, map}
 use mathlib.Core.Logic.{_⊎_, inl, inr}
 use Prim.Native.Nat.{ℕ, _*_, _^_, _<_}
 use native.Mathlib.Omega.{arith}
-use lib.Dec.{T, eqb, leb}
+use lib.Dec.{T, eqb}
 use lib.IntN.{ℤ, pos, negsuc, natAbs}
 use lib.ListN.{getD}
 use lib.Ieee.{Float, nan, inf, fin, binary32, isNan, fits, ofBits, toBits, up, down}
 use lib.Ieee.Bits.{ofBits-toBits}
 use lib.Ieee.Exact.{HasValue}
-use borrow.Author.Tests.{eqb-true, le-leb}
+use borrow.Author.Tests.{eqb-true}
 use Rattle.numbers.specs.Round.{nearest, gain, roundZ}
 use Rattle.numbers.specs.First.{first}
 use Rattle.numbers.proofs.Bools.{and-right}
-use Rattle.numbers.proofs.OrderLaws.{within-test}
-use Rattle.group.specs.Numbers.{valueMost, mark, valueFits}
+use Rattle.group.specs.Numbers.{mark}
 use Rattle.nodes.specs.declared.Loaded.{Loaded}
 use Rattle.nodes.specs.declared.Loaded.the-variants.{Done, Refused}
 use Rattle.group.specs.Refusals.{refusal, refuseIf, refuseFirst, lentAfter}
-use Rattle.nodes.specs.Load.{signed, marks, steps, refused, nodeOf, firstRefused, loaded, nodesAfter}
+use Rattle.nodes.specs.Load.{signed, marks, steps, refused, nodeOf, loaded, nodesAfter}
 use Rattle.nodes.specs.Size.{sizeOf}
 use Rattle.nodes.proofs.Fields.{value-nearest, sign}
 use Rattle.nodes.proofs.Signed.{round-signed, size-signed}
@@ -48,20 +47,6 @@ only-marked q flag x r e = go (marks flag x) refl
         let s : sizeOf q x ≡ natAbs mark = sym (size-signed (sign x) (sizeOf q x)) ∙ ap natAbs (node-size q flag x h r ∙ e) in
         let l = size-limit q flag x h r in
         absurd (omega arith)
-
--- and each node is the mark or within the limit
-pub admitted-node : (q : ℕ) (flag x : Float) → refused q flag x ≡ false → (nodeOf q flag x ≡ mark) ⊎ (valueFits (nodeOf q flag x) ≡ true)
-admitted-node q flag x r = go (marks flag x) refl
-  where
-    go : (b : Bool) → marks flag x ≡ b → (nodeOf q flag x ≡ mark) ⊎ (valueFits (nodeOf q flag x) ≡ true)
-    go true h = inl (marked-node q flag x h)
-    go false h =
-        let n = sizeOf q x in
-        inr
-        (ap valueFits (sym (node-size q flag x h r))
-        ∙ within-test valueMost (signed (sign x) n)
-        ∙ ap (λ (k : ℕ). leb k valueMost) (size-signed (sign x) n)
-        ∙ le-leb n valueMost (size-limit q flag x h r))
 
 -- a NaN is marked, and of the other floats only the flag, bit by bit
 pub marks-nan : (flag : Float) → marks flag nan ≡ true

@@ -1,11 +1,17 @@
 -- Lists whose every element stands in a relation to every later one; elements by their index.
 use mathlib.Core.Path.{_≡_, refl, sym, subst}
-use mathlib.Core.List.{List, [], _∷_, _++_, List·Memᴰ, List·Memᴰ·append-cases, List·Memᴰ·not-nil}
+use mathlib.Core.List.{List, [], _∷_, _++_, map, List·Memᴰ, List·Memᴰ·append-cases, List·Memᴰ·not-nil}
 use mathlib.Core.List.List·Memᴰ.{List·Memᴰ·head, List·Memᴰ·tail}
 use mathlib.Core.Logic.{⊎-elim}
 use Prim.Native.Nat.{ℕ, zero, suc, _<_}
 use native.Mathlib.Omega.{arith}
 use lib.ListN.{length, getD}
+
+-- an element of a mapped list, whatever stands past the two ends
+pub map-at : {A B : Type 0} (f : A → B) (d : A) (e : B) (l : List A) (i : ℕ) → i < length l → getD (map f l) i e ≡ f (getD l i d)
+map-at f d e [] i m = absurd (omega arith)
+map-at f d e (a ∷ l) zero m = refl
+map-at f d e (a ∷ l) (suc i) m = map-at f d e l i (omega arith)
 
 module _ {A : Type 0} where
   pub at-mem : (d : A) (l : List A) (i : ℕ) → i < length l → List·Memᴰ (getD l i d) l

@@ -7,7 +7,6 @@ use mir.Syntax.{w64}
 use mir.ValLaws.{toZ-ofZ}
 use Rattle.group.specs.Numbers.{factorMost}
 use Rattle.fix.specs.declared.Spot.{Spot}
-use Rattle.fix.specs.declared.Lookup.the-variants as L
 use Rattle.fix.specs.Fix.{spotOf, position, fixIn}
 use Rattle.fix.proofs.PlaceLaws.{spot-i, spot-j}
 use Rattle.fix.proofs.PartLaws.{fix-none}
