@@ -4,5 +4,8 @@ pub mod Signed
 pub mod ScaledLaws
 pub mod Fields
 pub mod Steps
+pub mod High
 pub mod LoadLaws
+pub mod Plain
+pub mod Blocks
 pub mod TableLaws

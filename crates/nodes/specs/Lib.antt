@@ -1,3 +1,4 @@
 -- What loading floats into nodes means.
 pub mod Load
 pub mod Size
+pub mod Plain
