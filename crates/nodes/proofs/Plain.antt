@@ -2,10 +2,10 @@
 use mathlib.Core.Path.{_≡_, refl, sym, ap, _∙_, subst}
 use mathlib.Core.Bool.{Bool, true, false, not, cond, _&&_, _||_}
 use mathlib.Core.Logic.{_⊎_, inl, inr}
-use Prim.Native.Nat.{ℕ, zero, suc, _+_, _-_, _*_, _/_, _%_, _^_, _≤_, _<_}
+use Prim.Native.Nat.{ℕ, suc, _+_, _-_, _*_, _/_, _%_, _^_, _≤_, _<_}
 use native.Mathlib.Nat.{mul-assoc, mul-comm, mul-left-comm, mul-le-mul-right, le-of-mul-le-mul-right, le-trans, le-of-eq, suc-mul}
 use native.Mathlib.Omega.{arith}
-use lib.Dec.{T, ltb, leb, eqb}
+use lib.Dec.{ltb, leb}
 use lib.IntN.{ℤ, natAbs}
 use lib.Pow.{pow-pos, pow-add}
 use lib.Ieee.{Float, nan, inf, fin, binary32, up, down, isNan, fits, ofFields, ofBits, odd, le, lt, eq, ne, neg}
@@ -14,12 +14,12 @@ use lib.Ieee.Fits.{down-pos}
 use lib.Ieee.Order.{transfer}
 use borrow.Author.Tests.{ltb-true, eqb-true, ne-eqb, lt-leb, le-leb}
 use Rattle.numbers.specs.Round.{nearest}
-use Rattle.numbers.proofs.Bools.{and-left, and-right, true-false}
+use Rattle.numbers.proofs.Bools.{and-left, and-right, or-none, true-false, untrue}
 use Rattle.numbers.proofs.Nearest.{nearest-near, three-ways}
 use Rattle.numbers.proofs.OrderLaws.{within-test}
 use Rattle.group.specs.Numbers.{quantumMost, valueMost}
-use Rattle.nodes.specs.Load.{infinite, marks, steps, refused, nodeOf}
-use Rattle.nodes.specs.Plain.{greatestBits, greatest, plain}
+use Rattle.nodes.specs.Load.{infinite, marks, steps, refused}
+use Rattle.nodes.specs.Plain.{greatestBits, greatest, plainFloat}
 use Rattle.nodes.proofs.Signed.{size-rounded}
 use Rattle.nodes.proofs.Marks.{ne-nan}
 use Rattle.nodes.proofs.LoadLaws.{marks-only}
@@ -108,25 +108,22 @@ module _ (q a c : ℕ) (h : 0 < c) (k : 2 * (a * 2 ^ q) ≡ (2 * valueMost + 1) 
     size = no-more true m n e d (v .1) (or-le _ _ _ (λ t. le-of-eq (sym (eqb-true _ _ (and-left _ _ t)))) (and-left _ (le (fin true m e) (fin false n d)) p));
   }
 
-pub plain-bounded : (q : ℕ) (flag x : Float) → q ≤ quantumMost → plain (greatest q) flag x ≡ true → Bounded q x
-unfolding plain
+pub plain-bounded : (q : ℕ) (flag x : Float) → q ≤ quantumMost → plainFloat (greatest q) flag x ≡ true → Bounded q x
+unfolding plainFloat
 plain-bounded q flag x h p =
     under q (16000002 * 2 ^ (147 - q)) (2 ^ 149) (pow-pos 149) (greatest-half q h) (greatest q) x (greatest-value q h) (and-left _ (ne x flag) p)
 
-neither : (b : Bool) → (b && false) ≡ false
-neither true = refl
-neither false = refl
-
 -- a plain float is not refused, marked or not
-pub plain-passes : (q : ℕ) (flag x : Float) → q ≤ quantumMost → plain (greatest q) flag x ≡ true → refused q flag x ≡ false
+pub plain-passes : (q : ℕ) (flag x : Float) → q ≤ quantumMost → plainFloat (greatest q) flag x ≡ true → refused q flag x ≡ false
 unfolding refused
 plain-passes q flag x h p =
     let b = plain-bounded q flag x h p in
-    rw (b .finite, within-test valueMost, le-leb (natAbs (steps q x)) valueMost (b .size)) (neither (not (marks flag x)))
+    let v = within-test valueMost (steps q x) ∙ le-leb (natAbs (steps q x)) valueMost (b .size) in
+    untrue (refused q flag x) (λ t. true-false (and-right (not (marks flag x)) _ t) (or-none (b .finite) (ap not v)))
 
 -- and not marked
-pub plain-unmarked : (q : ℕ) (flag x : Float) → q ≤ quantumMost → fits binary32 x ≡ true → fits binary32 flag ≡ true → plain (greatest q) flag x ≡ true → marks flag x ≡ false
-unfolding plain isNan
+pub plain-unmarked : (q : ℕ) (flag x : Float) → q ≤ quantumMost → fits binary32 x ≡ true → fits binary32 flag ≡ true → plainFloat (greatest q) flag x ≡ true → marks flag x ≡ false
+unfolding plainFloat isNan
 plain-unmarked q flag x h f g p = go (marks flag x) refl
   where
     n : isNan x ≡ false

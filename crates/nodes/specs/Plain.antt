@@ -17,12 +17,12 @@ unfoldable pub greatest : ℕ → Float
 greatest q = ofBits binary32 (greatestBits - q * 8388608)
 
 -- no farther from 0 than hi, and another value than the flag's
-unfoldable pub plain : Float → Float → Float → Bool
-plain hi flag x = (le (neg hi) x && le x hi) && ne x flag
+unfoldable pub plainFloat : Float → Float → Float → Bool
+plainFloat hi flag x = (le (neg hi) x && le x hi) && ne x flag
 
 -- the floats from a up to e are plain
 abbrev pub AllPlain : Float → Float → List Float → ℕ → ℕ → Type 0
-AllPlain hi flag floats a e = (k : ℕ) → a ≤ k → k < e → plain hi flag (getD floats k nan) ≡ true
+AllPlain hi flag floats a e = (k : ℕ) → a ≤ k → k < e → plainFloat hi flag (getD floats k nan) ≡ true
 
 -- k is the first index from a on, and before e, of a float that is refused, or e where none is
 pub record FirstFrom (q : ℕ) (flag : Float) (floats : List Float) (a e k : ℕ) : Type 0 where

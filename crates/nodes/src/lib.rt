@@ -10,7 +10,7 @@ ghost use Rattle.numbers.specs.Round.{nearest};
 ghost use Rattle.group.specs.Numbers.{quantumMost, valueMost};
 ghost use Rattle.nodes.specs.Load.{signed, marks, refused, nodeOf, firstRefused, loaded, nodesAfter};
 ghost use Rattle.nodes.specs.Size.{sizeOf};
-ghost use Rattle.nodes.specs.Plain.{greatest, plain, AllPlain, FirstFrom, Filled};
+ghost use Rattle.nodes.specs.Plain.{greatest, AllPlain, FirstFrom, Filled};
 
 // The greatest size of a node, in steps.
 const LIMIT: u64 = group::VALUE_MOST as u64;

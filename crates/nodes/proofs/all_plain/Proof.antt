@@ -2,14 +2,14 @@
 use mathlib.Core.Path.{_≡_, refl, sym, _∙_, subst}
 use mathlib.Core.List.{List}
 use mathlib.Core.Bool.{Bool, true, _&&_}
-use Prim.Native.Nat.{ℕ, _+_, _-_, _≤_, _<_}
+use Prim.Native.Nat.{ℕ, _+_, _-_, _≤_}
 use native.Mathlib.Omega.{arith}
 use lib.Ieee.{Float, nan}
 use lib.ListN.{getD}
 use borrow.Author.Needs.{needs}
 use Rattle.numbers.proofs.Bools.{and-left, and-right}
 use Rattle.numbers.proofs.Nearest.{three-ways}
-use Rattle.nodes.specs.Plain.{plain, AllPlain}
+use Rattle.nodes.specs.Plain.{plainFloat, AllPlain}
 use Rattle.nodes.proofs.all_plain.Statement.{statement}
 use Rattle.nodes.proofs.all_plain.Tie as tie
 
@@ -20,10 +20,10 @@ abbrev μ-loop : tie.MeasureT-loop
 μ-loop floats a e flag hi lo all₀ i₀ all i = e - i
 
 -- one float more
-more : (hi flag : Float) (l : List Float) (a i : ℕ) (all t : Bool) → (all ≡ true → AllPlain hi flag l a i) → t ≡ plain hi flag (getD l i nan) → (all && t) ≡ true → AllPlain hi flag l a (i + 1)
+more : (hi flag : Float) (l : List Float) (a i : ℕ) (all t : Bool) → (all ≡ true → AllPlain hi flag l a i) → t ≡ plainFloat hi flag (getD l i nan) → (all && t) ≡ true → AllPlain hi flag l a (i + 1)
 more hi flag l a i all t f p e k h m =
     three-ways k i (f (and-left all t e) k h)
-    (λ n. subst (λ (j : ℕ). plain hi flag (getD l j nan) ≡ true) (sym n) (sym p ∙ and-right all t e))
+    (λ n. subst (λ (j : ℕ). plainFloat hi flag (getD l j nan) ≡ true) (sym n) (sym p ∙ and-right all t e))
     (λ n. absurd (omega arith))
 
 loop-holds : tie.Need-loop-holds Inv-loop μ-loop
@@ -42,7 +42,7 @@ loop-less : tie.Need-loop-less Inv-loop μ-loop
 loop-less c = omega arith
 
 loop-again : tie.Need-loop-again Inv-loop μ-loop
-unfolding plain
+unfolding plainFloat
 loop-again c =
     let l = c .before .before in
     let a = l .before .args in

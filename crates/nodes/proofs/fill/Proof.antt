@@ -1,9 +1,7 @@
 -- `fill`: block after block.
-use mathlib.Core.Path.{_≡_}
-use Prim.Native.Nat.{ℕ, _-_, _≤_, _<_}
+use Prim.Native.Nat.{_-_, _≤_}
 use native.Mathlib.Omega.{arith}
 use lib.ListN.{length}
-use borrow.Author.Needs.{needs}
 use Rattle.nodes.specs.Plain.{Filled}
 use Rattle.nodes.proofs.Blocks.{filled-none, filled-all}
 use Rattle.nodes.proofs.fill.Statement.{statement}

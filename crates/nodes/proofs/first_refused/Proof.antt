@@ -1,10 +1,9 @@
 -- `first_refused`: no float of the blocks before a is refused.
-use mathlib.Core.Path.{_≡_, subst}
-use Prim.Native.Nat.{ℕ, _-_, _≤_, _<_}
+use mathlib.Core.Path.{subst}
+use Prim.Native.Nat.{_-_}
 use native.Mathlib.Omega.{arith}
 use lib.Ieee.{Float, nan}
 use lib.ListN.{length, getD}
-use borrow.Author.Needs.{needs}
 use borrow.Author.Tests.{not-false}
 use Rattle.numbers.proofs.FirstLaws.{Passed, passed-none, passed-end, passed-found}
 use Rattle.nodes.specs.Load.{refused, firstRefused}

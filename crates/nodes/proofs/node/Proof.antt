@@ -1,11 +1,9 @@
 -- `node`: the mark, or the node by the bits.
-use mathlib.Core.Path.{_≡_, sym, _∙_}
-use mathlib.Core.Bool.{false}
-use native.Mathlib.Omega.{arith}
+use mathlib.Core.Path.{sym, _∙_}
 use mir.Syntax.{w32}
 use mir.ValLaws.{toZ-ofZ}
 use borrow.Author.Needs.{needs}
-use Rattle.nodes.specs.Load.{marks, nodeOf}
+use Rattle.nodes.specs.Load.{nodeOf}
 use Rattle.nodes.proofs.High.{ByBits, by-bits}
 use Rattle.nodes.proofs.node.Statement.{statement}
 use Rattle.nodes.proofs.node.Tie as tie
