@@ -78,14 +78,14 @@ pub fn find_from(s: &[u8], a: usize, c: u8) -> usize
     far_from(s, a, c)
 }
 
-// Where part k of s, parted at c, starts: behind the k-th c, or at the end.
-pub fn part_start(s: &[u8], k: usize, c: u8) -> usize
+// Where part k of s, parted at c, starts: one byte after the other.
+fn near_start(s: &[u8], k: usize, c: u8) -> usize
     ensures { λ r. ⌜ r ≡ startOf c (now (s .entry)) k ⌝ }
 {
     let mut seps = k;
     let mut i = 0;
     while 0 < seps {
-        let e = find_from(s, i, c);
+        let e = near_from(s, i, c);
         if s.len() <= e {
             return e;
         }
@@ -93,6 +93,33 @@ pub fn part_start(s: &[u8], k: usize, c: u8) -> usize
         seps -= 1;
     }
     i
+}
+
+// The same, past blocks between the separators.
+fn far_start(s: &[u8], k: usize, c: u8) -> usize
+    ensures { λ r. ⌜ r ≡ startOf c (now (s .entry)) k ⌝ }
+{
+    let mut left = k;
+    let mut i = 0;
+    while 0 < left {
+        let e = far_from(s, i, c);
+        if s.len() <= e {
+            return e;
+        }
+        i = e + 1;
+        left -= 1;
+    }
+    i
+}
+
+// Where part k of s, parted at c, starts: behind the k-th c, or at the end.
+pub fn part_start(s: &[u8], k: usize, c: u8) -> usize
+    ensures { λ r. ⌜ r ≡ startOf c (now (s .entry)) k ⌝ }
+{
+    if s.len() < FAR {
+        return near_start(s, k, c);
+    }
+    far_start(s, k, c)
 }
 
 // How many parts s has, parted at c.
