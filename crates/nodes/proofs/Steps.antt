@@ -26,7 +26,7 @@ cut n = three-ways n (suc valueMost)
     let m : valueMost < min n (2 ^ 31) = le-min l (lit≤ tt) in
     rw (lt-ltb valueMost (min n (2 ^ 31)) m, lt-leb n valueMost l))
 
-uncut : (n : ℕ) → min n (2 ^ 31) ≤ valueMost → min n (2 ^ 31) ≡ n
+pub uncut : (n : ℕ) → min n (2 ^ 31) ≤ valueMost → min n (2 ^ 31) ≡ n
 uncut n l = three-ways n (2 ^ 31) (λ h. min-eq-left (omega arith)) (λ h. min-eq-left (omega arith))
     (λ h. let m : 2 ^ 31 ≤ min n (2 ^ 31) = le-min (omega arith) (omega arith) in absurd (omega arith))
 

@@ -1,4 +1,5 @@
 -- What loading floats into nodes means.
 pub mod Load
 pub mod Size
+pub mod Plain
 pub mod Demand2

@@ -3,14 +3,14 @@ use Prim.Native.Nat.{ℕ, zero, suc, _+_, _-_, _<_, _≤_, suc-le-suc, zero-le}
 use mathlib.Core.Path.{_≡_, refl, sym, ap, _∙_}
 use mathlib.Core.Bool.{Bool, true, false, cond}
 use mathlib.Core.List.{List, [], _∷_, _++_, append-nil}
-use native.Mathlib.Nat.{le-of-suc-le-suc, not-suc-le-zero}
+use native.Mathlib.Nat.{le-of-suc-le-suc, not-suc-le-zero, add-zero}
 use native.Mathlib.Omega.{arith}
 use lib.Dec.{eqb}
 use native.Mathlib.Numerals.{add-one, sub-one}
-use lib.ListN.{length, take, drop, getD, drop-of-length-le}
-use lib.Seq.{drop-cons}
+use lib.ListN.{length, take, drop, getD, drop-of-length-le, length-drop}
+use lib.Seq.{drop-cons, drop-drop}
 use borrow.Author.Tests.{eqb-true, eq-eqb, ne-eqb}
-use Rattle.text.specs.Parts.{glue, split, led, join, upTo, startOf, endOf, fieldOf, EmptyAtEnd}
+use Rattle.text.specs.Parts.{glue, split, led, join, upTo, startOf, Lacks, endOf, fieldOf, EmptyAtEnd}
 
 -- no byte of the list is the separator
 abbrev pub Free : ℕ → List ℕ → Type 0
@@ -151,16 +151,54 @@ upTo-more c s i h e = rw (drop-cons s i 0 h, ne-eqb (getD s i 0) c e, add-one)
 pub upTo-end : (c : ℕ) (s : List ℕ) (i : ℕ) → length s ≤ i → upTo c (drop i s) ≡ 0
 upTo-end c s i h = rw (drop-of-length-le s h)
 
-pub startOf-sep : (c : ℕ) (s : List ℕ) (i k : ℕ) → i < length s → (k ≡ 0 → ⊥) → getD s i 0 ≡ c → startOf c (drop i s) k ≡ suc (startOf c (drop (i + 1) s) (k - 1))
-startOf-sep c s i zero h z e = absurd (z refl)
-startOf-sep c s i (suc k) h z e = rw (drop-cons s i 0 h, eq-eqb (getD s i 0) c e, add-one, sub-one)
+-- past bytes that are not c
+pub upTo-past : (c : ℕ) (s : List ℕ) (i n : ℕ) → i + n ≤ length s → Lacks c s i (i + n) → upTo c (drop i s) ≡ n + upTo c (drop (i + n) s)
+upTo-past c s i zero h f = let e = ap (λ (k : ℕ). upTo c (drop k s)) (add-zero i) in omega arith
+upTo-past c s i (suc n) h f =
+    let e : i + 1 + n ≡ i + suc n = omega arith in
+    upTo-more c s i (omega arith) (f i (omega arith) (omega arith))
+    ∙ (let r = upTo-past c s (i + 1) n (omega arith) (λ k l m. f k (omega arith) (omega arith)) ∙ ap (λ (k : ℕ). n + upTo c (drop k s)) e in omega arith)
 
-pub startOf-other : (c : ℕ) (s : List ℕ) (i k : ℕ) → i < length s → (k ≡ 0 → ⊥) → (getD s i 0 ≡ c → ⊥) → startOf c (drop i s) k ≡ suc (startOf c (drop (i + 1) s) k)
-startOf-other c s i zero h z e = absurd (z refl)
-startOf-other c s i (suc k) h z e = rw (drop-cons s i 0 h, ne-eqb (getD s i 0) c e, add-one)
+-- part k + 1 of a list starts as far behind the first separator as part k of what stands there
+start-cut : (c : ℕ) (s : List ℕ) (k : ℕ) → upTo c s < length s → startOf c s (suc k) ≡ suc (upTo c s) + startOf c (drop (suc (upTo c s)) s) k
+start-cut c [] k h = absurd (not-suc-le-zero h)
+start-cut c (x ∷ xs) k h = go (eqb x c) h (start-cut c xs k)
+  where
+    go : (b : Bool) → cond b 0 (suc (upTo c xs)) < suc (length xs)
+        → (upTo c xs < length xs → startOf c xs (suc k) ≡ suc (upTo c xs) + startOf c (drop (suc (upTo c xs)) xs) k)
+        → suc (cond b (startOf c xs k) (startOf c xs (suc k))) ≡ suc (cond b 0 (suc (upTo c xs))) + startOf c (drop (suc (cond b 0 (suc (upTo c xs)))) (x ∷ xs)) k
+    go true l r = omega arith
+    go false l r = let t = r (le-of-suc-le-suc l) in omega arith
 
-pub startOf-end : (c : ℕ) (s : List ℕ) (i k : ℕ) → length s ≤ i → startOf c (drop i s) k ≡ 0
-startOf-end c s i k h = rw (drop-of-length-le s h)
+start-last : (c : ℕ) (s : List ℕ) (k : ℕ) → upTo c s ≡ length s → startOf c s (suc k) ≡ length s
+start-last c [] k h = refl
+start-last c (x ∷ xs) k h = go (eqb x c) h (start-last c xs k)
+  where
+    go : (b : Bool) → cond b 0 (suc (upTo c xs)) ≡ suc (length xs) → (upTo c xs ≡ length xs → startOf c xs (suc k) ≡ length xs)
+        → suc (cond b (startOf c xs k) (startOf c xs (suc k))) ≡ suc (length xs)
+    go true l r = absurd (omega arith)
+    go false l r = ap suc (r (omega arith))
+
+-- the same at an index: e is where the part at i ends
+module _ (c : ℕ) (s : List ℕ) (i e : ℕ) (h : i ≤ length s) (f : e ≡ i + upTo c (drop i s)) where
+  pub start-on : (k : ℕ) → (k ≡ 0 → ⊥) → e < length s → i + startOf c (drop i s) k ≡ e + 1 + startOf c (drop (e + 1) s) (k - 1)
+  start-on zero z l = absurd (z refl)
+  start-on (suc k) z l =
+      let d = length-drop i s in
+      let p = drop-drop (suc (upTo c (drop i s))) i s in
+      let t = start-cut c (drop i s) k (omega arith) in
+      let j : i + suc (upTo c (drop i s)) ≡ e + 1 = omega arith in
+      let q : startOf c (drop (suc (upTo c (drop i s))) (drop i s)) k ≡ startOf c (drop (e + 1) s) (suc k - 1)
+      = ap (λ (l : List ℕ). startOf c l k) (p ∙ ap (λ (n : ℕ). drop n s) j) ∙ ap (startOf c (drop (e + 1) s)) (sym (sub-one (suc k))) in
+      omega arith
+
+  pub start-off : (k : ℕ) → (k ≡ 0 → ⊥) → length s ≤ e → i + startOf c (drop i s) k ≡ e
+  start-off zero z l = absurd (z refl)
+  start-off (suc k) z l =
+      let d = length-drop i s in
+      let u = upTo-le c (drop i s) in
+      let t = start-last c (drop i s) k (omega arith) in
+      omega arith
 
 length-glue : (x : ℕ) (ps : List (List ℕ)) → 0 < length ps → length (glue x ps) ≡ length ps
 length-glue x [] h = absurd (not-suc-le-zero h)

@@ -1,10 +1,10 @@
 -- A list of bytes parted at a separator byte.
-use Prim.Native.Nat.{ℕ, zero, suc, _+_, _-_}
+use Prim.Native.Nat.{ℕ, zero, suc, _+_, _-_, _≤_, _<_}
 use mathlib.Core.Bool.{cond}
 use mathlib.Core.List.{List, [], _∷_, _++_}
 use mathlib.Core.Path.{_≡_}
 use lib.Dec.{eqb}
-use lib.ListN.{length, take, drop}
+use lib.ListN.{length, take, drop, getD}
 
 -- x put in front of the first part
 abbrev pub glue : ℕ → List (List ℕ) → List (List ℕ)
@@ -30,6 +30,10 @@ join c (p ∷ ps) = p ++ led c ps
 abbrev pub upTo : ℕ → List ℕ → ℕ
 upTo c [] = 0
 upTo c (x ∷ xs) = cond (eqb x c) 0 (suc (upTo c xs))
+
+-- none of the bytes from a up to e is the separator
+abbrev pub Lacks : ℕ → List ℕ → ℕ → ℕ → Type 0
+Lacks c s a e = (k : ℕ) → a ≤ k → k < e → getD s k 0 ≡ c → ⊥
 
 -- where part k starts: behind the k-th separator, or at the end where there is none
 abbrev pub startOf : ℕ → List ℕ → ℕ → ℕ

@@ -1,17 +1,54 @@
 // The parts of a text: fields between tabs, decimal numbers, words; and their writing into lent bytes.
 ghost use mathlib.Core.Path.{_≡_};
+ghost use mathlib.Core.Bool.{true};
 ghost use mathlib.Core.List.{_∷_, []};
 ghost use Prim.Native.Nat.{_+_, _-_, _*_, _≤_, _<_, min};
 ghost use lib.IntN.{pos, negℤ};
 ghost use lib.ListN.{length, drop};
-ghost use Rattle.text.specs.Parts.{behind, split, upTo, startOf, fieldOf};
+ghost use Rattle.text.specs.Parts.{behind, split, upTo, startOf, Lacks, fieldOf};
 ghost use Rattle.text.specs.Decimal.{digitsFrom, readNat, readInt, decimal, intText};
 ghost use Rattle.text.specs.Number.{most, naturalOf, numberOf};
 ghost use Rattle.text.specs.Fields.{same};
 ghost use Rattle.text.specs.Put.{Wrote};
 
-// Where the first byte c at or behind a stands, or the end.
-pub fn find_from(s: &[u8], a: usize, c: u8) -> usize
+// Bytes that are looked at before it is asked whether c is among them, and how far the end has to be for that.
+const BLOCK: usize = 64;
+
+const FAR: usize = 512;
+
+// Whether none of the bytes from a to e is c.
+fn lacks(s: &[u8], a: usize, e: usize, c: u8) -> bool
+    requires { ⌜ (a ≤ e) × (e ≤ length (now s)) ⌝ }
+    ensures { λ r. ⌜ (r ≡ true → Lacks c (now (s .entry)) a e) ⌝ }
+{
+    let mut none = true;
+    let mut k = a;
+    while k < e {
+        none = none & (s[k] != c);
+        k += 1;
+    }
+    none
+}
+
+// A place at or behind a with no byte c before it: past whole blocks while the end is far.
+fn past_blocks(s: &[u8], a: usize, c: u8) -> usize
+    ensures { λ r. ⌜ r + upTo c (drop r (now (s .entry))) ≡ a + upTo c (drop a (now (s .entry))) ⌝ }
+{
+    let mut i = a;
+    while i < s.len() {
+        if s.len() - i < FAR {
+            return i;
+        }
+        if !lacks(s, i, i + BLOCK, c) {
+            return i;
+        }
+        i += BLOCK;
+    }
+    i
+}
+
+// Where the first byte c at or behind a stands, or the end: one byte after the other.
+fn near_from(s: &[u8], a: usize, c: u8) -> usize
     ensures { λ r. ⌜ r ≡ a + upTo c (drop a (now (s .entry))) ⌝ }
 {
     let mut i = a;
@@ -24,22 +61,65 @@ pub fn find_from(s: &[u8], a: usize, c: u8) -> usize
     i
 }
 
-// Where part k of s, parted at c, starts: behind the k-th c, or at the end.
-pub fn part_start(s: &[u8], k: usize, c: u8) -> usize
+// The same, past blocks at first.
+fn far_from(s: &[u8], a: usize, c: u8) -> usize
+    ensures { λ r. ⌜ r ≡ a + upTo c (drop a (now (s .entry))) ⌝ }
+{
+    near_from(s, past_blocks(s, a, c), c)
+}
+
+// Where the first byte c at or behind a stands, or the end.
+pub fn find_from(s: &[u8], a: usize, c: u8) -> usize
+    ensures { λ r. ⌜ r ≡ a + upTo c (drop a (now (s .entry))) ⌝ }
+{
+    if s.len() < FAR {
+        return near_from(s, a, c);
+    }
+    far_from(s, a, c)
+}
+
+// Where part k of s, parted at c, starts: one byte after the other.
+fn near_start(s: &[u8], k: usize, c: u8) -> usize
     ensures { λ r. ⌜ r ≡ startOf c (now (s .entry)) k ⌝ }
 {
     let mut seps = k;
     let mut i = 0;
-    while i < s.len() {
-        if seps == 0 {
-            return i;
+    while 0 < seps {
+        let e = near_from(s, i, c);
+        if s.len() <= e {
+            return e;
         }
-        if s[i] == c {
-            seps -= 1;
-        }
-        i += 1;
+        i = e + 1;
+        seps -= 1;
     }
     i
+}
+
+// The same, past blocks between the separators.
+fn far_start(s: &[u8], k: usize, c: u8) -> usize
+    ensures { λ r. ⌜ r ≡ startOf c (now (s .entry)) k ⌝ }
+{
+    let mut left = k;
+    let mut i = 0;
+    while 0 < left {
+        let e = far_from(s, i, c);
+        if s.len() <= e {
+            return e;
+        }
+        i = e + 1;
+        left -= 1;
+    }
+    i
+}
+
+// Where part k of s, parted at c, starts: behind the k-th c, or at the end.
+pub fn part_start(s: &[u8], k: usize, c: u8) -> usize
+    ensures { λ r. ⌜ r ≡ startOf c (now (s .entry)) k ⌝ }
+{
+    if s.len() < FAR {
+        return near_start(s, k, c);
+    }
+    far_start(s, k, c)
 }
 
 // How many parts s has, parted at c.

@@ -71,25 +71,35 @@ returns-2 c =
     answered (a .quantum) (a .flag) (a .floats .now) (a .nodes .now) (Refused (refusal 12 0))
     (by-count (a .quantum) (a .flag) (a .floats .now) (a .nodes .now) (c .before .if1 .left) (c .if2 .taken))
 
-first-refused-requires : tie.Need-first-refused-requires
-first-refused-requires c κs = search needs
+cast-q : tie.Need-cast-q
+cast-q c = search needs
 
-add-t12 : tie.Need-add-t12
-add-t12 c = search needs
+greatest-requires : tie.Need-greatest-requires
+greatest-requires c κs = c .before .if1 .left
+
+first-refused-requires : tie.Need-first-refused-requires
+first-refused-requires c κs = (c .before .before .if1 .left, c .greatest .ensures)
+
+add-t14 : tie.Need-add-t14
+add-t14 c = search needs
 
 returns-3 : tie.Need-returns-3
 unfolding lentAfter
 returns-3 c =
     let f = c .before in
-    let a = f .before .before .before .before .args in
+    let s = f .before .before .before in
+    let a = s .before .before .args in
     answered (a .quantum) (a .flag) (a .floats .now) (a .nodes .now) (Refused (refusal 11 (f .first-refused .result + 1)))
-    (by-float (a .quantum) (a .flag) (a .floats .now) (a .nodes .now) (f .before .before .if1 .left) (f .before .if2 .left) (f .first-refused .result) (f .first-refused .ensures) (c .if3 .taken))
+    (by-float (a .quantum) (a .flag) (a .floats .now) (a .nodes .now) (s .if1 .left) (f .before .before .if2 .left) (f .first-refused .result) (f .first-refused .ensures) (c .if3 .taken))
 
 fill-requires : tie.Need-fill-requires
 fill-requires c κs =
     let f = c .before .before in
-    let a = f .before .before .before .before .args in
-    (f .before .before .if1 .left, f .before .if2 .left, all-passed (a .quantum) (a .flag) (a .floats .now) (f .first-refused .result) (f .first-refused .ensures) (c .before .if3 .left))
+    let s = f .before .before .before in
+    let a = s .before .before .args in (
+      (s .if1 .left, f .before .greatest .ensures, f .before .before .if2 .left),
+      all-passed (a .quantum) (a .flag) (a .floats .now) (f .first-refused .result) (f .first-refused .ensures) (c .before .if3 .left),
+    )
 
 same-length : tie.Need-same-length
 same-length c = search needs
@@ -99,9 +109,10 @@ unfolding lentAfter
 returns-4 c =
     let t = c .before .before .before in
     let f = t .before in
-    let a = f .before .before .before .before .args in
+    let s = f .before .before .before in
+    let a = s .before .before .args in
     let e = answered (a .quantum) (a .flag) (a .floats .now) (a .nodes .now) Done
-    (by-none (a .quantum) (a .flag) (a .floats .now) (a .nodes .now) (f .before .before .if1 .left) (f .before .if2 .left) (f .first-refused .result) (f .first-refused .ensures) (t .if3 .left)) in
+    (by-none (a .quantum) (a .flag) (a .floats .now) (a .nodes .now) (s .if1 .left) (f .before .before .if2 .left) (f .first-refused .result) (f .first-refused .ensures) (t .if3 .left)) in
     (e .0, c .before .fill .ensures ∙ e .1)
 
 pub load-nodes-spec : {M : Type 1} → statement M
@@ -110,8 +121,10 @@ load-nodes-spec =
     (tie.spec
     returns
     returns-2
+    cast-q
+    greatest-requires
     first-refused-requires
-    add-t12
+    add-t14
     returns-3
     fill-requires
     same-length

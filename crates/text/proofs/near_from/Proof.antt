@@ -1,4 +1,4 @@
--- `text::find_from` meets its contract.
+-- `text::near_from` meets its contract.
 use Prim.Native.Nat.{_+_, _-_}
 use mathlib.Core.Path.{_≡_, refl}
 use native.Mathlib.Omega.{arith}
@@ -6,8 +6,8 @@ use borrow.Author.Needs.{needs}
 use lib.ListN.{length, drop}
 use Rattle.text.specs.Parts.{upTo}
 use Rattle.text.proofs.PartLaws.{upTo-here, upTo-more, upTo-end}
-use Rattle.text.proofs.find_from.Statement.{statement}
-use Rattle.text.proofs.find_from.Tie as tie
+use Rattle.text.proofs.near_from.Statement.{statement}
+use Rattle.text.proofs.near_from.Tie as tie
 
 abbrev Inv-loop : tie.InvT-loop
 Inv-loop s a c i₀ i = i + upTo c (drop i s) ≡ a + upTo c (drop a s)
@@ -45,5 +45,5 @@ returns-2 c =
     let a = c .before .before .args in
     omega (arith, upTo-end (a .c) (a .s .now) (l .i) (c .loop-test .left))
 
-pub find-from-spec : {M : Type 1} → statement M
-find-from-spec = tie.close (tie.spec Inv-loop μ-loop loop-holds shared-slice-read-if1 returns add-i loop-less loop-again returns-2)
+pub near-from-spec : {M : Type 1} → statement M
+near-from-spec = tie.close (tie.spec Inv-loop μ-loop loop-holds shared-slice-read-if1 returns add-i loop-less loop-again returns-2)
