@@ -89,7 +89,7 @@ pub record Each (n : ℕ) (numbers : List ℕ) : Type 0 where
   pub each : (r : ℕ) → r < n → (k : ℕ) × (k < n) × (at numbers k ≡ r)
 
 -- what a search relies on: a sound layout, an order of its rectangles, and room for their sides
-pub record Ready (l : Layout) (eastward near : List ℕ) : Type 0 where
+pub record Searchable (l : Layout) (eastward near : List ℕ) : Type 0 where
   pub sound : Sound l
   pub order : Each (length (l .owners)) eastward
   pub room : length (l .rects) ≤ length near
