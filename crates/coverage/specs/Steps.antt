@@ -1,29 +1,95 @@
--- What the inner functions answer: keys of blockers, and the search over a grid's rectangles.
+-- What the inner functions answer: where a grid's blockers leave it free, the search over its rectangles, the blockers near a part of the
+-- area, and the rectangles from west to east.
 use mathlib.Core.Path.{_≡_}
-use mathlib.Core.Bool.{Bool, true, false, _&&_}
+use mathlib.Core.Bool.{Bool, true, not, _&&_}
 use mathlib.Core.List.{List}
-use Prim.Native.Nat.{ℕ, _<_}
+use Prim.Native.Nat.{ℕ, _+_, _*_, _≤_, _<_, min, max}
+use lib.Dec.{leb}
+use lib.ListN.{length, set}
 use Rattle.numbers.specs.First.{some}
 use Rattle.numbers.specs.Lists.{at}
+use Rattle.choice.specs.Rect.{westOf, eastOf, southOf, northOf, holds}
 use Rattle.choice.specs.Choice.{blocks}
 use Rattle.region.specs.First.{firstIn}
-use Rattle.region.specs.Free.{free}
 use Rattle.region.specs.declared.Area.{Area}
 use Rattle.region.specs.declared.Spot.{Spot}
-use Rattle.coverage.specs.Layout.{ownHolds}
+use Rattle.coverage.specs.Layout.{Layout, Sound, ownHolds, firstChosen}
 
-abbrev pub keyOf : Bool → ℕ
-keyOf true = 0
-keyOf false = 1
+-- rectangle r is one of a blocker of grid g and holds the point
+abbrev pub blockHolds : Layout → ℕ → ℕ → ℕ → ℕ → Bool
+blockHolds l g x y r = blocks (at (l .ranks)) (at (l .owners) r) g && holds (l .rects) r x y
 
--- the key of each of the first n rectangles, for grid g: 0 if its owner blocks g, else 1
-pub record Marked (ranks owners : List ℕ) (g n : ℕ) (keys : List ℕ) : Type 0 where
-  pub mark : (r : ℕ) → r < n → at keys r ≡ keyOf (blocks (at ranks) (at owners r) g)
+-- no blocker of grid g holds the point
+unfoldable pub unblocked : Layout → ℕ → ℕ → ℕ → Bool
+unblocked l g x y = not (some (blockHolds l g x y) (length (l .owners)))
 
--- of the area, the first point that rectangle r, if it is one of grid g's, holds and that is free of blockers
-abbrev pub firstOfRect : List ℕ → List ℕ → List ℕ → Area → ℕ → ℕ → Spot
-firstOfRect rs os ms a g r = firstIn (λ x y. ownHolds rs os g x y r && free rs ms 1 x y) (a .west) (a .east) (a .south) (a .north)
+-- of the area, the first point that rectangle r, if it is one of grid g's, holds and that no blocker of g holds
+abbrev pub firstOfRect : Layout → Area → ℕ → ℕ → Spot
+firstOfRect l a g r =
+    firstIn (λ x y. ownHolds (l .rects) (l .owners) g x y r && unblocked l g x y) (a .west) (a .east) (a .south) (a .north)
 
 -- the same of grid g's rectangles among the first n
-abbrev pub firstOf : List ℕ → List ℕ → List ℕ → Area → ℕ → ℕ → Spot
-firstOf rs os ms a g n = firstIn (λ x y. some (ownHolds rs os g x y) n && free rs ms 1 x y) (a .west) (a .east) (a .south) (a .north)
+abbrev pub firstOf : Layout → Area → ℕ → ℕ → Spot
+firstOf l a g n =
+    firstIn (λ x y. some (ownHolds (l .rects) (l .owners) g x y) n && unblocked l g x y) (a .west) (a .east) (a .south) (a .north)
+
+-- the part of the area that lies in rectangle r
+abbrev pub partOf : List ℕ → ℕ → Area → Area
+partOf rs r a =
+    record {
+      west = max (a .west) (westOf rs r);
+      east = min (a .east) (eastOf rs r);
+      south = max (a .south) (southOf rs r);
+      north = min (a .north) (northOf rs r);
+    }
+
+-- neither of rectangle r and the area lies wholly on one side of the other
+unfoldable pub meets : List ℕ → ℕ → Area → Bool
+meets rs r a =
+    leb (westOf rs r) (a .east) && (leb (a .west) (eastOf rs r) && (leb (southOf rs r) (a .north) && leb (a .south) (northOf rs r)))
+
+-- rectangle r is one of a blocker of grid g and meets the part
+unfoldable pub isNear : Layout → ℕ → Area → ℕ → Bool
+isNear l g part r = blocks (at (l .ranks)) (at (l .owners) r) g && meets (l .rects) r part
+
+-- rectangle r of rs stored as rectangle i of near
+abbrev pub copied : List ℕ → ℕ → List ℕ → ℕ → List ℕ
+copied rs r near i =
+    set (set (set (set near (i * 4) (westOf rs r)) (i * 4 + 1) (eastOf rs r)) (i * 4 + 2) (southOf rs r)) (i * 4 + 3) (northOf rs r)
+
+-- rectangle i of near holds the points that rectangle r of rs holds
+abbrev pub Alike : List ℕ → ℕ → List ℕ → ℕ → Type 0
+Alike near i rs r = (x y : ℕ) → holds near i x y ≡ holds rs r x y
+
+-- rectangle r is one of a blocker of grid g
+abbrev pub Blocker : Layout → ℕ → ℕ → Type 0
+Blocker l g r = (r < length (l .owners)) × (blocks (at (l .ranks)) (at (l .owners) r) g ≡ true)
+
+-- the first count rectangles of near are of g's blockers, and all of those that meet the part are among them
+pub record Near (l : Layout) (g : ℕ) (part : Area) (near : List ℕ) (count : ℕ) : Type 0 where
+  pub few : count ≤ length (l .owners)
+  pub only : (i : ℕ) → i < count → (r : ℕ) × Blocker l g r × Alike near i (l .rects) r
+  pub all : (r : ℕ) → r < length (l .owners) → isNear l g part r ≡ true → (i : ℕ) × (i < count) × Alike near i (l .rects) r
+
+-- they are filled in, and the list is as long as it was
+abbrev pub NearFilled : Layout → ℕ → Area → (near after : List ℕ) → ℕ → Type 0
+NearFilled l g part near after count = Near l g part after count × (length after ≡ length near)
+
+-- a search's answer, and the list that it overwrites as long as it was
+abbrev pub RectAnswer : Layout → Area → ℕ → ℕ → Spot → (near after : List ℕ) → Type 0
+RectAnswer l a g r s near after = (s ≡ firstOfRect l a g r) × (length after ≡ length near)
+
+abbrev pub GridAnswer : Layout → Area → ℕ → Spot → (near after : List ℕ) → Type 0
+GridAnswer l a g s near after = (s ≡ firstChosen l a (g + 1)) × (length after ≡ length near)
+
+-- the first n numbers are those below n, in any order
+pub record Each (n : ℕ) (numbers : List ℕ) : Type 0 where
+  pub long : n ≤ length numbers
+  pub below : (k : ℕ) → k < n → at numbers k < n
+  pub each : (r : ℕ) → r < n → (k : ℕ) × (k < n) × (at numbers k ≡ r)
+
+-- what a search relies on: a sound layout, an order of its rectangles, and room for their sides
+pub record Searchable (l : Layout) (eastward near : List ℕ) : Type 0 where
+  pub sound : Sound l
+  pub order : Each (length (l .owners)) eastward
+  pub room : length (l .rects) ≤ length near

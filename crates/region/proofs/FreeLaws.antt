@@ -1,85 +1,117 @@
--- The laws of the points that no blocker holds, and of what a blocker covers.
+-- The laws of the points that no rectangle holds, of what a rectangle covers, and of a walk through a row.
 use mathlib.Core.Path.{_≡_, refl}
-use mathlib.Core.Bool.{Bool, true, false}
+use mathlib.Core.Bool.{Bool, true, false, _&&_}
 use mathlib.Core.List.{List}
-use Prim.Native.Nat.{ℕ, _+_, _≤_, _<_, min}
+use Prim.Native.Nat.{ℕ, suc, _+_, _*_, _≤_, _<_, min}
 use native.Mathlib.Omega.{arith}
 use native.Mathlib.Decide.{decLt}
-use borrow.Author.Tests.{ltb-true, lt-ltb}
-use lib.Dec.{ltb}
+use native.Mathlib.Nat.{mul-le-mul-right, suc-mul}
+use borrow.Author.Count.{below-more, below-none}
+use borrow.Author.Tests.{leb-true, le-leb}
+use lib.Dec.{leb}
 use Rattle.numbers.specs.First.{some}
 use Rattle.numbers.proofs.FirstLaws.{some-by, by-some}
 use Rattle.numbers.proofs.Bools.{and-left, and-right, both, true-false, untrue}
-use Rattle.numbers.specs.Lists.{at}
-use Rattle.choice.specs.Rect.{eastOf, northOf, holds, size}
+use Rattle.choice.specs.Rect.{westOf, eastOf, southOf, northOf, holds}
 use Rattle.choice.proofs.RectLaws.{Holds, holds-true, true-holds}
-use Rattle.region.specs.Free.{stands, free, NextBlocker}
+use Rattle.region.specs.Free.{rectCount, free, reaches}
 
--- rectangle i is a blocker below t that holds the point
-pub record Blocks (rs ks : List ℕ) (t i x y : ℕ) : Type 0 where
-  pub key< : at ks i < t
-  pub inside : Holds rs i x y
-
-module _ (rs ks : List ℕ) (t x y : ℕ) where
-  pub blocks-stands : {i : ℕ} → Blocks rs ks t i x y → stands rs ks t x y i ≡ true
-  unfolding stands
-  blocks-stands {i} b = both (lt-ltb (at ks i) t (b .key<)) (holds-true rs i x y (b .inside))
-
-  pub stands-blocks : {i : ℕ} → stands rs ks t x y i ≡ true → Blocks rs ks t i x y
-  unfolding stands
-  stands-blocks {i} e =
-      record {
-        key< = ltb-true (at ks i) t (and-left (ltb (at ks i) t) (holds rs i x y) e);
-        inside = true-holds rs i x y (and-right (ltb (at ks i) t) (holds rs i x y) e);
-      }
-
-  pub unstanding : ((i : ℕ) → i < size rs ks → stands rs ks t x y i ≡ false) → free rs ks t x y ≡ true
+module _ (rs : List ℕ) (x y : ℕ) where
+  pub free-is : ((i : ℕ) → i < rectCount rs → holds rs i x y ≡ false) → free rs x y ≡ true
   unfolding free
-  unstanding h =
-      rw (untrue (some (stands rs ks t x y) (size rs ks)) (λ e. let r = by-some (stands rs ks t x y) (size rs ks) e in true-false (r .2) (h (r .0) (r .1)))) refl
+  free-is h =
+      rw (untrue (some (λ i. holds rs i x y) (rectCount rs)) (λ e. let r = by-some (λ i. holds rs i x y) (rectCount rs) e in true-false (r .2) (h (r .0) (r .1)))) refl
 
-  pub free-is : ((i : ℕ) → i < size rs ks → Blocks rs ks t i x y → ⊥) → free rs ks t x y ≡ true
-  free-is h = unstanding (λ i l. untrue (stands rs ks t x y i) (λ e. h i l (stands-blocks e)))
-
-  pub unfree-by : (i : ℕ) → i < size rs ks → Blocks rs ks t i x y → free rs ks t x y ≡ false
+  pub unfree-by : (i : ℕ) → i < rectCount rs → Holds rs i x y → free rs x y ≡ false
   unfolding free
-  unfree-by i l b = rw (some-by (stands rs ks t x y) (size rs ks) i l (blocks-stands b)) refl
-
-  pub by-free : free rs ks t x y ≡ true → (i : ℕ) → i < size rs ks → Blocks rs ks t i x y → ⊥
-  by-free e i l b = true-false e (unfree-by i l b)
-
--- one rectangle more, which `stands` answered b of
-module _ (rs ks : List ℕ) (t x y from i : ℕ) (h : (k : ℕ) → from ≤ k → k < i → stands rs ks t x y k ≡ false) {b : Bool} (e : b ≡ stands rs ks t x y i) where
-  pub next-found : b ≡ true → NextBlocker rs ks t x y from i
-  next-found f = record { passed = h; found = λ m. rw (← e) f }
-
-  pub next-more : b ≡ false → (k : ℕ) → from ≤ k → k < i + 1 → stands rs ks t x y k ≡ false
-  next-more f k m n = elim (decLt k i) [ yes lt ↦ h k m lt | no ge ↦ let q : k ≡ i = omega arith in rw (q, ← e) f ]
-
--- a blocker that holds (x, y) covers all from there to its east and north sides
-pub covers : (rs ks : List ℕ) (t i x y : ℕ) → i < size rs ks → stands rs ks t x y i ≡ true
-    → (x ≤ eastOf rs i) × (y ≤ northOf rs i) × ((k j : ℕ) → x ≤ k → k ≤ eastOf rs i → y ≤ j → j ≤ northOf rs i → free rs ks t k j ≡ false)
-covers rs ks t i x y l e =
-    let b = stands-blocks rs ks t x y e in
-    let h = b .inside in (
-      h .≤east,
-      h .≤north,
-      λ k j p q r s. unfree-by rs ks t k j i l
-          (record { key< = b .key<; inside = record { west≤ = omega (arith, h .west≤); ≤east = q; south≤ = omega (arith, h .south≤); ≤north = s } }),
-    )
+  unfree-by i l h = rw (some-by (λ i. holds rs i x y) (rectCount rs) i l (holds-true rs i x y h)) refl
 
 -- blockers hold all of the rows from y to top, from west up to below x
-abbrev pub Shut-to : List ℕ → List ℕ → ℕ → ℕ → ℕ → ℕ → ℕ → Type 0
-Shut-to rs ks t west y x top = (k j : ℕ) → west ≤ k → k < x → y ≤ j → j ≤ top → free rs ks t k j ≡ false
+abbrev pub Shut-to : List ℕ → ℕ → ℕ → ℕ → ℕ → Type 0
+Shut-to rs west y x top = (k j : ℕ) → west ≤ k → k < x → y ≤ j → j ≤ top → free rs k j ≡ false
 
--- one blocker more
-pub shut-more : (rs ks : List ℕ) (t west y x top i m : ℕ) → i < size rs ks → stands rs ks t x y i ≡ true → m ≡ min top (northOf rs i)
-    → y ≤ top → Shut-to rs ks t west y x top → (x ≤ eastOf rs i) × (y ≤ m) × (m ≤ top) × Shut-to rs ks t west y (eastOf rs i + 1) m
-shut-more rs ks t west y x top i m l e f o h =
-    let c = covers rs ks t i x y l e in
-    let n = c .1 in (
-      c .0,
-      omega arith,
-      omega arith,
-      λ k j p q r s. elim (decLt k x) [ yes lt ↦ h k j p lt r (omega arith) | no ge ↦ c .2 k j (omega arith) (omega arith) r (omega arith) ],
-    )
+module _ (rs : List ℕ) (i x y : ℕ) where
+  -- a rectangle that reaches x in row y holds it unless it begins farther east
+  reaching : reaches rs i x y ≡ true → westOf rs i ≤ x → Holds rs i x y
+  unfolding reaches
+  reaching e w =
+      let lats = leb (southOf rs i) y && leb y (northOf rs i) in
+      let b = and-right (leb x (eastOf rs i)) lats e in
+      record {
+        west≤ = w;
+        ≤east = leb-true _ _ (and-left (leb x (eastOf rs i)) lats e);
+        south≤ = leb-true _ _ (and-left (leb (southOf rs i) y) (leb y (northOf rs i)) b);
+        ≤north = leb-true _ _ (and-right (leb (southOf rs i) y) (leb y (northOf rs i)) b);
+      }
+
+  unreached : reaches rs i x y ≡ false → holds rs i x y ≡ false
+  unfolding reaches
+  unreached e =
+      untrue (holds rs i x y)
+      (λ t. let h = true-holds rs i x y t in true-false (both (le-leb _ _ (h .≤east)) (both (le-leb _ _ (h .south≤)) (le-leb _ _ (h .≤north)))) e)
+
+  -- and so farther east
+  unreached-on : (u : ℕ) → x ≤ u → reaches rs i x y ≡ false → reaches rs i u y ≡ false
+  unfolding reaches
+  unreached-on u l e =
+      let lats = leb (southOf rs i) y && leb y (northOf rs i) in
+      untrue (reaches rs i u y)
+      (λ t. let f : u ≤ eastOf rs i = leb-true _ _ (and-left (leb u (eastOf rs i)) lats t) in true-false (both (le-leb x (eastOf rs i) (omega arith)) (and-right (leb u (eastOf rs i)) lats t)) e)
+
+  behind : eastOf rs i < x → reaches rs i x y ≡ false
+  unfolding reaches
+  behind l =
+      let lats = leb (southOf rs i) y && leb y (northOf rs i) in
+      untrue (reaches rs i x y) (λ t. let f : x ≤ eastOf rs i = leb-true _ _ (and-left (leb x (eastOf rs i)) lats t) in omega arith)
+
+  -- one blocker more
+  pub shut-more : (west top m : ℕ) → i < rectCount rs → reaches rs i x y ≡ true → westOf rs i ≤ x → m ≡ min top (northOf rs i) → y ≤ top
+      → Shut-to rs west y x top → (x ≤ eastOf rs i) × (y ≤ m) × Shut-to rs west y (eastOf rs i + 1) m
+  shut-more west top m l e w f o h =
+      let b = reaching e w in
+      let n = b .≤north in (
+        b .≤east,
+        omega arith,
+        λ k j p q r s.
+            elim (decLt k x) [
+              | yes lt ↦ h k j p lt r (omega arith)
+              | no ge ↦ unfree-by rs k j i l (record { west≤ = omega arith; ≤east = omega arith; south≤ = omega (arith, b .south≤); ≤north = omega arith })
+            ],
+      )
+
+-- none of the first i rectangles holds (x, y), and unless one lies ahead none reaches it
+pub record Walked (rs : List ℕ) (x y i : ℕ) (ahead : Bool) : Type 0 where
+  pub past : (k : ℕ) → k < i → holds rs k x y ≡ false
+  pub clear : ahead ≡ false → (k : ℕ) → k < i → reaches rs k x y ≡ false
+
+pub walked-none : (rs : List ℕ) (x y : ℕ) (ahead : Bool) → Walked rs x y 0 ahead
+walked-none rs x y ahead = record { past = λ k l. absurd (omega arith); clear = λ e k l. absurd (omega arith) }
+
+-- one rectangle more
+module _ (rs : List ℕ) (x y i : ℕ) (ahead : Bool) (w : Walked rs x y i ahead) where
+  pub walked-by : reaches rs i x y ≡ false → Walked rs x y (i + 1) ahead
+  walked-by e =
+      record {
+        past = below-more (λ k. holds rs k x y ≡ false) i (w .past) (unreached rs i x y e);
+        clear = λ f. below-more (λ k. reaches rs k x y ≡ false) i (w .clear f) e;
+      }
+
+  pub walked-ahead : x < westOf rs i → Walked rs x y (i + 1) true
+  walked-ahead l =
+      record {
+        past = below-more (λ k. holds rs k x y ≡ false) i (w .past) (untrue (holds rs i x y) (λ t. let h = true-holds rs i x y t .west≤ in omega arith));
+        clear = λ e. absurd (true-false refl e);
+      }
+
+  pub walked-on : ahead ≡ false → x ≤ eastOf rs i → Walked rs (eastOf rs i + 1) y (i + 1) ahead
+  walked-on e l =
+      let u = eastOf rs i + 1 in
+      let c = below-more (λ k. reaches rs k u y ≡ false) i (λ k m. unreached-on rs k x y u (omega arith) (w .clear e k m)) (behind rs i u y (omega arith)) in
+      record { past = λ k m. unreached rs k u y (c k m); clear = λ f. c }
+
+-- a walk that moves on to the east may begin anew: what is left to do is less
+pub less-left : (d e n i j : ℕ) → d < e → i ≤ n → d * (n + 1) + i < e * (n + 1) + j
+less-left d e n i j l m =
+    let p : suc d * (n + 1) ≤ e * (n + 1) = mul-le-mul-right (n + 1) l in
+    let q : suc d * (n + 1) ≡ d * (n + 1) + (n + 1) = suc-mul d (n + 1) in
+    omega arith

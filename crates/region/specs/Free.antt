@@ -1,31 +1,29 @@
--- Rectangles with keys, those of them that are blockers, and the points that no blocker holds.
+-- Rectangles that are all blockers, and the points that none of them holds.
 use mathlib.Core.Path.{_≡_}
 use mathlib.Core.Bool.{Bool, true, false, not, _&&_}
 use mathlib.Core.List.{List}
-use Prim.Native.Nat.{ℕ, _≤_, _<_}
-use lib.Dec.{ltb}
+use Prim.Native.Nat.{ℕ, _/_, _≤_, _<_}
+use lib.Dec.{leb}
+use lib.ListN.{length}
 use Rattle.numbers.specs.First.{some}
-use Rattle.numbers.specs.Lists.{at}
-use Rattle.choice.specs.Rect.{holds, size}
+use Rattle.choice.specs.Rect.{eastOf, southOf, northOf, holds}
 use Rattle.region.specs.declared.Row.{Row}
 use Rattle.region.specs.declared.Row.the-variants.{Open, Shut}
 
--- rectangle i is a blocker below t and holds the point
-unfoldable pub stands : List ℕ → List ℕ → ℕ → ℕ → ℕ → ℕ → Bool
-stands rs ks t x y i = ltb (at ks i) t && holds rs i x y
+-- how many rectangles have all four sides
+abbrev pub rectCount : List ℕ → ℕ
+rectCount rs = length rs / 4
 
--- no blocker below t holds the point
-unfoldable pub free : List ℕ → List ℕ → ℕ → ℕ → ℕ → Bool
-free rs ks t x y = not (some (stands rs ks t x y) (size rs ks))
+-- no rectangle holds the point
+unfoldable pub free : List ℕ → ℕ → ℕ → Bool
+free rs x y = not (some (λ i. holds rs i x y) (rectCount rs))
 
--- r is the first rectangle from number `from` on that is a blocker and holds the point, or lies past the last one
-pub record NextBlocker (rs ks : List ℕ) (t x y from r : ℕ) : Type 0 where
-  pub passed : (i : ℕ) → from ≤ i → i < r → stands rs ks t x y i ≡ false
-  pub found : r < size rs ks → stands rs ks t x y r ≡ true
+-- rectangle i lies in row y and does not end west of x
+unfoldable pub reaches : List ℕ → ℕ → ℕ → ℕ → Bool
+reaches rs i x y = leb x (eastOf rs i) && (leb (southOf rs i) y && leb y (northOf rs i))
 
--- a row's answer: the westmost longitude that no blocker holds, or a row up to which blockers hold all of each row from this one on
-abbrev pub RowAnswer : List ℕ → List ℕ → ℕ → ℕ → ℕ → ℕ → ℕ → Row → Type 0
-RowAnswer rs ks t y west east north (Open x) =
-    (west ≤ x) × (x ≤ east) × ((i : ℕ) → west ≤ i → i < x → free rs ks t i y ≡ false) × (free rs ks t x y ≡ true)
-RowAnswer rs ks t y west east north (Shut top) =
-    (y ≤ top) × ((i j : ℕ) → west ≤ i → i ≤ east → y ≤ j → j ≤ top → free rs ks t i j ≡ false)
+-- a row's answer: the westmost longitude that no rectangle holds, or a row up to which rectangles hold all of each row from this one on
+abbrev pub RowAnswer : List ℕ → ℕ → ℕ → ℕ → ℕ → Row → Type 0
+RowAnswer rs y west east north (Open x) = (west ≤ x) × (x ≤ east) × ((i : ℕ) → west ≤ i → i < x → free rs i y ≡ false) × (free rs x y ≡ true)
+RowAnswer rs y west east north (Shut top) =
+    (y ≤ top) × ((i j : ℕ) → west ≤ i → i ≤ east → y ≤ j → j ≤ top → free rs i j ≡ false)

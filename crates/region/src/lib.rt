@@ -1,13 +1,10 @@
-// The southmost, then westmost point of a rectangle that no blocker holds. Rectangles are four unsigned numbers each in one flat list:
-// west, east, south, north, sides included; each has a key in a list of its own, and is a blocker below t if its key is below t.
-use choice::holds;
-use choice::size_of;
+// The southmost, then westmost point of a rectangle that no blocker holds. Blockers are rectangles, four unsigned numbers each in one flat
+// list: west, east, south, north, sides included.
 use numbers::smaller;
 ghost use mathlib.Core.Path.{_≡_};
 ghost use Prim.Native.Nat.{_<_, _≤_};
-ghost use Rattle.choice.specs.Rect.{size};
 ghost use Rattle.region.specs.First.{earlier, firstIn};
-ghost use Rattle.region.specs.Free.{NextBlocker, RowAnswer, free, stands};
+ghost use Rattle.region.specs.Free.{RowAnswer, free, reaches, rectCount};
 
 // The point found: longitude and latitude.
 pub enum Spot {
@@ -29,75 +26,62 @@ enum Row {
     Shut(u64),
 }
 
-// Whether rectangle i is a blocker below t and holds (x, y).
-fn stands(rs: &[u64], ks: &[u64], t: u64, i: usize, x: u64, y: u64) -> bool
-    requires { ⌜ i < size (now rs) (now ks) ⌝ }
-    ensures { λ r. ⌜ r ≡ stands (now (rs .entry)) (now (ks .entry)) t x y i ⌝ }
+// Whether rectangle i lies in row y and does not end west of x.
+fn reaches(rs: &[u64], i: usize, x: u64, y: u64) -> bool
+    requires { ⌜ i < rectCount (now rs) ⌝ }
+    ensures { λ r. ⌜ r ≡ reaches (now (rs .entry)) i x y ⌝ }
 {
-    (ks[i] < t) & holds(rs, i, x, y)
+    let at = i * 4;
+    (x <= rs[at + 1]) & ((rs[at + 2] <= y) & (y <= rs[at + 3]))
 }
 
-// The first rectangle from number from on that is a blocker below t and holds (x, y); past the last one if there is none.
-fn next_blocker(rs: &[u64], ks: &[u64], t: u64, from: usize, x: u64, y: u64) -> usize
-    ensures { λ r. ⌜ NextBlocker (now (rs .entry)) (now (ks .entry)) t x y from r ⌝ }
+// In row y, the westmost longitude from west to east that no rectangle holds; or, where rectangles hold them all, how far north, up to
+// north, these same rectangles do. Goes once through a list from west to east; in another one it begins anew for a rectangle that it
+// passed because it lay ahead.
+fn first_in_row(rs: &[u64], y: u64, west: u64, east: u64, north: u64) -> Row
+    requires { ⌜ (y ≤ north) × (west ≤ east) ⌝ }
+    ensures { λ r. ⌜ RowAnswer (now (rs .entry)) y west east north r ⌝ }
 {
-    let n = size_of(rs, ks);
-    let mut i = from;
-    while i < n {
-        if stands(rs, ks, t, i, x, y) {
-            return i;
-        }
-        i += 1;
-    }
-    i
-}
-
-// In row y, the westmost longitude from west to east that no blocker below t holds; or, where blockers hold them all, how far north, up to
-// north, these same blockers do. Goes from each blocker found to the next one behind it in the list, so a list from west to east is quickest.
-fn first_in_row(rs: &[u64], ks: &[u64], t: u64, y: u64, west: u64, east: u64, north: u64) -> Row
-    requires { ⌜ y ≤ north ⌝ }
-    ensures { λ r. ⌜ RowAnswer (now (rs .entry)) (now (ks .entry)) t y west east north r ⌝ }
-{
-    let n = size_of(rs, ks);
+    let n = rs.len() / 4;
     let mut x = west;
     let mut top = north;
-    let mut from = 0;
-    while x <= east {
-        let i = next_blocker(rs, ks, t, from, x, y);
-        if i < n {
-            let at = i * 4;
-            top = smaller(top, rs[at + 3]);
-            let to = rs[at + 1];
-            if east <= to {
-                return Row::Shut(top);
+    let mut ahead = false;
+    let mut i = 0;
+    while i < n {
+        let at = i * 4;
+        let reached = reaches(rs, i, x, y);
+        i += 1;
+        if reached {
+            if x < rs[at] {
+                ahead = true;
+            } else {
+                top = smaller(top, rs[at + 3]);
+                let to = rs[at + 1];
+                if east <= to {
+                    return Row::Shut(top);
+                }
+                x = to + 1;
+                if ahead {
+                    ahead = false;
+                    i = 0;
+                }
             }
-            x = to + 1;
-            from = i + 1;
-        } else {
-            if from == 0 {
-                return Row::Open(x);
-            }
-            from = 0;
         }
     }
-    Row::Shut(top)
+    Row::Open(x)
 }
 
-// The southmost, then westmost point of a rectangle that no blocker below t holds.
-pub fn first_free(
-    rs: &[u64],
-    ks: &[u64],
-    t: u64,
-    west: u64,
-    east: u64,
-    south: u64,
-    north: u64,
-) -> Spot
-    ensures { λ r. ⌜ r ≡ firstIn (free (now (rs .entry)) (now (ks .entry)) t) west east south north ⌝ }
+// The southmost, then westmost point from west to east and from south to north that no rectangle holds; quickest if the rectangles
+// stand from west to east.
+pub fn first_free(rs: &[u64], west: u64, east: u64, south: u64, north: u64) -> Spot
+    ensures { λ r. ⌜ r ≡ firstIn (free (now (rs .entry))) west east south north ⌝ }
 {
+    if east < west {
+        return Spot::Nothing;
+    }
     let mut y = south;
     while y <= north {
-        let row = first_in_row(rs, ks, t, y, west, east, north);
+        let row = first_in_row(rs, y, west, east, north);
         match row {
             Row::Open(x) => {
                 return Spot::At(x, y);
