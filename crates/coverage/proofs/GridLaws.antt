@@ -1,6 +1,6 @@
 -- Where a grid is chosen first: it is the first point that one of its rectangles holds and that no blocker of the grid holds.
 use mathlib.Core.Path.{_≡_, refl, sym, ap, _∙_, subst}
-use mathlib.Core.Bool.{Bool, true, false, _&&_, _||_, and-or-distrib-right}
+use mathlib.Core.Bool.{Bool, true, _&&_, _||_, and-or-distrib-right}
 use mathlib.Core.Logic.{⊎-elim}
 use Prim.Native.Nat.{ℕ, suc, _+_, _≤_, _<_, min, max}
 use native.Mathlib.Omega.{arith}

@@ -8,12 +8,11 @@ use native.Mathlib.Omega.{arith}
 use lib.Dec.{eqb}
 use lib.ListN.{length, take, drop, getD, replicate, length-replicate, length-drop, getD-replicate, take-append-drop}
 use lib.Seq.{length-take-le, getD-drop, ext-getD}
-use lib.IntN.{ℤ, pos, negsuc, natAbs}
 use borrow.Author.Tests.{le-leb, lt-leb, eqb-true, not-false}
 use Rattle.numbers.specs.First.{first, some}
 use Rattle.numbers.specs.Order.{within}
 use Rattle.numbers.proofs.FirstLaws.{passed-some}
-use Rattle.numbers.proofs.OrderLaws.{within-size}
+use Rattle.numbers.proofs.OrderLaws.{zero-of}
 use Rattle.text.proofs.FieldLaws.{and-parts}
 use Rattle.group.specs.Limits.{nameBlank, headFits, rampFits, rampBlank, gridFits, gridBlank}
 use Rattle.group.specs.Record.{noRamp, noGrid, rampAt, gridAt}
@@ -39,13 +38,6 @@ use Rattle.header.proofs.LengthLaws.{head-parts}
 use Rattle.header.proofs.TripLaws.{Always, GridsFormed, grid-lines, head-stops, ramp-stops, grid-stops, all-read}
 
 -- ---- blank entries
-
-zero-of : (z : ℤ) → within 0 z ≡ true → z ≡ pos 0
-zero-of z e = go z (within-size 0 z e)
-  where
-    go : (z : ℤ) → natAbs z ≤ 0 → z ≡ pos 0
-    go (pos n) h = ap pos (omega arith)
-    go (negsuc n) h = absurd (omega arith)
 
 blank-ramp : (r : Ramp) → rampBlank r ≡ true → r ≡ blankRamp
 blank-ramp r e =

@@ -1,22 +1,21 @@
 -- What the judge's loops rely on and show; and the flat comparison of grids as the comparison that document 01 asks for.
 use Prim.Native.Nat.{ℕ, _<_, _≤_}
-use mathlib.Core.Path.{_≡_, _∙_, ap}
-use mathlib.Core.Bool.{Bool, false}
+use mathlib.Core.Path.{_≡_, sym, _∙_, ap}
+use mathlib.Core.Bool.{Bool, false, not, _&&_}
 use mathlib.Core.List.{List}
 use native.Mathlib.Omega.{arith}
-use borrow.Author.Tests.{lt-leb, not-false}
+use borrow.Author.Tests.{le-leb, lt-leb, not-false}
 use lib.Dec.{ltb}
 use Rattle.numbers.specs.First.{first, some}
 use Rattle.numbers.proofs.FirstLaws.{none-at, first-same}
 use Rattle.group.specs.declared.Group.{Group}
 use Rattle.group.specs.Record.{gridAt}
-use Rattle.group.specs.Limits.{gridFits}
+use Rattle.group.specs.Limits.{gridFits, gridBlank}
 use Rattle.extent.specs.Extent.{inside}
-use Rattle.judge.specs.Judge.{sameName, sameRank}
-use Rattle.judge.specs.Rules.{rampBreaks, gridBreaks, Grids}
+use Rattle.judge.specs.Judge.{unusedGrid, badGrid, outside, sameName, sameRank}
+use Rattle.judge.specs.Rules.{rampBreaks, Grids}
 use Rattle.judge.specs.Marks.{marksOf, Listed, clash, sharesEarlier, Comparable}
 use Rattle.judge.specs.declared.RampRule.the-variants as R
-use Rattle.judge.specs.declared.GridRule.the-variants as G
 use Rattle.judge.specs.declared.Shared.{Shared}
 use Rattle.judge.specs.declared.Shared.the-variants as S
 use Rattle.judge.proofs.LimitLaws.{name-good, name-bytes, grid-edges}
@@ -26,18 +25,22 @@ use Rattle.judge.proofs.MarkLaws.{clash-name, clash-rank}
 pub ramp-kept : (g : Group) (k : ℕ) → k < g .ramps → rampBreaks R.Unused g k ≡ false
 ramp-kept g k l = rw (lt-leb (g .ramps) k l)
 
-pub grid-kept : (g : Group) (k : ℕ) → k < g .grids → gridBreaks G.Unused g k ≡ false
+pub grid-kept : (g : Group) (k : ℕ) → k < g .grids → unusedGrid g k ≡ false
 grid-kept g k l = rw (lt-leb (g .grids) k l)
 
--- what the loops that found nothing say of each grid
-pub grids-fit : (g : Group) (i : ℕ) → i ≡ first (gridBreaks G.Limits g) (g .grids) → g .grids ≤ i → Grids g
-grids-fit g i e h =
-    record { fits = λ k l. not-false (gridFits (gridAt g k)) (none-at (gridBreaks G.Limits g) (g .grids) k (omega arith) l) }
+-- one behind it is, where it is not all zero
+pub unused-test : (g : Group) (k : ℕ) (t v : Bool) → g .grids ≤ k → t ≡ gridBlank (gridAt g k) → not t ≡ v → unusedGrid g k ≡ v
+unused-test g k t v h e w = ap (λ (b : Bool). b && not (gridBlank (gridAt g k))) (le-leb (g .grids) k h) ∙ ap not (sym e) ∙ w
 
-pub comparable : (g : Group) → Grids g → (i : ℕ) → i ≡ first (gridBreaks G.FarEdge g) (g .grids) → g .grids ≤ i → Comparable S.Rank g
+-- what the loops that found nothing say of each grid
+pub grids-fit : (g : Group) (i : ℕ) → i ≡ first (badGrid g) (g .grids) → g .grids ≤ i → Grids g
+grids-fit g i e h =
+    record { fits = λ k l. not-false (gridFits (gridAt g k)) (none-at (badGrid g) (g .grids) k (omega arith) l) }
+
+pub comparable : (g : Group) → Grids g → (i : ℕ) → i ≡ first (outside g) (g .grids) → g .grids ≤ i → Comparable S.Rank g
 comparable g f i e h k l =
     grid-edges (gridAt g k) (f .fits k l) (g .parameters)
-    (not-false (inside (g .parameters) (gridAt g k)) (none-at (gridBreaks G.FarEdge g) (g .grids) k (omega arith) l))
+    (not-false (inside (g .parameters) (gridAt g k)) (none-at (outside g) (g .grids) k (omega arith) l))
 
 -- comparing marks is comparing grids
 module _ (g : Group) (f : Grids g) (fours keys : List ℕ) where

@@ -10,9 +10,10 @@ ghost use Rattle.group.specs.declared.Verdict.the-variants.{Accepted};
 ghost use Rattle.group.specs.Record.{noRamp, gridAt};
 ghost use Rattle.group.specs.Numbers.{rampsMost, gridsMost};
 ghost use Rattle.group.specs.Limits.{nameFits, headNumbersFit};
-ghost use Rattle.judge.specs.Judge.{judgedLines, judgedGrids, judgedRanks, judged};
-ghost use Rattle.judge.specs.Rules.{rampTest, gridTest, gridBreaks, Ready, Head, Grids};
-ghost use Rattle.judge.specs.Marks.{wordAt, nameMarks, marksOf, putFour, Listed, agree, clash, sharesEarlier, Comparable};
+ghost use Rattle.flat.specs.Lists.{Sided};
+ghost use Rattle.judge.specs.Judge.{unusedGrid, badGrid, namedEarlier, outside, rankedEarlier, judgedLines, judgedGrids, judgedRanks, judged};
+ghost use Rattle.judge.specs.Rules.{rampTest, Head, Grids, Left};
+ghost use Rattle.judge.specs.Marks.{wordAt, nameMarks, putFour, Listed, agree, clash, Comparable};
 use group::Grid;
 use group::Group;
 use group::Name;
@@ -38,13 +39,6 @@ const FOURS: usize = group::GRIDS_MOST * 4;
 enum RampRule {
     Unused,
     Limits,
-}
-
-// What a grid entry can break.
-enum GridRule {
-    Unused,
-    Limits,
-    FarEdge,
 }
 
 // What two grids may not share: a name; or a rank, where their extents share a coordinate.
@@ -92,33 +86,53 @@ fn first_ramp(rule: RampRule, ramps: [Ramp; group::RAMPS_MOST], used: u64, from:
     i
 }
 
-// Whether a grid of np parameters breaks a rule.
-fn grid_breaks(rule: GridRule, g: Grid, behind: bool, np: u64) -> bool
-    requires { ⌜ Ready rule np g ⌝ }
-    ensures { λ r. ⌜ r ≡ gridTest rule behind np g ⌝ }
+// The first grid entry behind the count that is not all zero, the count of entries if none is.
+fn first_unused(group: Group) -> u64
+    requires { ⌜ Head group ⌝ }
+    ensures { λ r. ⌜ r ≡ first (unusedGrid group) gridsMost ⌝ }
 {
-    match rule {
-        GridRule::Unused => {
-            let blank = grid_blank(g);
-            behind & !blank
+    let mut i: u64 = group.grids;
+    while i < GRIDS {
+        let at = i as usize;
+        let g = group.grid[at];
+        if !grid_blank(g) {
+            return i;
         }
-        GridRule::Limits => !grid_fits(g),
-        GridRule::FarEdge => !extent::grid_inside(g, np),
+        i += 1;
     }
+    i
 }
 
-// The first of n grid entries that breaks a rule, n if none does; those before one are known to keep it.
-fn first_grid(rule: GridRule, group: Group, from: u64, n: u64) -> u64
-    requires { ⌜ (from ≤ n) × (n ≤ gridsMost) × ((k : ℕ) → k < from → gridBreaks rule group k ≡ false) × ((k : ℕ) → k < n → Ready rule (group .parameters) (gridAt group k)) ⌝ }
-    ensures { λ r. ⌜ r ≡ first (gridBreaks rule group) n ⌝ }
+// The first grid whose line is outside its limits, the count of grids if none is.
+fn first_bad(group: Group) -> u64
+    requires { ⌜ Head group ⌝ }
+    ensures { λ r. ⌜ r ≡ first (badGrid group) (group .grids) ⌝ }
 {
-    let used = group.grids;
-    let np = group.parameters;
-    let mut i: u64 = from;
+    let n = group.grids;
+    let mut i: u64 = 0;
     while i < n {
         let at = i as usize;
         let g = group.grid[at];
-        if grid_breaks(rule, g, used <= i, np) {
+        if !grid_fits(g) {
+            return i;
+        }
+        i += 1;
+    }
+    i
+}
+
+// The first grid with a far edge outside the limits or a node range that ends too late, the count of grids if none is.
+fn first_outside(group: Group) -> u64
+    requires { ⌜ Head group × Grids group ⌝ }
+    ensures { λ r. ⌜ r ≡ first (outside group) (group .grids) ⌝ }
+{
+    let n = group.grids;
+    let np = group.parameters;
+    let mut i: u64 = 0;
+    while i < n {
+        let at = i as usize;
+        let g = group.grid[at];
+        if !extent::grid_inside(g, np) {
             return i;
         }
         i += 1;
@@ -189,17 +203,6 @@ fn fill_names(group: Group, fours: &mut [u64], keys: &mut [u64])
     }
 }
 
-// Stores the marks of every grid of a group: of its name, or its rank with its sides.
-fn fill_marks(shared: Shared, group: Group, fours: &mut [u64], keys: &mut [u64])
-    requires { ⌜ Head group × Grids group × (gridsMost * 4 ≤ length (now fours)) × (gridsMost ≤ length (now keys)) ⌝ }
-    ensures { λ _. ⌜ Listed (λ k. marksOf shared (gridAt group k)) (group .grids) (now (fours .exit)) (now (keys .exit)) ⌝ }
-{
-    match shared {
-        Shared::Name => fill_names(group, fours, keys),
-        Shared::Rank => flat::fill_sides(group, fours, keys),
-    }
-}
-
 // Whether the marks of grids j and k agree.
 fn marks_agree(shared: Shared, fours: &[u64], j: usize, k: usize) -> bool
     requires { ⌜ (j * 4 + 3 < length (now fours)) × (k * 4 + 3 < length (now fours)) ⌝ }
@@ -264,38 +267,48 @@ fn first_clash(shared: Shared, fours: &[u64], keys: &[u64], n: u64) -> u64
     i
 }
 
-// The first grid of a group that shares with an earlier one what it may not, the count of grids if none does.
-fn first_sharing(shared: Shared, group: Group) -> u64
-    requires { ⌜ Head group × Grids group × Comparable shared group ⌝ }
-    ensures { λ r. ⌜ r ≡ first (sharesEarlier shared group) (group .grids) ⌝ }
+// The first grid of a group whose name stands earlier, the count of grids if there is none.
+fn first_named(group: Group) -> u64
+    requires { ⌜ Head group × Grids group ⌝ }
+    ensures { λ r. ⌜ r ≡ first (namedEarlier group) (group .grids) ⌝ }
 {
     let mut fours = [0u64; FOURS];
     let mut keys = [0u64; group::GRIDS_MOST];
-    fill_marks(shared, group, &mut fours, &mut keys);
-    first_clash(shared, &fours, &keys, group.grids)
+    fill_names(group, &mut fours, &mut keys);
+    first_clash(Shared::Name, &fours, &keys, group.grids)
 }
 
-// Refusals 3 to 5, of a group whose numbers are within their limits.
-fn judge_grids(group: Group) -> Verdict
-    requires { ⌜ Head group × Grids group ⌝ }
-    ensures { λ r. ⌜ r ≡ judgedGrids group (judgedRanks group Accepted) ⌝ }
+// The first grid of a group that shares a coordinate and its rank with an earlier one, the count of grids if none does; the lists are
+// left with the sides and ranks of all.
+fn first_ranked(group: Group, sides: &mut [u64], ranks: &mut [u64]) -> u64
+    requires { ⌜ Head group × Grids group × Comparable Shared.Rank group × (gridsMost * 4 ≤ length (now sides)) × (gridsMost ≤ length (now ranks)) ⌝ }
+    ensures { λ r. ⌜ (r ≡ first (rankedEarlier group) (group .grids)) × Sided group (group .grids) (now (sides .exit)) (now (ranks .exit)) ⌝ }
+{
+    flat::fill_sides(group, sides, ranks);
+    first_clash(Shared::Rank, sides, ranks, group.grids)
+}
+
+// Refusals 3 to 5, of a group whose numbers are within their limits; what it leaves in the lists, `judge_into` says.
+fn judge_grids(group: Group, sides: &mut [u64], ranks: &mut [u64]) -> Verdict
+    requires { ⌜ Head group × Grids group × (gridsMost * 4 ≤ length (now sides)) × (gridsMost ≤ length (now ranks)) ⌝ }
+    ensures { λ r. ⌜ (r ≡ judgedGrids group (judgedRanks group Accepted)) × Left r group (now (sides .exit)) (now (ranks .exit)) ⌝ }
 {
     let n = group.grids;
-    let name = first_sharing(Shared::Name, group);
+    let name = first_named(group);
     if name < n {
         return Verdict::Refused(Refusal {
             number: 3,
             place: name + 1,
         });
     }
-    let edge = first_grid(GridRule::FarEdge, group, 0, n);
+    let edge = first_outside(group);
     if edge < n {
         return Verdict::Refused(Refusal {
             number: 4,
             place: edge + 1,
         });
     }
-    let rank = first_sharing(Shared::Rank, group);
+    let rank = first_ranked(group, sides, ranks);
     if rank < n {
         return Verdict::Refused(Refusal {
             number: 5,
@@ -306,9 +319,9 @@ fn judge_grids(group: Group) -> Verdict
 }
 
 // Refusal 2 behind the group line, then 3 to 5.
-fn judge_lines(group: Group) -> Verdict
-    requires { ⌜ Head group ⌝ }
-    ensures { λ r. ⌜ r ≡ judgedLines group (judgedGrids group (judgedRanks group Accepted)) ⌝ }
+fn judge_lines(group: Group, sides: &mut [u64], ranks: &mut [u64]) -> Verdict
+    requires { ⌜ Head group × (gridsMost * 4 ≤ length (now sides)) × (gridsMost ≤ length (now ranks)) ⌝ }
+    ensures { λ r. ⌜ (r ≡ judgedLines group (judgedGrids group (judgedRanks group Accepted))) × Left r group (now (sides .exit)) (now (ranks .exit)) ⌝ }
 {
     let m = group.ramps;
     let ramps = group.ramp;
@@ -320,14 +333,14 @@ fn judge_lines(group: Group) -> Verdict
         });
     }
     let n = group.grids;
-    let grid = first_grid(GridRule::Limits, group, 0, n);
+    let grid = first_bad(group);
     if grid < n {
         return Verdict::Refused(Refusal {
             number: 2,
             place: grid + (m + 2),
         });
     }
-    judge_grids(group)
+    judge_grids(group, sides, ranks)
 }
 
 // Whether a group's name is well formed and the numbers of its line are within their limits.
@@ -337,9 +350,11 @@ fn head_fits(name: Name, quantum: u64, parameters: u64, ramps: u64, grids: u64) 
     name_fits(name) & head_numbers_fit(quantum, parameters, ramps, grids)
 }
 
-// What a group handed over as a record is judged: accepted, or the refusal of the lowest number from 2 to 5 with its place.
-pub fn judge(group: Group) -> Verdict
-    ensures { λ r. ⌜ r ≡ judged group ⌝ }
+// What a group handed over as a record is judged, as `judge` says; of an accepted group the sides and ranks of all grids are left in the
+// two lists, for the call that goes on with it.
+pub fn judge_into(group: Group, sides: &mut [u64], ranks: &mut [u64]) -> Verdict
+    requires { ⌜ (gridsMost * 4 ≤ length (now sides)) × (gridsMost ≤ length (now ranks)) ⌝ }
+    ensures { λ r. ⌜ (r ≡ judged group) × Left r group (now (sides .exit)) (now (ranks .exit)) ⌝ }
 {
     if !head_fits(
         group.name,
@@ -361,11 +376,20 @@ pub fn judge(group: Group) -> Verdict
             place: 1,
         });
     }
-    if first_grid(GridRule::Unused, group, group.grids, GRIDS) < GRIDS {
+    if first_unused(group) < GRIDS {
         return Verdict::Refused(Refusal {
             number: 2,
             place: 1,
         });
     }
-    judge_lines(group)
+    judge_lines(group, sides, ranks)
+}
+
+// What a group handed over as a record is judged: accepted, or the refusal of the lowest number from 2 to 5 with its place.
+pub fn judge(group: Group) -> Verdict
+    ensures { λ r. ⌜ r ≡ judged group ⌝ }
+{
+    let mut sides = [0u64; flat::SIDES];
+    let mut ranks = [0u64; group::GRIDS_MOST];
+    judge_into(group, &mut sides, &mut ranks)
 }

@@ -1,12 +1,15 @@
 // A group as the C interface passes it, a list of numbers: from the list to the record and back.
 ghost use mathlib.Core.Path.{_≡_};
-ghost use Prim.Native.Nat.{_+_, _*_, _≤_, _<_};
+ghost use mathlib.Core.Bool.{true};
+ghost use Prim.Native.Nat.{_+_, _*_, _/_, _%_, _≤_, _<_};
 ghost use lib.ListN.{length, getD};
 ghost use lib.Seq.{sets};
 ghost use Rattle.group.specs.Record.{noRamp, noGrid};
-ghost use Rattle.group.specs.Numbers.{rampsMost, gridsMost};
+ghost use Rattle.group.specs.Blank.{blankGrid};
+ghost use Rattle.group.specs.Numbers.{nameMost, rampsMost, gridsMost};
 ghost use Rattle.layout.specs.Words.{nameWords, headWords, gridsFrom, groupWords};
-ghost use Rattle.layout.specs.Layout.{numberAt, countOf, countAt, listOf, byteOf, nameOf, unitOf, quantumOf, rampOf, gridOf, groupOf, stored, unitNumber, fourOf, nameNumber, rampNumbers, gridNumbers, headNumbers, joined, numbersOf};
+ghost use Rattle.layout.specs.Layout.{numberAt, countOf, countAt, listOf, byteOf, nameOf, unitOf, quantumOf, rampOf, gridOf, groupOf, clearFrom};
+ghost use Rattle.layout.specs.Layout.{stored, unitNumber, fourOf, nameNumber, rampNumbers, gridNumbers, headNumbers, joined, numbersOf};
 use group::BEYOND;
 use group::GRIDS_MOST;
 use group::Grid;
@@ -106,6 +109,22 @@ pub fn count_at(numbers: &[i64], k: usize) -> u64
     count_of(number_at(numbers, k))
 }
 
+// Number k of a group's numbers.
+fn number_in(numbers: &[i64; GROUP_WORDS], k: usize) -> i64
+    requires { ⌜ k < groupWords ⌝ }
+    ensures { λ r. ⌜ r ≡ numberAt (now (numbers .entry)) k ⌝ }
+{
+    numbers[k]
+}
+
+// The same where the record is unsigned.
+fn count_in(numbers: &[i64; GROUP_WORDS], k: usize) -> u64
+    requires { ⌜ k < groupWords ⌝ }
+    ensures { λ r. ⌜ r ≡ countAt (now (numbers .entry)) k ⌝ }
+{
+    count_of(number_in(numbers, k))
+}
+
 // Byte j of eight that a number holds, the lowest first.
 fn byte_of(word: u64, j: u64) -> u8
     requires { ⌜ j < 8 ⌝ }
@@ -114,17 +133,29 @@ fn byte_of(word: u64, j: u64) -> u8
     ((word >> (8 * j)) % 256) as u8
 }
 
-// The name of a length whose bytes stand in three numbers from place k on.
-fn name_of(numbers: &[i64], k: usize, len: u64) -> Name
-    requires { ⌜ k < groupWords ⌝ }
-    ensures { λ r. ⌜ r ≡ nameOf (now (numbers .entry)) k len ⌝ }
+// The bytes that three numbers hold, eight each.
+fn bytes_of(words: [u64; NAME_WORDS]) -> [u8; NAME_MOST]
+    ensures { λ r. ⌜ r ≡ listOf (λ j. byteOf (getD words (j / 8) 0) (j % 8)) nameMost ⌝ }
 {
     let mut bytes = [0u8; NAME_MOST];
     let mut i = 0;
     while i < NAME_MOST {
-        bytes[i] = byte_of(count_at(numbers, k + i / 8), (i % 8) as u64);
+        bytes[i] = byte_of(words[i / 8], (i % 8) as u64);
         i += 1;
     }
+    bytes
+}
+
+// The name of a length whose bytes stand in three numbers from place k on.
+fn name_of(numbers: &[i64; GROUP_WORDS], k: usize, len: u64) -> Name
+    requires { ⌜ k + nameWords ≤ groupWords ⌝ }
+    ensures { λ r. ⌜ r ≡ nameOf (now (numbers .entry)) k len ⌝ }
+{
+    let bytes = bytes_of([
+        count_in(numbers, k),
+        count_in(numbers, k + 1),
+        count_in(numbers, k + 2),
+    ]);
     Name {
         bytes: bytes,
         len: len,
@@ -142,54 +173,76 @@ fn unit_of(x: i64) -> Unit
 }
 
 // Q, beyond its limit if the unit is neither 0 nor 1.
-fn quantum_of(numbers: &[i64]) -> u64
+fn quantum_of(numbers: &[i64; GROUP_WORDS]) -> u64
     ensures { λ r. ⌜ r ≡ quantumOf (now (numbers .entry)) ⌝ }
 {
-    let u = number_at(numbers, UNIT);
+    let u = number_in(numbers, UNIT);
     if (0 <= u) & (u <= 1) {
-        return count_at(numbers, QUANTUM);
+        return count_in(numbers, QUANTUM);
     }
     BEYOND
 }
 
 // Ramp k of a group's numbers.
-fn ramp_of(numbers: &[i64], k: usize) -> Ramp
+fn ramp_of(numbers: &[i64; GROUP_WORDS], k: usize) -> Ramp
     requires { ⌜ k < rampsMost ⌝ }
     ensures { λ r. ⌜ r ≡ rampOf (now (numbers .entry)) k ⌝ }
 {
     Ramp {
-        a: number_at(numbers, k * RAMP_WORDS + A),
-        s0: number_at(numbers, k * RAMP_WORDS + S0),
-        b: number_at(numbers, k * RAMP_WORDS + B),
-        s1: number_at(numbers, k * RAMP_WORDS + S1),
+        a: number_in(numbers, k * RAMP_WORDS + A),
+        s0: number_in(numbers, k * RAMP_WORDS + S0),
+        b: number_in(numbers, k * RAMP_WORDS + B),
+        s1: number_in(numbers, k * RAMP_WORDS + S1),
     }
 }
 
 // Grid k of a group's numbers.
-fn grid_of(numbers: &[i64], k: usize) -> Grid
+fn grid_of(numbers: &[i64; GROUP_WORDS], k: usize) -> Grid
     requires { ⌜ k < gridsMost ⌝ }
     ensures { λ r. ⌜ r ≡ gridOf (now (numbers .entry)) k ⌝ }
 {
     let name = name_of(
         numbers,
         k * GRID_WORDS + GRIDS_FROM,
-        count_at(numbers, k * GRID_WORDS + GRID_LENGTH),
+        count_in(numbers, k * GRID_WORDS + GRID_LENGTH),
     );
     Grid {
         name: name,
-        lon: Longitude(number_at(numbers, k * GRID_WORDS + LON)),
-        lat: Latitude(number_at(numbers, k * GRID_WORDS + LAT)),
-        dlon: number_at(numbers, k * GRID_WORDS + DLON),
-        dlat: number_at(numbers, k * GRID_WORDS + DLAT),
-        ni: count_at(numbers, k * GRID_WORDS + NI),
-        nj: count_at(numbers, k * GRID_WORDS + NJ),
-        rank: count_at(numbers, k * GRID_WORDS + RANK),
-        start: count_at(numbers, k * GRID_WORDS + START),
+        lon: Longitude(number_in(numbers, k * GRID_WORDS + LON)),
+        lat: Latitude(number_in(numbers, k * GRID_WORDS + LAT)),
+        dlon: number_in(numbers, k * GRID_WORDS + DLON),
+        dlat: number_in(numbers, k * GRID_WORDS + DLAT),
+        ni: count_in(numbers, k * GRID_WORDS + NI),
+        nj: count_in(numbers, k * GRID_WORDS + NJ),
+        rank: count_in(numbers, k * GRID_WORDS + RANK),
+        start: count_in(numbers, k * GRID_WORDS + START),
     }
 }
 
+// Whether the four numbers from place k on are all 0.
+fn four_clear(numbers: &[i64; GROUP_WORDS], k: usize) -> bool
+    requires { ⌜ k + 3 < groupWords ⌝ }
+    ensures { λ r. ⌜ r ≡ clearFrom (now (numbers .entry)) k ⌝ }
+{
+    let a = numbers[k];
+    let b = numbers[k + 1];
+    let c = numbers[k + 2];
+    let d = numbers[k + 3];
+    ((0 <= a) & (a <= 0)) & ((0 <= b) & (b <= 0)) & ((0 <= c) & (c <= 0)) & ((0 <= d) & (d <= 0))
+}
+
+// Whether the twelve numbers of grid k are all 0.
+fn grid_clear(numbers: &[i64; GROUP_WORDS], k: usize) -> bool
+    requires { ⌜ k < gridsMost ⌝ }
+    ensures { λ r. ⌜ (r ≡ true → gridOf (now (numbers .entry)) k ≡ blankGrid) ⌝ }
+{
+    four_clear(numbers, k * GRID_WORDS + GRIDS_FROM)
+        & four_clear(numbers, k * GRID_WORDS + LON)
+        & four_clear(numbers, k * GRID_WORDS + NI)
+}
+
 // The ramps of a group's numbers.
-fn ramps_of(numbers: &[i64]) -> [Ramp; RAMPS_MOST]
+fn ramps_of(numbers: &[i64; GROUP_WORDS]) -> [Ramp; RAMPS_MOST]
     ensures { λ r. ⌜ r ≡ listOf (rampOf (now (numbers .entry))) rampsMost ⌝ }
 {
     let blank = group::blank_ramp();
@@ -203,35 +256,39 @@ fn ramps_of(numbers: &[i64]) -> [Ramp; RAMPS_MOST]
     ramps
 }
 
-// The grids of a group's numbers.
-fn grids_of(numbers: &[i64]) -> [Grid; GRIDS_MOST]
+// The grids of a group's numbers: where the last is unused, each unused one is a copy of it.
+fn grids_of(numbers: &[i64; GROUP_WORDS]) -> [Grid; GRIDS_MOST]
     ensures { λ r. ⌜ r ≡ listOf (gridOf (now (numbers .entry))) gridsMost ⌝ }
 {
-    let blank = group::blank_grid();
-    let mut grids = [blank; GRIDS_MOST];
+    let last = grid_of(numbers, GRIDS_MOST - 1);
+    let spare = grid_clear(numbers, GRIDS_MOST - 1);
+    let mut grids = [last; GRIDS_MOST];
     let mut i = 0;
     while i < GRIDS_MOST {
-        let grid = grid_of(numbers, i);
-        grids[i] = grid;
+        let clear = grid_clear(numbers, i);
+        if !(spare & clear) {
+            let grid = grid_of(numbers, i);
+            grids[i] = grid;
+        }
         i += 1;
     }
     grids
 }
 
-// The group that a list of numbers stands for. What is not there counts as 0.
-pub fn group_of(numbers: &[i64]) -> Group
+// The group that a list of numbers stands for.
+pub fn group_of(numbers: &[i64; GROUP_WORDS]) -> Group
     ensures { λ r. ⌜ r ≡ groupOf (now (numbers .entry)) ⌝ }
 {
-    let name = name_of(numbers, 0, count_at(numbers, LENGTH));
+    let name = name_of(numbers, 0, count_in(numbers, LENGTH));
     let ramp = ramps_of(numbers);
     let grid = grids_of(numbers);
     Group {
         name: name,
-        unit: unit_of(number_at(numbers, UNIT)),
+        unit: unit_of(number_in(numbers, UNIT)),
         quantum: quantum_of(numbers),
-        parameters: count_at(numbers, PARAMETERS),
-        ramps: count_at(numbers, RAMPS),
-        grids: count_at(numbers, GRIDS),
+        parameters: count_in(numbers, PARAMETERS),
+        ramps: count_in(numbers, RAMPS),
+        grids: count_in(numbers, GRIDS),
         ramp: ramp,
         grid: grid,
     }

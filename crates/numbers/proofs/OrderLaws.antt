@@ -42,6 +42,13 @@ within-size m (pos n) e = leb-true n m (and-right (leZ (negℤ (pos m)) (pos n))
 within-size zero (negsuc n) e = absurd (let z : _≡_ {A = ℕ} 0 1 = cc in omega arith)
 within-size (suc m) (negsuc n) e = let h = leb-true n m (and-left (leb n m) true e) in omega arith
 
+pub zero-of : (z : ℤ) → within 0 z ≡ true → z ≡ pos 0
+zero-of z e = go z (within-size 0 z e)
+  where
+    go : (z : ℤ) → natAbs z ≤ 0 → z ≡ pos 0
+    go (pos n) h = ap pos (omega arith)
+    go (negsuc n) h = absurd (omega arith)
+
 -- tests of two orders agree where each order follows from the other
 pub leb-same : (x y u v : ℕ) → (x ≤ y → u ≤ v) → (u ≤ v → x ≤ y) → leb x y ≡ leb u v
 leb-same x y u v f g =

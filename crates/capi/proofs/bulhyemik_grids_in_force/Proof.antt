@@ -19,7 +19,7 @@ verdict-refusal-requires c κs = search needs
 
 returns : tie.Need-returns
 returns c =
-    let start = c .before .before .before .before .before in
+    let start = c .before .before .before .before in
     let s = start .args in
     in-force-told (s .group .now) _ (c .before .before .before .group-of .ensures) (s .west) (s .east) (s .south) (s .north) _ _ _ _ _ _ _ (toZ-ofZ (start .fits .west)) (toZ-ofZ (start .fits .east)) (toZ-ofZ (start .fits .south)) (toZ-ofZ (start .fits .north)) (c .before .before .grids-in-force .ensures) (c .verdict-refusal .ensures) (c .before .list-numbers .ensures)
 

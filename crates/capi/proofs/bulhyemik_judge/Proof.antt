@@ -15,7 +15,7 @@ verdict-refusal-requires c κs = search needs
 
 returns : tie.Need-returns
 returns c =
-    judge-told (c .before .before .before .before .args .group .now) _ (c .before .before .group-of .ensures) _ _ (c .before .judge .ensures) (c .verdict-refusal .ensures)
+    judge-told (c .before .before .before .args .group .now) _ (c .before .before .group-of .ensures) _ _ (c .before .judge .ensures) (c .verdict-refusal .ensures)
 
 pub bulhyemik-judge-spec : {M : Type 1} → statement M
 bulhyemik-judge-spec =

@@ -19,7 +19,7 @@ lookup-refusal-requires c κs = search needs
 
 returns : tie.Need-returns
 returns c =
-    let start = c .before .before .before .before .before in
+    let start = c .before .before .before .before in
     let s = start .args in
     lookup-told (s .group .now) _ (c .before .before .before .group-of .ensures) (s .nodes .now) (s .lon) (s .lat) (s .day) _ _ _ _ _ _ (toZ-ofZ (start .fits .lon)) (toZ-ofZ (start .fits .lat)) (toZ-ofZ (start .fits .day)) (c .before .before .lookup .ensures) (c .lookup-refusal .ensures) (c .before .found-numbers .ensures)
 

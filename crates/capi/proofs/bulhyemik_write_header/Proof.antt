@@ -21,7 +21,7 @@ same-length c = search needs
 
 returns : tie.Need-returns
 returns c =
-    let s = c .before .before .before .before .before .before .before .before .before .args in
+    let s = c .before .before .before .before .before .before .before .before .args in
     let w = c .before .before .before .before .write-header .ensures in
     write-told (s .group .now) _ (c .before .before .before .before .before .before .group-of .ensures) (s .out .now) _ _ _ _ (w .0) (w .1) (c .before .written-refusal .ensures) (c .written-count .ensures)
 

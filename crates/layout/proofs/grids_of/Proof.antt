@@ -1,28 +1,51 @@
 -- `grids_of` meets its contract.
-use Prim.Native.Nat.{_-_}
-use mathlib.Core.Path.{refl}
+use Prim.Native.Nat.{_+_, _-_}
+use mathlib.Core.Path.{sym, subst, _∙_}
+use mathlib.Core.Bool.{_&&_}
+use mathlib.Core.List.{List}
+use lib.ListN.{replicate}
+use mathlib.Core.Logic.{⊎-elim}
 use borrow.Author.Needs.{needs}
+use borrow.Author.Tests.{not-false}
+use Rattle.numbers.proofs.Bools.{and-left, and-right}
+use Rattle.group.specs.declared.Grid.{Grid}
 use Rattle.group.specs.Numbers.{gridsMost}
 use Rattle.group.specs.Record.{noGrid}
 use Rattle.layout.specs.Layout.{gridOf}
-use Rattle.layout.proofs.ListLaws.{Filled, filled-none, filled-more, filled-all}
+use Rattle.layout.proofs.ListLaws.{Begun, begun-none, begun-more, begun-same, filled-all}
 use Rattle.layout.proofs.grids_of.Statement.{statement}
 use Rattle.layout.proofs.grids_of.Tie as tie
 
 abbrev Inv-loop : tie.InvT-loop
-Inv-loop numbers grids₀ i₀ grids i = Filled (gridOf numbers) noGrid gridsMost i grids
+Inv-loop numbers spare grids₀ i₀ grids i = Begun (gridOf numbers) noGrid (gridOf numbers (gridsMost - 1)) gridsMost i grids
 
 abbrev μ-loop : tie.MeasureT-loop
-μ-loop numbers grids₀ i₀ grids i = gridsMost - i
+μ-loop numbers spare grids₀ i₀ grids i = gridsMost - i
 
-blank-grid-requires : tie.Need-blank-grid-requires Inv-loop μ-loop
-blank-grid-requires c κs = search needs
-
-loop-holds : tie.Need-loop-holds Inv-loop μ-loop
-loop-holds c = filled-none _ noGrid gridsMost _ refl
+sub-grid-of : tie.Need-sub-grid-of Inv-loop μ-loop
+sub-grid-of c = search needs
 
 grid-of-requires : tie.Need-grid-of-requires Inv-loop μ-loop
 grid-of-requires c κs = search needs
+
+sub-grid-clear : tie.Need-sub-grid-clear Inv-loop μ-loop
+sub-grid-clear c = search needs
+
+grid-clear-requires : tie.Need-grid-clear-requires Inv-loop μ-loop
+grid-clear-requires c κs = search needs
+
+loop-holds : tie.Need-loop-holds Inv-loop μ-loop
+loop-holds c =
+    let s = c .before .before .args in
+    let e = c .before .grid-of .ensures in
+    subst (λ (g : Grid). Begun (gridOf (s .numbers .now)) noGrid (gridOf (s .numbers .now) (gridsMost - 1)) gridsMost 0 (replicate gridsMost g)) (sym e)
+    (begun-none (gridOf (s .numbers .now)) noGrid (gridOf (s .numbers .now) (gridsMost - 1)) gridsMost)
+
+grid-clear-requires-2 : tie.Need-grid-clear-requires-2 Inv-loop μ-loop
+grid-clear-requires-2 c κs = search needs
+
+grid-of-requires-2 : tie.Need-grid-of-requires-2 Inv-loop μ-loop
+grid-of-requires-2 c κs = search needs
 
 mul-grids : tie.Need-mul-grids Inv-loop μ-loop
 mul-grids c = search needs
@@ -38,12 +61,25 @@ loop-less c = search needs
 
 loop-again : tie.Need-loop-again Inv-loop μ-loop
 loop-again c =
-    filled-more _ noGrid gridsMost _ _ _ (c .before .before .loop .inv) (c .before .loop-test .taken) (c .grid-of .ensures)
+    let s = c .before .before .before .before .before .before .args in
+    let ns = s .numbers .now in
+    let l = c .before .before .before .loop in
+    let last = c .before .before .before .before .grid-clear in
+    let clear = c .before .grid-clear2 in
+    let Next : List Grid → Type 0 = λ (gs : List Grid). Begun (gridOf ns) noGrid (gridOf ns (gridsMost - 1)) gridsMost (l .i + 1) gs in
+    ⊎-elim
+    (λ u. subst Next (sym (u .2)) (begun-more (gridOf ns) noGrid _ gridsMost (l .i) (l .grids) _ (l .inv) (c .before .before .loop-test .taken) (u .1 .ensures)))
+    (λ u.
+    let both = not-false (last .result && clear .result) (u .0 .left) in
+    subst Next (sym (u .1))
+    (begun-same (gridOf ns) noGrid _ gridsMost (l .i) (l .grids) (l .inv) (c .before .before .loop-test .taken)
+    (last .ensures (and-left (last .result) (clear .result) both) ∙ sym (clear .ensures (and-right (last .result) (clear .result) both)))))
+    (c .if1 .came)
 
 returns : tie.Need-returns Inv-loop μ-loop
 returns c =
-    let s = c .before .before .before .args in
-    filled-all (gridOf (s .numbers .now)) noGrid gridsMost _ _ (c .before .loop .inv) (c .loop-test .left)
+    let ns = c .before .before .before .before .args .numbers .now in
+    filled-all (gridOf ns) noGrid gridsMost _ _ (c .before .loop .inv .done) (c .loop-test .left)
 
 pub grids-of-spec : {M : Type 1} → statement M
 grids-of-spec =
@@ -51,9 +87,13 @@ grids-of-spec =
     (tie.spec
     Inv-loop
     μ-loop
-    blank-grid-requires
-    loop-holds
+    sub-grid-of
     grid-of-requires
+    sub-grid-clear
+    grid-clear-requires
+    loop-holds
+    grid-clear-requires-2
+    grid-of-requires-2
     mul-grids
     array-set-from-grids
     add-i

@@ -6,8 +6,8 @@ use Rattle.layout.proofs.NumberLaws.{told}
 use Rattle.layout.proofs.group_of.Statement.{statement}
 use Rattle.layout.proofs.group_of.Tie as tie
 
-count-at-requires : tie.Need-count-at-requires
-count-at-requires c κs = search needs
+count-in-requires : tie.Need-count-in-requires
+count-in-requires c κs = search needs
 
 name-of-requires : tie.Need-name-of-requires
 name-of-requires c κs = search needs
@@ -18,8 +18,8 @@ ramps-of-requires c κs = search needs
 grids-of-requires : tie.Need-grids-of-requires
 grids-of-requires c κs = search needs
 
-number-at-requires : tie.Need-number-at-requires
-number-at-requires c κs = search needs
+number-in-requires : tie.Need-number-in-requires
+number-in-requires c κs = search needs
 
 unit-of-requires : tie.Need-unit-of-requires
 unit-of-requires c κs = search needs
@@ -27,26 +27,26 @@ unit-of-requires c κs = search needs
 quantum-of-requires : tie.Need-quantum-of-requires
 quantum-of-requires c κs = search needs
 
-count-at-requires-2 : tie.Need-count-at-requires-2
-count-at-requires-2 c κs = search needs
+count-in-requires-2 : tie.Need-count-in-requires-2
+count-in-requires-2 c κs = search needs
 
-count-at-requires-3 : tie.Need-count-at-requires-3
-count-at-requires-3 c κs = search needs
+count-in-requires-3 : tie.Need-count-in-requires-3
+count-in-requires-3 c κs = search needs
 
-count-at-requires-4 : tie.Need-count-at-requires-4
-count-at-requires-4 c κs = search needs
+count-in-requires-4 : tie.Need-count-in-requires-4
+count-in-requires-4 c κs = search needs
 
 returns : tie.Need-returns
 unfolding groupOf
 returns c =
-    let name = c .before .before .before .before .before .before .before .before .name-of .ensures ∙ ap (nameOf _ _) (c .before .before .before .before .before .before .before .before .before .count-at .ensures) in
-    let unit = c .before .before .before .before .unit-of .ensures ∙ ap unitOf (told (c .before .before .before .before .before .number-at .ok) (c .before .before .before .before .before .number-at .ensures)) in
+    let name = c .before .before .before .before .before .before .before .before .name-of .ensures ∙ ap (nameOf _ _) (c .before .before .before .before .before .before .before .before .before .count-in .ensures) in
+    let unit = c .before .before .before .before .unit-of .ensures ∙ ap unitOf (told (c .before .before .before .before .before .number-in .ok) (c .before .before .before .before .before .number-in .ensures)) in
     let ramp = c .before .before .before .before .before .before .before .ramps-of .ensures in
     let grid = c .before .before .before .before .before .before .grids-of .ensures in
     let quantum = c .before .before .before .quantum-of .ensures in
-    let parameters = c .before .before .count-at2 .ensures in
-    let ramps = c .before .count-at3 .ensures in
-    let grids = c .count-at4 .ensures in
+    let parameters = c .before .before .count-in2 .ensures in
+    let ramps = c .before .count-in3 .ensures in
+    let grids = c .count-in4 .ensures in
     λ i. record {
       name = name i;
       unit = unit i;
@@ -62,14 +62,14 @@ pub group-of-spec : {M : Type 1} → statement M
 group-of-spec =
     tie.close
     (tie.spec
-    count-at-requires
+    count-in-requires
     name-of-requires
     ramps-of-requires
     grids-of-requires
-    number-at-requires
+    number-in-requires
     unit-of-requires
     quantum-of-requires
-    count-at-requires-2
-    count-at-requires-3
-    count-at-requires-4
+    count-in-requires-2
+    count-in-requires-3
+    count-in-requires-4
     returns)

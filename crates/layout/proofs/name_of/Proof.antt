@@ -1,65 +1,55 @@
 -- `name_of` meets its contract.
-use Prim.Native.Nat.{ℕ, _+_, _-_, _/_, _%_}
-use mathlib.Core.Path.{refl, ap, _∙_}
+use Prim.Native.Nat.{ℕ, _+_, _/_, _%_}
+use mathlib.Core.Path.{_≡_, sym, ap, _∙_}
+use mathlib.Core.List.{[], _∷_}
+use native.Mathlib.Omega.{arith}
+use lib.ListN.{getD}
 use Rattle.group.specs.Numbers.{nameMost}
 use Rattle.layout.specs.Layout.{countAt, byteOf, nameOf}
-use Rattle.layout.proofs.ListLaws.{Filled, filled-none, filled-more, filled-all}
+use Rattle.layout.proofs.ListLaws.{listOf-same, getD-three}
 use borrow.Author.Needs.{needs}
 use Rattle.layout.proofs.name_of.Statement.{statement}
 use Rattle.layout.proofs.name_of.Tie as tie
 
-abbrev Inv-loop : tie.InvT-loop
-Inv-loop numbers k len bytes₀ i₀ bytes i = Filled (λ j. byteOf (countAt numbers (k + j / 8)) (j % 8)) 0 nameMost i bytes
+count-in-requires : tie.Need-count-in-requires
+count-in-requires c κs = search needs
 
-abbrev μ-loop : tie.MeasureT-loop
-μ-loop numbers k len bytes₀ i₀ bytes i = nameMost - i
+add-count-in : tie.Need-add-count-in
+add-count-in c = search needs
 
-loop-holds : tie.Need-loop-holds Inv-loop μ-loop
-loop-holds c = filled-none _ 0 nameMost _ refl
+count-in-requires-2 : tie.Need-count-in-requires-2
+count-in-requires-2 c κs = search needs
 
-add-count-at : tie.Need-add-count-at Inv-loop μ-loop
-add-count-at c = search needs
+add-count-in-2 : tie.Need-add-count-in-2
+add-count-in-2 c = search needs
 
-count-at-requires : tie.Need-count-at-requires Inv-loop μ-loop
-count-at-requires c κs = search needs
+count-in-requires-3 : tie.Need-count-in-requires-3
+count-in-requires-3 c κs = search needs
 
-byte-of-requires : tie.Need-byte-of-requires Inv-loop μ-loop
-byte-of-requires c κs = search needs
+bytes-of-requires : tie.Need-bytes-of-requires
+bytes-of-requires c κs = search needs
 
-array-write-bytes : tie.Need-array-write-bytes Inv-loop μ-loop
-array-write-bytes c = search needs
-
-add-i : tie.Need-add-i Inv-loop μ-loop
-add-i c = search needs
-
-loop-less : tie.Need-loop-less Inv-loop μ-loop
-loop-less c = search needs
-
-loop-again : tie.Need-loop-again Inv-loop μ-loop
-loop-again c =
-    let i = c .before .before .before .loop .i in
-    filled-more _ 0 nameMost _ _ _ (c .before .before .before .loop .inv) (c .before .before .loop-test .taken)
-    (c .byte-of .ensures ∙ ap (λ (w : ℕ). byteOf w (i % 8)) (c .before .count-at .ensures))
-
-returns : tie.Need-returns Inv-loop μ-loop
+returns : tie.Need-returns
 unfolding nameOf
 returns c =
-    let s = c .before .before .args in
-    let e = filled-all (λ j. byteOf (countAt (s .numbers .now) (s .k + j / 8)) (j % 8)) 0 nameMost _ _ (c .before .loop .inv) (c .loop-test .left) in
-    λ i. record { bytes = e i; len = s .len }
+    let s = c .before .before .before .before .args in
+    let ns = s .numbers .now in
+    let x = c .before .before .before .count-in in let y = c .before .before .count-in2 in let z = c .before .count-in3 in
+    let from : s .k + 0 ≡ s .k = omega arith in
+    let words = getD-three (x .result) (y .result) (z .result) 0 (λ q. countAt ns (s .k + q)) (ap (countAt ns) from ∙ sym (x .ensures)) (sym (y .ensures)) (sym (z .ensures)) in
+    let bytes = c .bytes-of .ensures
+    ∙ listOf-same (λ j. byteOf (getD (x .result ∷ y .result ∷ z .result ∷ []) (j / 8) 0) (j % 8)) (λ j. byteOf (countAt ns (s .k + j / 8)) (j % 8)) nameMost
+    (λ j b. ap (λ (w : ℕ). byteOf w (j % 8)) (words (j / 8) (omega arith))) in
+    λ i. record { bytes = bytes i; len = s .len }
 
 pub name-of-spec : {M : Type 1} → statement M
 name-of-spec =
     tie.close
     (tie.spec
-    Inv-loop
-    μ-loop
-    loop-holds
-    add-count-at
-    count-at-requires
-    byte-of-requires
-    array-write-bytes
-    add-i
-    loop-less
-    loop-again
+    count-in-requires
+    add-count-in
+    count-in-requires-2
+    add-count-in-2
+    count-in-requires-3
+    bytes-of-requires
     returns)

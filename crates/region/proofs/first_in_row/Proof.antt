@@ -1,6 +1,6 @@
 -- `region::first_in_row` meets its contract. The loop's invariant: rectangles hold all from west up to below x, in each row from y to top,
 -- and of those walked through none holds x.
-use Prim.Native.Nat.{_≤_, _<_, _-_, _+_, _*_}
+use Prim.Native.Nat.{_≤_, _-_, _+_, _*_}
 use mathlib.Core.Path.{_≡_, refl, sym, _∙_}
 use mathlib.Core.Bool.{false}
 use native.Mathlib.Omega.{arith}
