@@ -33,7 +33,8 @@ use Rattle.lookup.specs.Lookup.{looked}
 use Rattle.screen.specs.declared.ScreenAnswer.{ScreenAnswer}
 use Rattle.screen.specs.declared.ScreenRecord.{ScreenRecord}
 use Rattle.screen.specs.Screen.{screenRefusal, shiftsOf, answerOf, recordOf}
-use Rattle.layout.specs.Layout.{groupOf, numbersOf, countOf, countAt, numberAt, stored, joined}
+use Rattle.numbers.specs.Order.{countOf}
+use Rattle.layout.specs.Layout.{groupOf, numbersOf, countAt, numberAt, stored, joined}
 use Rattle.layout.proofs.ListLaws.{sets-append, sets-whole, length-joined}
 use Rattle.capi.specs.Answers.{left, judgeAnswer, readOf, readAnswer, storedFound, foundAnswer, pointOf, lookupAnswer, lentText, writtenAnswer, writeAnswer, loadedBy, loadAnswer}
 use Rattle.capi.specs.InForce.{areaOf, entriesFrom, entryWords, listWords, storedEntry, storedList, listAnswer, inForceAnswer}

@@ -33,7 +33,8 @@ use Rattle.screen.specs.declared.ScreenAnswer.{ScreenAnswer}
 use Rattle.screen.specs.declared.ScreenAnswer.the-variants as S
 use Rattle.screen.specs.Screen.{plusZero, screenRefusal, shiftsOf, recordOf}
 use Rattle.screen.proofs.TableLaws.{answer-told}
-use Rattle.layout.specs.Layout.{countOf, groupOf, numbersOf, joined}
+use Rattle.numbers.specs.Order.{countOf}
+use Rattle.layout.specs.Layout.{groupOf, numbersOf, joined}
 use Rattle.capi.specs.Answers.{pointOf, lentText, judgeAnswer, readAnswer, writeAnswer, foundNumbers, lookupAnswer, loadAnswer}
 use Rattle.capi.specs.InForce.{listWords, listNumbers, inForceAnswer}
 use Rattle.capi.specs.Screen.{lookupOf, shownOf, recordFloats}

@@ -18,7 +18,8 @@ use Rattle.fix.specs.declared.Lookup.the-variants as L
 use Rattle.fix.specs.Answers.{lookupRefusal}
 use Rattle.judge.specs.Judge.{judged}
 use Rattle.lookup.specs.Lookup.{looked}
-use Rattle.layout.specs.Layout.{countOf, groupOf, numbersOf, stored}
+use Rattle.numbers.specs.Order.{countOf}
+use Rattle.layout.specs.Layout.{groupOf, numbersOf, stored}
 
 -- the version of the interface: major · 1,000,000 + minor · 1,000 + patch
 abbrev pub version : ℕ

@@ -20,7 +20,8 @@ use Rattle.nodes.specs.declared.Loaded.the-variants.{Done}
 use Rattle.nodes.specs.Load.{loaded}
 use Rattle.screen.specs.declared.ScreenAnswer.the-variants as S
 use Rattle.screen.specs.Screen.{plusZero}
-use Rattle.layout.specs.Layout.{countOf, groupOf}
+use Rattle.numbers.specs.Order.{countOf}
+use Rattle.layout.specs.Layout.{groupOf}
 use Rattle.capi.specs.Answers.{Answer, pointOf, lentText, judgeAnswer, readAnswer, writeAnswer, lookupAnswer, loadAnswer}
 use Rattle.capi.specs.InForce.{listWords, inForceAnswer}
 use Rattle.capi.specs.Screen.{shownOf, shiftsAnswer, recordAnswer}

@@ -11,7 +11,8 @@ use Rattle.fix.specs.declared.Lookup.the-variants as L
 use Rattle.screen.specs.declared.ScreenAnswer.{ScreenAnswer}
 use Rattle.screen.specs.declared.ScreenRecord.{ScreenRecord}
 use Rattle.screen.specs.Screen.{screenRefusal, shiftsOf, answerOf, recordOf}
-use Rattle.layout.specs.Layout.{countOf, numberAt, countAt}
+use Rattle.numbers.specs.Order.{countOf}
+use Rattle.layout.specs.Layout.{numberAt, countAt}
 use Rattle.capi.specs.Answers.{Answer, pointOf}
 
 -- the number that the lookup returned, the place that it left and the four numbers that it filled

@@ -276,7 +276,7 @@ pub extern "C" fn bulhyemik_load_nodes(
 ) -> u64
     ensures { λ r. ⌜ left r (now (place .exit)) (now (nodes .exit)) ≡ loadAnswer quantum flag (now (floats .entry)) (now (nodes .entry)) ⌝ }
 {
-    let q = layout::count_of(quantum);
+    let q = numbers::count_of(quantum);
     let refusal = loaded_refusal(nodes::load_nodes(floats, flag, q, nodes));
     *place = refusal.place;
     refusal.number
@@ -333,8 +333,8 @@ pub extern "C" fn bulhyemik_screen_answer(
 ) -> u64
     ensures { λ r. ⌜ left r (now (place .exit)) (now (shifts .exit)) ≡ shiftsAnswer (shownOf quantum parameters number at (now (fix .entry))) ⌝ }
 {
-    let q = layout::count_of(quantum);
-    let np = layout::count_of(parameters);
+    let q = numbers::count_of(quantum);
+    let np = numbers::count_of(parameters);
     let shown = screen::screen_answer(lookup_of(number, at, fix), q, np);
     let floats = shift_floats(shown);
     let refusal = screen_refusal(shown);
@@ -358,8 +358,8 @@ pub extern "C" fn bulhyemik_screen_record(
 ) -> u64
     ensures { λ r. ⌜ left r (now (place .exit)) (now (screen .exit)) ≡ recordAnswer lon lat (shownOf quantum parameters number at (now (fix .entry))) ⌝ }
 {
-    let q = layout::count_of(quantum);
-    let np = layout::count_of(parameters);
+    let q = numbers::count_of(quantum);
+    let np = numbers::count_of(parameters);
     let point = Point {
         lon: Longitude(lon),
         lat: Latitude(lat),

@@ -24,7 +24,7 @@ use Rattle.numbers.proofs.Bools.{and-left, and-right}
 use Rattle.group.specs.declared.Ramp.{Ramp}
 use Rattle.group.specs.Numbers.{rampsMost, valueMost, dayMost, dayFits, factorOne, rampFactorMost, rampFactorFits, factorMost, resultMost}
 use Rattle.group.specs.Limits.{rampFits}
-use Rattle.group.specs.Record.{noRamp}
+use Rattle.group.specs.Blank.{blankRamp}
 use Rattle.day.specs.Day.{rampFactor, sumOf, factorOf, resultOf}
 use Rattle.day.specs.Unsigned.{rampStep}
 
@@ -123,18 +123,18 @@ module _ (ramps : List Ramp) (t : ℤ) where
   unfolding factorOf
   factor-none n e = rw (eq-eqb n 0 e)
 
-  pub factor-some : (n : ℕ) → (n ≡ 0 → ⊥) → factorOf ramps n t ≡ sumOf (λ i. rampFactor (getD ramps i noRamp) t) n
+  pub factor-some : (n : ℕ) → (n ≡ 0 → ⊥) → factorOf ramps n t ≡ sumOf (λ i. rampFactor (getD ramps i blankRamp) t) n
   unfolding factorOf
   factor-some n h = rw (ne-eqb n 0 h)
 
-  pub factor-bound : (n : ℕ) → n ≤ rampsMost → ((i : ℕ) → i < n → rampFits (getD ramps i noRamp) ≡ true) → natAbs (factorOf ramps n t) ≤ factorMost
+  pub factor-bound : (n : ℕ) → n ≤ rampsMost → ((i : ℕ) → i < n → rampFits (getD ramps i blankRamp) ≡ true) → natAbs (factorOf ramps n t) ≤ factorMost
   factor-bound n h fit = go (decLt 0 n)
     where
       go : Dec (0 < n) → natAbs (factorOf ramps n t) ≤ factorMost
       go (no e) = rw (factor-none n (omega arith)) (omega arith)
       go (yes e) =
           rw (factor-some n (λ z. omega arith))
-          (let b = sum-bound (λ i. rampFactor (getD ramps i noRamp) t) rampFactorMost n (λ i l. ramp-bound (getD ramps i noRamp) t (fit i l)) in
+          (let b = sum-bound (λ i. rampFactor (getD ramps i blankRamp) t) rampFactorMost n (λ i l. ramp-bound (getD ramps i blankRamp) t (fit i l)) in
           omega arith)
 
 -- ---- the result

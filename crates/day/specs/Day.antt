@@ -9,7 +9,7 @@ use lib.Signed.{leZ}
 use Rattle.numbers.specs.Round.{roundZ}
 use Rattle.group.specs.declared.Ramp.{Ramp}
 use Rattle.group.specs.Numbers.{factorOne}
-use Rattle.group.specs.Record.{noRamp}
+use Rattle.group.specs.Blank.{blankRamp}
 
 -- S1 at and after B, so that A = B gives S1 on the day itself; S0 at and before A; between them (S0(B−t) + S1(t−A)) / (B−A), rounded
 unfoldable pub rampFactor : Ramp → ℤ → ℤ
@@ -25,7 +25,7 @@ sumOf factor (suc n) = sumOf factor n +ℤ factor n
 
 -- the factor of the first n ramps; with none it is 1
 unfoldable pub factorOf : List Ramp → ℕ → ℤ → ℤ
-factorOf ramps n t = cond (eqb n 0) (pos factorOne) (sumOf (λ i. rampFactor (getD ramps i noRamp) t) n)
+factorOf ramps n t = cond (eqb n 0) (pos factorOne) (sumOf (λ i. rampFactor (getD ramps i blankRamp) t) n)
 
 -- value · factor, rounded
 unfoldable pub resultOf : (value factor : ℤ) → ℤ

@@ -10,7 +10,7 @@ ghost use lib.ListN.{getD};
 ghost use lib.IntN.{pos, _+ℤ_, natAbs};
 ghost use Rattle.group.specs.Numbers.{rampsMost, dayMost, dayFits, rampFactorMost, factorMost, valueMost};
 ghost use Rattle.group.specs.Limits.{rampFits};
-ghost use Rattle.group.specs.Record.{noRamp};
+ghost use Rattle.group.specs.Blank.{blankRamp};
 ghost use Rattle.day.specs.Day.{rampFactor, factorOf, resultOf};
 ghost use Rattle.day.specs.Unsigned.{rampStep};
 
@@ -52,7 +52,7 @@ fn ramp_factor(p: Ramp, day: i64) -> u64
 
 // The sum of the factors of the first n ramps on a day, in millionths; the factor 1 if there are none.
 pub fn day_factor(ramps: [Ramp; RAMPS_MOST], n: usize, day: i64) -> i64
-    requires { ⌜ (n ≤ rampsMost) × ((i : ℕ) → i < n → rampFits (getD ramps i noRamp) ≡ true) × (dayFits day ≡ true) ⌝ }
+    requires { ⌜ (n ≤ rampsMost) × ((i : ℕ) → i < n → rampFits (getD ramps i blankRamp) ≡ true) × (dayFits day ≡ true) ⌝ }
     ensures { λ r. ⌜ r ≡ factorOf ramps n day ⌝ }
 {
     if n == 0 {

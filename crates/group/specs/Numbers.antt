@@ -127,11 +127,6 @@ resultMost = valueMost * factorMost / factorOne
 
 -- ---- numbers handed over
 
--- what stands for a number below zero where the record is unsigned: beyond every limit
-abbrev pub beyond : ℕ
-beyond = 18446744073709551615
-
 -- in an unused entry
-
 abbrev pub isZero : ℤ → Bool
 isZero z = within 0 z

@@ -88,9 +88,6 @@ pub const FACTOR_MOST: u64 = RAMPS_MOST as u64 * RAMP_FACTOR_MOST as u64;
 
 pub const RESULT_MOST: u64 = VALUE_MOST as u64 * FACTOR_MOST / FACTOR_ONE as u64;
 
-// What stands for a number below zero where the record is unsigned: beyond every limit.
-pub const BEYOND: u64 = 18446744073709551615;
-
 // A longitude in mas: a point's lies from LON_LEAST to LON_MOST, a grid's edge from LON_EDGE_LEAST to LON_EDGE_MOST.
 pub struct Longitude(pub i64);
 

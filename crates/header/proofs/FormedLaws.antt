@@ -13,9 +13,9 @@ use Rattle.numbers.specs.First.{first, some}
 use Rattle.numbers.specs.Order.{within}
 use Rattle.numbers.proofs.FirstLaws.{passed-some}
 use Rattle.numbers.proofs.OrderLaws.{zero-of}
-use Rattle.text.proofs.FieldLaws.{and-parts}
+use Rattle.numbers.proofs.Bools.{and-parts}
 use Rattle.group.specs.Limits.{nameBlank, headFits, rampFits, rampBlank, gridFits, gridBlank}
-use Rattle.group.specs.Record.{noRamp, noGrid, rampAt, gridAt}
+use Rattle.group.specs.Record.{noGrid, rampAt, gridAt}
 use Rattle.group.specs.Refusals.{refusal}
 use Rattle.group.specs.Blank.{blankRamp, blankGrid}
 use Rattle.group.specs.declared.Ramp.{Ramp}
@@ -143,7 +143,7 @@ module _ (g : Group) (f : Formed g) where
   module _ (e : headFits g ≡ true) where
     group-back : groupOf (headOfGroup g) (take (g .ramps) (g .ramp)) (take (g .grids) (g .grid)) ≡ g
     group-back =
-        let r = entries-back 8 blankRamp noRamp (g .ramp) (g .ramps) (f .shape .ramp) (ramps-most g e) (λ k u v. blank-ramp (rampAt g k) (f .no-ramp k v u)) in
+        let r = entries-back 8 blankRamp blankRamp (g .ramp) (g .ramps) (f .shape .ramp) (ramps-most g e) (λ k u v. blank-ramp (rampAt g k) (f .no-ramp k v u)) in
         let d = entries-back 64 blankGrid noGrid (g .grid) (g .grids) (f .shape .grid) (grids-between g e .1) (λ k u v. blank-grid (gridAt g k) (f .shape .names k v) (f .no-grid k v u)) in
         λ i. record {
           name = g .name;
@@ -157,7 +157,7 @@ module _ (g : Group) (f : Formed g) where
         }
 
     ramps-formed : All RampFormed 2 (take (g .ramps) (g .ramp))
-    ramps-formed = let l = f .shape .ramp in let m = ramps-most g e in all-taken RampFormed 2 noRamp (g .ramp) (g .ramps) (omega arith) (λ i k u. tt)
+    ramps-formed = let l = f .shape .ramp in let m = ramps-most g e in all-taken RampFormed 2 blankRamp (g .ramp) (g .ramps) (omega arith) (λ i k u. tt)
 
     grids-formed : All (GridsFormed (headOfGroup g)) (2 + g .ramps) (take (g .grids) (g .grid))
     grids-formed =
@@ -182,26 +182,26 @@ module _ (g : Group) (f : Formed g) where
       in-grids : (e : headFits g ≡ true) → some (badRamp g) (g .ramps) ≡ false → (b : Bool) → some (badGrid g) (g .grids) ≡ b → judgedReading (readLines (headerText g)) ≡ verdictReading g (judged g)
       in-grids e s true t =
           stop (first (badGrid g) (g .grids) + (2 + g .ramps))
-          (grid-stops rampLine rampText RampFormed rampFits ramp-kind gridLines gridText GridsFormed gridFits Always grid-lines noRamp noGrid (headOfGroup g) (g .ramp) (g .grid) head-formed (sym head-numbers ∙ e)
+          (grid-stops rampLine rampText RampFormed rampFits ramp-kind gridLines gridText GridsFormed gridFits Always grid-lines blankRamp noGrid (headOfGroup g) (g .ramp) (g .grid) head-formed (sym head-numbers ∙ e)
           (ramps-room e) (ramps-formed e) s (grids-room e) (grids-formed e) t)
           (judged-grid e s t)
       in-grids e s false t =
           ap judgedReading
-          (all-read rampLine rampText RampFormed rampFits ramp-kind gridLines gridText GridsFormed gridFits Always grid-lines noRamp noGrid (headOfGroup g) (g .ramp) (g .grid) head-formed (sym head-numbers ∙ e)
+          (all-read rampLine rampText RampFormed rampFits ramp-kind gridLines gridText GridsFormed gridFits Always grid-lines blankRamp noGrid (headOfGroup g) (g .ramp) (g .grid) head-formed (sym head-numbers ∙ e)
           (ramps-room e) (ramps-formed e) s (grids-room e) (grids-formed e) t)
           ∙ (λ i. verdictReading (group-back e i) (judged (group-back e i)))
 
       in-ramps : (e : headFits g ≡ true) (b : Bool) → some (badRamp g) (g .ramps) ≡ b → judgedReading (readLines (headerText g)) ≡ verdictReading g (judged g)
       in-ramps e true s =
           stop (first (badRamp g) (g .ramps) + 2)
-          (ramp-stops rampLine rampText RampFormed rampFits ramp-kind gridLines gridText GridsFormed gridFits Always grid-lines noRamp noGrid (headOfGroup g) (g .ramp) (g .grid) head-formed (sym head-numbers ∙ e)
+          (ramp-stops rampLine rampText RampFormed rampFits ramp-kind gridLines gridText GridsFormed gridFits Always grid-lines blankRamp noGrid (headOfGroup g) (g .ramp) (g .grid) head-formed (sym head-numbers ∙ e)
           (ramps-room e) (ramps-formed e) s)
           (judged-ramp e s)
       in-ramps e false s = in-grids e s (some (badGrid g) (g .grids)) refl
 
       in-head : (b : Bool) → headFits g ≡ b → judgedReading (readLines (headerText g)) ≡ verdictReading g (judged g)
       in-head false e =
-          stop 1 (head-stops rampLine rampText RampFormed rampFits ramp-kind gridLines gridText GridsFormed gridFits Always grid-lines noRamp noGrid (headOfGroup g) (g .ramp) (g .grid) head-formed (sym head-numbers ∙ e)) (judged-head e)
+          stop 1 (head-stops rampLine rampText RampFormed rampFits ramp-kind gridLines gridText GridsFormed gridFits Always grid-lines blankRamp noGrid (headOfGroup g) (g .ramp) (g .grid) head-formed (sym head-numbers ∙ e)) (judged-head e)
       in-head true e = in-ramps e (some (badRamp g) (g .ramps)) refl
 
 -- ---- an accepted group's text reads back as that group

@@ -11,10 +11,11 @@ use lib.IntN.{pos}
 use Rattle.text.specs.Decimal.{intText}
 use Rattle.text.proofs.PutLaws.{line-length}
 use Rattle.text.proofs.DecimalLaws.{intText-length, posText-length}
-use Rattle.text.proofs.FieldLaws.{and-parts}
+use Rattle.numbers.proofs.Bools.{and-parts}
 use Rattle.group.specs.Numbers.{nameMost}
 use Rattle.group.specs.Limits.{nameFits, headNumbersFit, headFits, rampFits, gridFits}
-use Rattle.group.specs.Record.{noRamp, noGrid, rampAt, gridAt}
+use Rattle.group.specs.Blank.{blankRamp}
+use Rattle.group.specs.Record.{noGrid, rampAt, gridAt}
 use Rattle.group.specs.declared.Name.{Name}
 use Rattle.group.specs.declared.Unit as U
 use Rattle.group.specs.declared.Unit.the-variants.{ArcSecond, Metre}
@@ -120,7 +121,7 @@ module _ (g : Group) (e : judged g ≡ Accepted) where
   unfolding headerText
   length-most =
       let h = head-length (headOfGroup g) (head-parts .0) (head-parts .1) in
-      let r = taken-length rampText noRamp 43 (g .ramps) (g .ramp) (λ k l. ramp-length (rampAt g k) (accepted g e .ramp k l)) in
+      let r = taken-length rampText blankRamp 43 (g .ramps) (g .ramp) (λ k l. ramp-length (rampAt g k) (accepted g e .ramp k l)) in
       let d = taken-length gridText noGrid 97 (g .grids) (g .grid) (λ k l. grid-length (gridAt g k) (accepted g e .grid k l)) in
       let m = accepted-head g e .ramps in let n = accepted-head g e .grids in
       let x = length-take (g .ramps) (g .ramp) in

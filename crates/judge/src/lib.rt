@@ -7,7 +7,8 @@ ghost use lib.IntN.{pos};
 ghost use lib.ListN.{length, set, getD};
 ghost use Rattle.numbers.specs.First.{first, some};
 ghost use Rattle.group.specs.declared.Verdict.the-variants.{Accepted};
-ghost use Rattle.group.specs.Record.{noRamp, gridAt};
+ghost use Rattle.group.specs.Blank.{blankRamp};
+ghost use Rattle.group.specs.Record.{gridAt};
 ghost use Rattle.group.specs.Numbers.{rampsMost, gridsMost};
 ghost use Rattle.group.specs.Limits.{nameFits, headNumbersFit};
 ghost use Rattle.flat.specs.Lists.{Sided};
@@ -71,8 +72,8 @@ fn ramp_breaks(rule: RampRule, r: Ramp, behind: bool) -> bool
 
 // The first of n ramp entries that breaks a rule, n if none does; those before one are known to keep it.
 fn first_ramp(rule: RampRule, ramps: [Ramp; group::RAMPS_MOST], used: u64, from: u64, n: u64) -> u64
-    requires { ⌜ (from ≤ n) × (n ≤ rampsMost) × ((k : ℕ) → k < from → rampTest rule (leb used k) (getD ramps k noRamp) ≡ false) ⌝ }
-    ensures { λ r. ⌜ r ≡ first (λ k. rampTest rule (leb used k) (getD ramps k noRamp)) n ⌝ }
+    requires { ⌜ (from ≤ n) × (n ≤ rampsMost) × ((k : ℕ) → k < from → rampTest rule (leb used k) (getD ramps k blankRamp) ≡ false) ⌝ }
+    ensures { λ r. ⌜ r ≡ first (λ k. rampTest rule (leb used k) (getD ramps k blankRamp)) n ⌝ }
 {
     let mut i: u64 = from;
     while i < n {

@@ -8,16 +8,16 @@ use native.Mathlib.Omega.{arith}
 use lib.IntN.{ℤ, pos}
 use lib.ListN.{length, List·getD-append}
 use lib.Seq.{getD-append-add}
-use Rattle.numbers.specs.Order.{between}
+use Rattle.numbers.specs.Order.{between, beyond, countOf}
 use Rattle.group.specs.Numbers.{rampsMost, gridsMost}
 use Rattle.layout.specs.Words.{nameWords, headWords, rampWords, gridWords, rampPlace, gridPlace}
-use Rattle.group.specs.Numbers.{beyond}
 use Rattle.group.specs.declared.Name.{Name}
 use Rattle.group.specs.declared.Unit.{Unit}
 use Rattle.group.specs.declared.Unit.the-variants.{ArcSecond, Metre}
 use Rattle.group.specs.declared.Group.{Group}
-use Rattle.group.specs.Record.{noRamp, noGrid, rampAt, gridAt}
-use Rattle.layout.specs.Layout.{numberAt, countOf, countAt, nameOf, unitOf, rampOf, gridOf, groupOf, stored, unitNumber, joined, wordOf, nameNumber, rampNumbers, gridNumbers, headNumbers, numbersOf, most, KeptName, KeptGrid, Kept}
+use Rattle.group.specs.Blank.{blankRamp}
+use Rattle.group.specs.Record.{noGrid, rampAt, gridAt}
+use Rattle.layout.specs.Layout.{numberAt, countAt, nameOf, unitOf, rampOf, gridOf, groupOf, stored, unitNumber, joined, wordOf, nameNumber, rampNumbers, gridNumbers, headNumbers, numbersOf, most, KeptName, KeptGrid, Kept}
 use Rattle.layout.proofs.ListLaws.{length-joined, getD-joined, listOf-is}
 use Rattle.layout.proofs.WordLaws.{word-most, name-back}
 
@@ -135,7 +135,7 @@ module _ (g : Group) where
       let parameters = count-back _ (g .parameters) (h .parameters) (head-number 6 (omega arith)) in
       let rs = count-back _ (g .ramps) (h .ramps) (head-number 7 (omega arith)) in
       let gs = count-back _ (g .grids) (h .grids) (head-number 8 (omega arith)) in
-      let ramp = listOf-is (rampOf (numbersOf g)) noRamp rampsMost (g .ramp) (h .ramp) ramp-back in
+      let ramp = listOf-is (rampOf (numbersOf g)) blankRamp rampsMost (g .ramp) (h .ramp) ramp-back in
       let grid = listOf-is (gridOf (numbersOf g)) noGrid gridsMost (g .grid) (h .grid) (λ k l. grid-back k l (h .kept k l)) in
       λ i. record {
         name = name i;

@@ -12,7 +12,8 @@ use Rattle.numbers.proofs.OrderLaws.{zero-of}
 use Rattle.group.specs.Numbers.{nameMost, isZero}
 use Rattle.group.specs.Blank.{blankName, blankGrid}
 use Rattle.layout.specs.Words.{gridPlace}
-use Rattle.layout.specs.Layout.{numberAt, countOf, countAt, byteOf, nameOf, gridOf, clearFrom}
+use Rattle.numbers.specs.Order.{countOf}
+use Rattle.layout.specs.Layout.{numberAt, countAt, byteOf, nameOf, gridOf, clearFrom}
 use Rattle.layout.proofs.ListLaws.{listOf-is}
 
 -- each of four numbers that are all 0

@@ -1,26 +1,17 @@
 -- Signed numbers of a list where the record is unsigned, and signed numbers that a callee told.
 use mathlib.Core.Path.{_≡_, refl, _∙_}
-use mathlib.Core.Bool.{true, false, cond}
+use mathlib.Core.Bool.{cond}
 use native.Mathlib.Omega.{arith}
-use borrow.Author.Tests.{ltb-true, le-leb, lt-leb}
+use borrow.Author.Tests.{le-leb, lt-leb}
 use Rattle.numbers.specs.Order.{between}
-use Rattle.group.specs.Numbers.{beyond}
 use Rattle.group.specs.declared.Unit.the-variants.{ArcSecond, Metre}
-use lib.IntN.{ℤ, pos, negsuc, natAbs}
-use lib.Signed.{ltZ, mag}
+use lib.IntN.{ℤ, pos, negsuc}
+use lib.Signed.{mag}
 use mir.Syntax.{w64}
 use mir.Val.{toZ, ofZ}
 use mir.Facts.{toZ-ofZ}
-use Prim.Native.Nat.{ℕ, zero, suc, _<_, _^_}
-use Rattle.layout.specs.Layout.{countOf, unitOf}
-
-pub count-below : (z : ℤ) → ltZ z (pos 0) ≡ true → countOf z ≡ beyond
-count-below (pos n) e = absurd (let h = ltb-true n 0 e in omega arith)
-count-below (negsuc n) e = refl
-
-pub count-above : (z : ℤ) → ltZ z (pos 0) ≡ false → countOf z ≡ natAbs z
-count-above (pos n) e = refl
-count-above (negsuc n) e = absurd (let z : _≡_ {A = ℕ} 0 1 = cc in omega arith)
+use Prim.Native.Nat.{zero, suc, _<_, _^_}
+use Rattle.layout.specs.Layout.{unitOf}
 
 -- a result, read back of its bits
 pub told : {x y : ℤ} → mag x < 2 ^ 63 → x ≡ y → toZ w64 (ofZ w64 x) ≡ y

@@ -5,7 +5,7 @@ use mathlib.Core.Bool.{Bool, cond, _&&_}
 use mathlib.Core.List.{List, [], _∷_, _++_}
 use lib.IntN.{ℤ, pos, negsuc}
 use lib.ListN.{length, getD}
-use Rattle.numbers.specs.Order.{between}
+use Rattle.numbers.specs.Order.{between, beyond, countOf}
 use Rattle.group.specs.declared.Name.{Name}
 use Rattle.group.specs.declared.Unit.{Unit}
 use Rattle.group.specs.declared.Unit.the-variants.{ArcSecond, Metre}
@@ -13,7 +13,7 @@ use Rattle.group.specs.declared.Ramp.{Ramp}
 use Rattle.group.specs.declared.Grid.{Grid}
 use Rattle.group.specs.declared.Group.{Group}
 use Rattle.group.specs.Record.{rampAt, gridAt}
-use Rattle.group.specs.Numbers.{nameMost, rampsMost, gridsMost, beyond, isZero}
+use Rattle.group.specs.Numbers.{nameMost, rampsMost, gridsMost, isZero}
 use Rattle.layout.specs.Words.{lengthPlace, unitPlace, quantumPlace, parametersPlace, rampsPlace, gridsPlace, rampPlace, gridPlace}
 
 -- ---- from the lists to the record
@@ -23,11 +23,6 @@ numberAt ns k = getD ns k (pos 0)
 
 abbrev pub byteAt : List ℕ → ℕ → ℕ
 byteAt bs k = getD bs k 0
-
--- a number where the record is unsigned: below zero it is beyond its limit
-abbrev pub countOf : ℤ → ℕ
-countOf (pos n) = n
-countOf (negsuc n) = beyond
 
 abbrev pub countAt : List ℤ → ℕ → ℕ
 countAt ns k = countOf (numberAt ns k)

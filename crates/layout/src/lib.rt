@@ -4,13 +4,12 @@ ghost use mathlib.Core.Bool.{true};
 ghost use Prim.Native.Nat.{_+_, _*_, _/_, _%_, _≤_, _<_};
 ghost use lib.ListN.{length, getD};
 ghost use lib.Seq.{sets};
-ghost use Rattle.group.specs.Record.{noRamp, noGrid};
-ghost use Rattle.group.specs.Blank.{blankGrid};
+ghost use Rattle.group.specs.Record.{noGrid};
+ghost use Rattle.group.specs.Blank.{blankGrid, blankRamp};
 ghost use Rattle.group.specs.Numbers.{nameMost, rampsMost, gridsMost};
 ghost use Rattle.layout.specs.Words.{nameWords, headWords, gridsFrom, groupWords};
-ghost use Rattle.layout.specs.Layout.{numberAt, countOf, countAt, listOf, byteOf, nameOf, unitOf, quantumOf, rampOf, gridOf, groupOf, clearFrom};
+ghost use Rattle.layout.specs.Layout.{numberAt, countAt, listOf, byteOf, nameOf, unitOf, quantumOf, rampOf, gridOf, groupOf, clearFrom};
 ghost use Rattle.layout.specs.Layout.{stored, unitNumber, fourOf, nameNumber, rampNumbers, gridNumbers, headNumbers, joined, numbersOf};
-use group::BEYOND;
 use group::GRIDS_MOST;
 use group::Grid;
 use group::Group;
@@ -92,21 +91,11 @@ pub fn number_at(numbers: &[i64], k: usize) -> i64
     0
 }
 
-// A number where the record is unsigned: below zero it is beyond every limit.
-pub fn count_of(x: i64) -> u64
-    ensures { λ r. ⌜ r ≡ countOf x ⌝ }
-{
-    if numbers::negative(x) {
-        return BEYOND;
-    }
-    numbers::magnitude(x)
-}
-
 // Number k of a list where the record is unsigned.
 pub fn count_at(numbers: &[i64], k: usize) -> u64
     ensures { λ r. ⌜ r ≡ countAt (now (numbers .entry)) k ⌝ }
 {
-    count_of(number_at(numbers, k))
+    numbers::count_of(number_at(numbers, k))
 }
 
 // Number k of a group's numbers.
@@ -122,7 +111,7 @@ fn count_in(numbers: &[i64; GROUP_WORDS], k: usize) -> u64
     requires { ⌜ k < groupWords ⌝ }
     ensures { λ r. ⌜ r ≡ countAt (now (numbers .entry)) k ⌝ }
 {
-    count_of(number_in(numbers, k))
+    numbers::count_of(number_in(numbers, k))
 }
 
 // Byte j of eight that a number holds, the lowest first.
@@ -180,7 +169,7 @@ fn quantum_of(numbers: &[i64; GROUP_WORDS]) -> u64
     if (0 <= u) & (u <= 1) {
         return count_in(numbers, QUANTUM);
     }
-    BEYOND
+    numbers::BEYOND
 }
 
 // Ramp k of a group's numbers.
@@ -404,7 +393,7 @@ fn grid_numbers(g: Grid) -> [i64; GRID_WORDS]
 // Stores the numbers of all ramps.
 fn put_ramps(out: &mut [i64], ramps: [Ramp; RAMPS_MOST])
     requires { ⌜ gridsFrom ≤ length (now out) ⌝ }
-    ensures { λ _. ⌜ now (out .exit) ≡ sets (now (out .entry)) headWords (joined (λ k. rampNumbers (getD ramps k noRamp)) rampsMost) ⌝ }
+    ensures { λ _. ⌜ now (out .exit) ≡ sets (now (out .entry)) headWords (joined (λ k. rampNumbers (getD ramps k blankRamp)) rampsMost) ⌝ }
 {
     let mut i = 0;
     while i < RAMPS_MOST {

@@ -1,24 +1,24 @@
 -- What the limits of each line say of the sizes of its numbers.
 use Prim.Native.Nat.{ℕ, _<_, _≤_}
-use mathlib.Core.Path.{_≡_, refl, sym}
-use mathlib.Core.Bool.{true, false, _&&_, and-false}
+use mathlib.Core.Path.{_≡_, refl}
+use mathlib.Core.Bool.{true, _&&_, and-false}
 use mathlib.Core.List.{List, [], _∷_}
 use native.Mathlib.Omega.{arith}
 use lib.Dec.{leb}
 use lib.ListN.{length}
 use lib.IntN.{ℤ, pos, negsuc, natAbs}
-use lib.Signed.{leZ, ltZ}
-use borrow.Author.Tests.{leb-true, lt-leb, ltb-true}
-use Rattle.numbers.specs.Order.{between}
-use Rattle.numbers.proofs.Bools.{and-right}
+use lib.Signed.{leZ}
+use borrow.Author.Tests.{leb-true, lt-leb}
+use Rattle.numbers.specs.Order.{between, beyond, countOf}
+use Rattle.numbers.proofs.Bools.{and-right, and-parts}
 use Rattle.numbers.proofs.OrderLaws.{within-size}
-use Rattle.text.proofs.FieldLaws.{false-not-true, and-parts}
-use Rattle.group.specs.Numbers.{lonEdgeMost, latEdgeMost, lonEdgeFits, latEdgeFits, quantumMost, parametersMost, rampsMost, gridsMost, spacingMost, nodesLeast, nodesMost, rankMost, startMost, dayMost, dayFits, rampFactorMost, rampFactorFits, beyond}
+use Rattle.text.proofs.FieldLaws.{false-not-true}
+use Rattle.group.specs.Numbers.{lonEdgeMost, latEdgeMost, lonEdgeFits, latEdgeFits, quantumMost, parametersMost, rampsMost, gridsMost, spacingMost, nodesLeast, nodesMost, rankMost, startMost, dayMost, dayFits, rampFactorMost, rampFactorFits}
 use Rattle.group.proofs.LimitLaws.{spacing-size}
 use Rattle.group.specs.Limits.{spacingFits, headNumbersFit, rampNumbersFit, originFits, countsFit, nameFits, gridFits}
 use Rattle.group.specs.declared.Name.{Name}
 use Rattle.group.specs.declared.Unit as U
-use Rattle.line.specs.Lines.{headFit, headOf, rampFit, gridFit, gridOf, counted, countedHead, countedGrid}
+use Rattle.line.specs.Lines.{headFit, headOf, rampFit, gridFit, gridOf, countedHead, countedGrid}
 use Rattle.line.proofs.LineLaws.{Small, four-of, eight-of}
 
 -- a number of a span that begins at 0 or above
@@ -79,27 +79,19 @@ grid-small =
 
 -- ---- a number below zero is judged as one beyond every limit
 
-between-counted : (lo hi : ℕ) (z : ℤ) → hi < beyond → between (pos lo) (pos hi) (pos (counted z)) ≡ between (pos lo) (pos hi) z
+between-counted : (lo hi : ℕ) (z : ℤ) → hi < beyond → between (pos lo) (pos hi) (pos (countOf z)) ≡ between (pos lo) (pos hi) z
 between-counted lo hi (pos n) h = refl
 between-counted lo hi (negsuc n) h = simp (lt-leb beyond hi h, and-false)
 
-counted-in : (z : ℤ) → pos (natAbs z) ≡ z → counted z ≡ natAbs z
+counted-in : (z : ℤ) → pos (natAbs z) ≡ z → countOf z ≡ natAbs z
 counted-in (pos n) e = refl
 counted-in (negsuc n) e = let x : _≡_ {A = ℕ} 0 1 = cc in absurd (omega arith)
 
-pub counted-below : (z : ℤ) → ltZ z (pos 0) ≡ true → counted z ≡ beyond
-counted-below (pos n) e = absurd (let h = ltb-true n 0 e in omega arith)
-counted-below (negsuc n) e = refl
-
-pub counted-above : (z : ℤ) → ltZ z (pos 0) ≡ false → counted z ≡ natAbs z
-counted-above (pos n) e = refl
-counted-above (negsuc n) e = false-not-true (sym e)
-
 module _ (a b c d : ℤ) where
-  pub head-counted : headNumbersFit (pos (counted a)) (pos (counted b)) (pos (counted c)) (pos (counted d)) ≡ headNumbersFit a b c d
+  pub head-counted : headNumbersFit (pos (countOf a)) (pos (countOf b)) (pos (countOf c)) (pos (countOf d)) ≡ headNumbersFit a b c d
   head-counted = rw (between-counted 0 quantumMost a (omega arith), between-counted 1 parametersMost b (omega arith), between-counted 0 rampsMost c (omega arith), between-counted 1 gridsMost d (omega arith))
 
-  counts-counted : countsFit (pos (counted a)) (pos (counted b)) (pos (counted c)) (pos (counted d)) ≡ countsFit a b c d
+  counts-counted : countsFit (pos (countOf a)) (pos (countOf b)) (pos (countOf c)) (pos (countOf d)) ≡ countsFit a b c d
   counts-counted = rw (between-counted nodesLeast nodesMost a (omega arith), between-counted nodesLeast nodesMost b (omega arith), between-counted 1 rankMost c (omega arith), between-counted 0 startMost d (omega arith))
 
   pub head-made : (n : Name) (u : U.Unit) → headNumbersFit a b c d ≡ true → countedHead n u a b c d ≡ headOf (n, u) (a ∷ b ∷ c ∷ d ∷ [])

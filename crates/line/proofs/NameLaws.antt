@@ -13,10 +13,10 @@ use lib.Seq.{drop-cons, take-at, take-suc, set-at, length-take-le, append-snoc, 
 use borrow.Author.Tests.{le-leb, lt-leb, leb-true, lt-ltb, le-ltb, eqb-true, ne-eqb}
 use Rattle.numbers.specs.First.{every}
 use Rattle.numbers.proofs.FirstLaws.{every-at, all-every}
-use Rattle.numbers.proofs.Bools.{and-left, and-right}
+use Rattle.numbers.proofs.Bools.{and-left, and-right, and-parts}
 use Rattle.text.specs.Fields.{same}
 use Rattle.text.proofs.PartLaws.{Free}
-use Rattle.text.proofs.FieldLaws.{false-not-true, and-parts, same-true}
+use Rattle.text.proofs.FieldLaws.{false-not-true, same-true}
 use Rattle.group.specs.Numbers.{nameMost}
 use Rattle.group.specs.Limits.{nameByte, byteFits, nameFits, nameBlank}
 use Rattle.group.specs.declared.Name.{Name}

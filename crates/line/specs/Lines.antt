@@ -5,11 +5,11 @@ use mathlib.Core.List.{List, [], _∷_, map}
 use mathlib.Core.Option.{Option, none, some}
 use lib.Dec.{eqb}
 use lib.ListN.{length, getD, drop}
-use lib.IntN.{ℤ, pos, negsuc, natAbs}
+use lib.IntN.{ℤ, pos, natAbs}
 use Rattle.text.specs.Parts.{split, join}
 use Rattle.text.specs.Decimal.{intText}
 use Rattle.text.specs.Fields.{same, readInts}
-use Rattle.group.specs.Numbers.{beyond}
+use Rattle.numbers.specs.Order.{countOf}
 use Rattle.group.specs.Limits.{headNumbersFit, rampNumbersFit, originFits, countsFit}
 use Rattle.group.specs.declared.Refusal.{Refusal}
 use Rattle.group.specs.declared.Name.{Name}
@@ -146,13 +146,9 @@ gridText g = join 9 (gridWord ∷ nameText (g .name) ∷ map intText (gridInts g
 
 -- ---- as a record's unsigned number, a number below zero is beyond every limit
 
-abbrev pub counted : ℤ → ℕ
-counted (pos n) = n
-counted (negsuc n) = beyond
-
 abbrev pub countedHead : Name → U.Unit → ℤ → ℤ → ℤ → ℤ → Head
 countedHead n u a b c d =
-    record { name = n; unit = u; quantum = counted a; parameters = counted b; ramps = counted c; grids = counted d }
+    record { name = n; unit = u; quantum = countOf a; parameters = countOf b; ramps = countOf c; grids = countOf d }
 
 abbrev pub countedGrid : Name → ℤ → ℤ → ℤ → ℤ → ℤ → ℤ → ℤ → ℤ → Grid
 countedGrid n a b c d e f g h =
@@ -162,8 +158,8 @@ countedGrid n a b c d e f g h =
       lat = record { 0 = b };
       dlon = c;
       dlat = d;
-      ni = counted e;
-      nj = counted f;
-      rank = counted g;
-      start = counted h;
+      ni = countOf e;
+      nj = countOf f;
+      rank = countOf g;
+      start = countOf h;
     }

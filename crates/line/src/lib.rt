@@ -10,7 +10,7 @@ ghost use Rattle.group.specs.Numbers.{nameMost};
 ghost use Rattle.line.specs.Names.{isName, nameOf, nameText, readUnit, unitText};
 ghost use Rattle.group.specs.Refusals.{refusal};
 ghost use Rattle.line.specs.Line.{bad};
-ghost use Rattle.line.specs.Lines.{headLine, headText, rampLine, rampText, gridLine, gridText, counted, countedHead, countedGrid};
+ghost use Rattle.line.specs.Lines.{headLine, headText, rampLine, rampText, gridLine, gridText, countedHead, countedGrid};
 ghost use Rattle.line.specs.Blank.{blankHead};
 ghost use Rattle.line.specs.Answers.{formOf, unitAnswer, headAnswer, rampAnswer, gridAnswer};
 use group::Grid;
@@ -138,24 +138,14 @@ fn opens(line: &[u8], word: &[u8]) -> bool
     text::same_bytes(text::field(line, 0), word)
 }
 
-// A number as a record's unsigned number; one below zero is beyond every limit.
-fn count_of(z: i64) -> u64
-    ensures { λ r. ⌜ r ≡ counted z ⌝ }
-{
-    if numbers::negative(z) {
-        return group::BEYOND;
-    }
-    numbers::magnitude(z)
-}
-
 // The group line of a name, a unit and four numbers.
 fn head_made(name: Name, unit: Unit, a: i64, b: i64, c: i64, d: i64) -> Head
     ensures { λ r. ⌜ r ≡ countedHead name unit a b c d ⌝ }
 {
-    let quantum = count_of(a);
-    let parameters = count_of(b);
-    let ramps = count_of(c);
-    let grids = count_of(d);
+    let quantum = numbers::count_of(a);
+    let parameters = numbers::count_of(b);
+    let ramps = numbers::count_of(c);
+    let grids = numbers::count_of(d);
     Head {
         name,
         unit,
@@ -170,10 +160,10 @@ fn head_made(name: Name, unit: Unit, a: i64, b: i64, c: i64, d: i64) -> Head
 fn grid_made(name: Name, a: i64, b: i64, c: i64, d: i64, e: i64, f: i64, g: i64, h: i64) -> Grid
     ensures { λ r. ⌜ r ≡ countedGrid name a b c d e f g h ⌝ }
 {
-    let ni = count_of(e);
-    let nj = count_of(f);
-    let rank = count_of(g);
-    let start = count_of(h);
+    let ni = numbers::count_of(e);
+    let nj = numbers::count_of(f);
+    let rank = numbers::count_of(g);
+    let start = numbers::count_of(h);
     Grid {
         name,
         lon: Longitude(a),

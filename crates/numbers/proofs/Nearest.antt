@@ -5,14 +5,7 @@ use native.Mathlib.Nat.{mul-le-mul-right, mul-le-mul-left, mul-pos, mul-assoc, m
 use native.Mathlib.Decide.{decLt}
 use native.Mathlib.Omega.{arith}
 use borrow.Author.Tests.{lt-ltb, le-ltb}
-use Rattle.numbers.specs.Round.{gain, nearest}
-
--- q is a nearest whole number to n over d, and even at a tie: 2·|q·d − n| ≤ d
-pub record Near (n d q : ℕ) : Type 0 where
-  pub above : 2 * (q * d) ≤ 2 * n + d
-  pub below : 2 * n ≤ 2 * (q * d) + d
-  pub even-above : 2 * (q * d) ≡ 2 * n + d → q % 2 ≡ 0
-  pub even-below : 2 * n ≡ 2 * (q * d) + d → q % 2 ≡ 0
+use Rattle.numbers.specs.Round.{gain, nearest, IsNearest}
 
 -- ---- the three ways of a gain
 pub gain-0 : (t d q : ℕ) → t < d → gain t d q ≡ 0
@@ -39,7 +32,7 @@ three-ways {C = C} a b f g h = go (decLt a b) (decLt b a)
 -- ---- `nearest` is near
 
 -- from the parts of a division: q·d + r ≡ n with r below d, and a gain g
-pub near-parts : (n d q r g : ℕ) → q * d + r ≡ n → r < d → (2 * r < d → g ≡ 0) → (2 * r ≡ d → g ≡ q % 2) → (d < 2 * r → g ≡ 1) → Near n d (q + g)
+pub near-parts : (n d q r g : ℕ) → q * d + r ≡ n → r < d → (2 * r < d → g ≡ 0) → (2 * r ≡ d → g ≡ q % 2) → (d < 2 * r → g ≡ 1) → IsNearest n d (q + g)
 near-parts n d q r g e lt f t h = three-ways (2 * r) d less tie more
   where
     at-0 : g ≡ 0 → (q + g) * d ≡ q * d
@@ -48,17 +41,17 @@ near-parts n d q r g e lt f t h = three-ways (2 * r) d less tie more
     at-1 : g ≡ 1 → (q + g) * d ≡ q * d + d
     at-1 e1 = ap (λ (x : ℕ). x * d) (omega arith) ∙ suc-mul q d
 
-    less : 2 * r < d → Near n d (q + g)
+    less : 2 * r < d → IsNearest n d (q + g)
     less l =
         let z = f l in let m = at-0 z in
         record { above = omega arith; below = omega arith; even-above = λ p. omega arith; even-below = λ p. omega arith }
 
-    more : d < 2 * r → Near n d (q + g)
+    more : d < 2 * r → IsNearest n d (q + g)
     more l =
         let z = h l in let m = at-1 z in
         record { above = omega arith; below = omega arith; even-above = λ p. omega arith; even-below = λ p. omega arith }
 
-    tie : 2 * r ≡ d → Near n d (q + g)
+    tie : 2 * r ≡ d → IsNearest n d (q + g)
     tie l =
         let z = t l in
         three-ways (q % 2) 1
@@ -70,7 +63,7 @@ near-parts n d q r g e lt f t h = three-ways (2 * r) d less tie more
         record { above = omega arith; below = omega arith; even-above = λ p. omega arith; even-below = λ p. omega arith })
         (λ p. absurd (omega arith))
 
-pub nearest-near : (n d : ℕ) → 0 < d → Near n d (nearest n d)
+pub nearest-near : (n d : ℕ) → 0 < d → IsNearest n d (nearest n d)
 unfolding nearest
 nearest-near n zero h = absurd (omega arith)
 nearest-near n (suc m) h =
@@ -83,7 +76,7 @@ unfolding nearest
 nearest-zero n = refl
 
 -- ---- and only `nearest` is
-not-below : (n d p q : ℕ) → 0 < d → Near n d p → Near n d q → p < q → ⊥
+not-below : (n d p q : ℕ) → 0 < d → IsNearest n d p → IsNearest n d q → p < q → ⊥
 not-below n d p q pos-d a b h =
     let m : suc p * d ≤ q * d = mul-le-mul-right d h in
     let s = suc-mul p d in
@@ -94,10 +87,10 @@ not-below n d p q pos-d a b h =
     let y : q % 2 ≡ 0 = b .even-above (omega arith) in
     omega arith
 
-pub near-unique : (n d p q : ℕ) → 0 < d → Near n d p → Near n d q → p ≡ q
+pub near-unique : (n d p q : ℕ) → 0 < d → IsNearest n d p → IsNearest n d q → p ≡ q
 near-unique n d p q h a b = three-ways p q (λ l. absurd (not-below n d p q h a b l)) (λ e. e) (λ l. absurd (not-below n d q p h b a l))
 
-pub near-nearest : (n d q : ℕ) → 0 < d → Near n d q → q ≡ nearest n d
+pub near-nearest : (n d q : ℕ) → 0 < d → IsNearest n d q → q ≡ nearest n d
 near-nearest n d q h a = near-unique n d q (nearest n d) h a (nearest-near n d h)
 
 -- ---- from the parts of a division: what code computes
@@ -129,7 +122,7 @@ tie-even n d k h e = three-ways (nearest n d) k
     let m = mul-le-mul-right d l in let s = suc-mul k d in let b = a .above in
     a .even-above (omega arith))
   where
-    a : Near n d (nearest n d)
+    a : IsNearest n d (nearest n d)
     a = nearest-near n d h
 
 pub nearest-multiple : (k d : ℕ) → 0 < d → nearest (k * d) d ≡ k

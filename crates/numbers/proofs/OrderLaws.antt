@@ -10,7 +10,7 @@ use mir.Syntax.{w64}
 use mir.Val.{SFits}
 use borrow.Author.Tests.{leb-true, leb-false, ltb-true, le-leb, lt-leb}
 use Rattle.numbers.proofs.Bools.{and-left, and-right, both, same-test}
-use Rattle.numbers.specs.Order.{between, within, raised, minZ, maxZ}
+use Rattle.numbers.specs.Order.{between, within, raised, minZ, maxZ, beyond, countOf}
 
 -- sizes
 pub size-fits : (z : ℤ) → natAbs z < 2 ^ 63 → SFits w64 z
@@ -145,3 +145,12 @@ leZ-size m a (pos b) (pos z) f g h k = omega (arith, leb-true z b k)
 leZ-size m a (negsuc b) (pos z) f g h k = absurd (let w : _≡_ {A = ℕ} 0 1 = cc in omega arith)
 leZ-size m (pos a) b (negsuc z) f g h k = absurd (let w : _≡_ {A = ℕ} 0 1 = cc in omega arith)
 leZ-size m (negsuc a) b (negsuc z) f g h k = omega (arith, leb-true z a h)
+
+-- a signed number where numbers are unsigned, by the test of its sign
+pub count-below : (z : ℤ) → ltZ z (pos 0) ≡ true → countOf z ≡ beyond
+count-below (pos n) e = absurd (let h = ltb-true n 0 e in omega arith)
+count-below (negsuc n) e = refl
+
+pub count-above : (z : ℤ) → ltZ z (pos 0) ≡ false → countOf z ≡ natAbs z
+count-above (pos n) e = refl
+count-above (negsuc n) e = absurd (let z : _≡_ {A = ℕ} 0 1 = cc in omega arith)

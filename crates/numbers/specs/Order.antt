@@ -1,4 +1,5 @@
--- Signed numbers: the lesser and the greater of two, a limit on the size, and the distance from the least admitted number.
+-- Signed numbers: the lesser and the greater of two, a limit on the size, the distance from the least admitted number, and a signed number
+-- where numbers are unsigned.
 use Prim.Native.Nat.{ℕ, suc, _+_, _-_}
 use mathlib.Core.Bool.{Bool, cond, _&&_}
 use lib.IntN.{ℤ, pos, negsuc, negℤ}
@@ -22,3 +23,12 @@ within m z = between (negℤ (pos m)) (pos m) z
 abbrev pub raised : ℕ → ℤ → ℕ
 raised m (pos n) = m + n
 raised m (negsuc n) = m - suc n
+
+-- what stands for a number below zero where numbers are unsigned: the greatest of 64 bits, beyond every limit
+abbrev pub beyond : ℕ
+beyond = 18446744073709551615
+
+-- a signed number where numbers are unsigned
+abbrev pub countOf : ℤ → ℕ
+countOf (pos n) = n
+countOf (negsuc n) = beyond

@@ -4,7 +4,10 @@ ghost use Prim.Native.Nat.{_+_, _*_, _≤_, _<_, _^_, max, min};
 ghost use lib.IntN.{natAbs, pos, _+ℤ_};
 ghost use lib.Signed.{ltZ};
 ghost use Rattle.numbers.specs.Round.{gain, nearest};
-ghost use Rattle.numbers.specs.Order.{raised};
+ghost use Rattle.numbers.specs.Order.{raised, countOf};
+
+// What stands for a number below zero where numbers are unsigned: beyond every limit.
+pub const BEYOND: u64 = 18446744073709551615;
 
 // A quotient q that left r over from a division by d, rounded: one more above half, at a tie the even one.
 fn settle(q: u64, r: u64, d: u64) -> u64
@@ -60,6 +63,16 @@ pub fn negative(x: i64) -> bool
     ensures { λ r. ⌜ r ≡ ltZ x (pos 0) ⌝ }
 {
     x < 0
+}
+
+// A number where numbers are unsigned; one below zero is BEYOND.
+pub fn count_of(x: i64) -> u64
+    ensures { λ r. ⌜ r ≡ countOf x ⌝ }
+{
+    if negative(x) {
+        return BEYOND;
+    }
+    magnitude(x)
 }
 
 // x + m, and 0 for an x below -m.

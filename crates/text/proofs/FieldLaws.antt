@@ -1,7 +1,7 @@
 -- Laws of a line's fields: a keyword, and numbers that are read and written again.
 use Prim.Native.Nat.{ℕ, zero, suc, _+_, _<_, _≤_}
 use mathlib.Core.Path.{_≡_, refl, sym, ap, _∙_}
-use mathlib.Core.Bool.{Bool, true, false, _&&_}
+use mathlib.Core.Bool.{true, false}
 use mathlib.Core.List.{List, [], _∷_, map}
 use mathlib.Core.Option.{Option, none, some}
 use native.Mathlib.Numerals.{add-one}
@@ -25,9 +25,6 @@ use Rattle.text.proofs.DecimalLaws.{readInt-intText, intText-readInt, i
 
 pub false-not-true : {A : Type 0} → false ≡ true → A
 false-not-true e = let z : _≡_ {A = ℕ} 0 1 = cc in absurd (omega arith)
-
-pub and-parts : (a b : Bool) → (a && b) ≡ true → (a ≡ true) × (b ≡ true)
-and-parts a b e = (and-left a b e, and-right a b e)
 
 pub same-refl : (s : List ℕ) → same s s ≡ true
 same-refl [] = refl

@@ -1,7 +1,7 @@
 -- `bulhyemik_screen_answer` meets its contract.
 use mathlib.Core.Path.{ap, _∙_}
 use mir.Facts.{toZ-ofZ}
-use Rattle.layout.specs.Layout.{countOf}
+use Rattle.numbers.specs.Order.{countOf}
 use Rattle.capi.proofs.AnswerLaws.{shifts-told}
 use borrow.Author.Needs.{needs}
 use Rattle.capi.proofs.bulhyemik_screen_answer.Statement.{statement}

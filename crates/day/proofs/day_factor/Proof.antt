@@ -11,7 +11,7 @@ use mir.ValLaws.{toZ-ofZ}
 use Rattle.group.specs.Numbers.{dayFits, rampFactorMost}
 use Rattle.numbers.proofs.Diff.{Diff, diff-of, diff-one, diff-pos}
 use Rattle.group.specs.declared.Ramp.{Ramp}
-use Rattle.group.specs.Record.{noRamp}
+use Rattle.group.specs.Blank.{blankRamp}
 use Rattle.day.specs.Day.{rampFactor, sumOf, factorOf}
 use Rattle.day.proofs.DayLaws.{sum-none, sum-more, factor-none, factor-some}
 use Rattle.day.proofs.day_factor.Statement.{statement}
@@ -20,7 +20,7 @@ use Rattle.day.proofs.day_factor.Tie as tie
 abbrev Inv-loop : tie.InvT-loop
 Inv-loop n day ramps sum₀ shift₀ i₀ sum shift i =
     (i ≤ n) × (shift ≡ rampFactorMost * i) × (sum ≤ 2 * rampFactorMost * i)
-    × Diff (sumOf (λ k. rampFactor (getD ramps k noRamp) (toZ w64 day)) i) sum shift
+    × Diff (sumOf (λ k. rampFactor (getD ramps k blankRamp) (toZ w64 day)) i) sum shift
 
 abbrev μ-loop : tie.MeasureT-loop
 μ-loop n day ramps sum₀ shift₀ i₀ sum shift i = n - i
@@ -67,9 +67,9 @@ lowered-requires c κs = omega arith
 
 -- the sum of all
 whole : (ramps : List Ramp) (n i : ℕ) (t u r : ℤ) {a x : ℕ} → (n ≡ 0 → ⊥) → i ≡ n → u ≡ t
-    → Diff (sumOf (λ k. rampFactor (getD ramps k noRamp) u) i) a x → Diff r a x → r ≡ factorOf ramps n t
+    → Diff (sumOf (λ k. rampFactor (getD ramps k blankRamp) u) i) a x → Diff r a x → r ≡ factorOf ramps n t
 whole ramps n i t u r h e f p q =
-    diff-one q p ∙ (λ j. sumOf (λ k. rampFactor (getD ramps k noRamp) (f j)) (e j)) ∙ sym (factor-some ramps t n h)
+    diff-one q p ∙ (λ j. sumOf (λ k. rampFactor (getD ramps k blankRamp) (f j)) (e j)) ∙ sym (factor-some ramps t n h)
 
 returns-2 : tie.Need-returns-2 Inv-loop μ-loop
 returns-2 c =

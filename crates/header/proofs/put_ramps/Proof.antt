@@ -2,7 +2,7 @@
 use Prim.Native.Nat.{_-_}
 use native.Mathlib.Omega.{arith}
 use Rattle.text.proofs.PutLaws.{wrote-length}
-use Rattle.group.specs.Record.{noRamp}
+use Rattle.group.specs.Blank.{blankRamp}
 use Rattle.line.specs.Lines.{rampText}
 use Rattle.header.proofs.WriteLaws.{Writes, writes-none, writes-room, writes-more, writes-all}
 use Rattle.header.proofs.put_ramps.Statement.{statement}
@@ -27,7 +27,7 @@ put-ramp-requires : tie.Need-put-ramp-requires Inv-loop μ-loop
 put-ramp-requires c κs =
     let s = c .before .before .before .before .before in
     let l = c .before .before .before .loop in
-    writes-room rampText noRamp (s .args .t1) (s .args .count) (s .args .at) (s .args .out .now) (omega (arith, s .good .0 .1 .0 .1, s .pre .0)) (s .pre .1) (l .next) (l .k) (l .out) (l .inv) (c .before .before .loop-test .taken)
+    writes-room rampText blankRamp (s .args .t1) (s .args .count) (s .args .at) (s .args .out .now) (omega (arith, s .good .0 .1 .0 .1, s .pre .0)) (s .pre .1) (l .next) (l .k) (l .out) (l .inv) (c .before .before .loop-test .taken)
 
 add-k : tie.Need-add-k Inv-loop μ-loop
 add-k c = omega arith
@@ -39,19 +39,19 @@ loop-again : tie.Need-loop-again Inv-loop μ-loop
 loop-again c =
     let s = c .before .before .before .before .before .before .before .before in
     let l = c .before .before .before .before .before .before .loop in
-    writes-more rampText noRamp (s .args .t1) (s .args .count) (s .args .at) (s .args .out .now) (omega (arith, s .good .0 .1 .0 .1, s .pre .0)) (s .pre .1) (l .next) (l .k) (l .out) (l .inv) (c .before .before .before .before .before .loop-test .taken) (c .before .before .put-ramp .result) (c .before .before .put-ramp .last .1 .0) (c .before .before .put-ramp .ensures)
+    writes-more rampText blankRamp (s .args .t1) (s .args .count) (s .args .at) (s .args .out .now) (omega (arith, s .good .0 .1 .0 .1, s .pre .0)) (s .pre .1) (l .next) (l .k) (l .out) (l .inv) (c .before .before .before .before .before .loop-test .taken) (c .before .before .put-ramp .result) (c .before .before .put-ramp .last .1 .0) (c .before .before .put-ramp .ensures)
 
 same-length : tie.Need-same-length Inv-loop μ-loop
 same-length c =
     let s = c .before .before .before in
     let l = c .before .loop in
-    wrote-length (writes-all rampText noRamp (s .args .t1) (s .args .count) (s .args .at) (s .args .out .now) (omega (arith, s .good .0 .1 .0 .1, s .pre .0)) (s .pre .1) (l .next) (l .k) (l .out) (l .inv) (c .loop-test .left)) (s .pre .1)
+    wrote-length (writes-all rampText blankRamp (s .args .t1) (s .args .count) (s .args .at) (s .args .out .now) (omega (arith, s .good .0 .1 .0 .1, s .pre .0)) (s .pre .1) (l .next) (l .k) (l .out) (l .inv) (c .loop-test .left)) (s .pre .1)
 
 returns : tie.Need-returns Inv-loop μ-loop
 returns c =
     let s = c .before .before .before in
     let l = c .before .loop in
-    writes-all rampText noRamp (s .args .t1) (s .args .count) (s .args .at) (s .args .out .now) (omega (arith, s .good .0 .1 .0 .1, s .pre .0)) (s .pre .1) (l .next) (l .k) (l .out) (l .inv) (c .loop-test .left)
+    writes-all rampText blankRamp (s .args .t1) (s .args .count) (s .args .at) (s .args .out .now) (omega (arith, s .good .0 .1 .0 .1, s .pre .0)) (s .pre .1) (l .next) (l .k) (l .out) (l .inv) (c .loop-test .left)
 
 pub put-ramps-spec : {M : Type 1} → statement M
 put-ramps-spec =

@@ -6,13 +6,13 @@ use native.Mathlib.Omega.{arith}
 use Rattle.numbers.proofs.FirstLaws.{Passed, passed-more, passed-end, passed-found}
 use lib.Dec.{leb}
 use lib.ListN.{getD}
-use Rattle.group.specs.Record.{noRamp}
+use Rattle.group.specs.Blank.{blankRamp}
 use Rattle.judge.specs.Rules.{rampTest}
 use Rattle.judge.proofs.first_ramp.Statement.{statement}
 use Rattle.judge.proofs.first_ramp.Tie as tie
 
 abbrev Inv-loop : tie.InvT-loop
-Inv-loop rule used from n ramps i₀ i = Passed (λ k. rampTest rule (leb used k) (getD ramps k noRamp)) n i
+Inv-loop rule used from n ramps i₀ i = Passed (λ k. rampTest rule (leb used k) (getD ramps k blankRamp)) n i
 
 abbrev μ-loop : tie.MeasureT-loop
 μ-loop rule used from n ramps i₀ i = n - i

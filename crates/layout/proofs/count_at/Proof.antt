@@ -1,7 +1,7 @@
 -- `count_at` meets its contract.
 use mathlib.Core.Path.{ap, _∙_}
 use Rattle.layout.proofs.NumberLaws.{told}
-use Rattle.layout.specs.Layout.{countOf}
+use Rattle.numbers.specs.Order.{countOf}
 use borrow.Author.Needs.{needs}
 use Rattle.layout.proofs.count_at.Statement.{statement}
 use Rattle.layout.proofs.count_at.Tie as tie

@@ -1,7 +1,7 @@
 -- `count_in` meets its contract.
 use mathlib.Core.Path.{ap, _∙_}
 use Rattle.layout.proofs.NumberLaws.{told}
-use Rattle.layout.specs.Layout.{countOf}
+use Rattle.numbers.specs.Order.{countOf}
 use borrow.Author.Needs.{needs}
 use Rattle.layout.proofs.count_in.Statement.{statement}
 use Rattle.layout.proofs.count_in.Tie as tie

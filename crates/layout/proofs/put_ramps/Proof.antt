@@ -9,13 +9,13 @@ use Rattle.group.specs.Numbers.{rampsMost}
 use Rattle.layout.specs.Words.{headWords, rampWords}
 use Rattle.layout.proofs.ListLaws.{Run, run-none, run-length, run-more, run-all}
 use Rattle.layout.proofs.NumberLaws.{told}
-use Rattle.group.specs.Record.{noRamp}
+use Rattle.group.specs.Blank.{blankRamp}
 use Rattle.layout.specs.Layout.{rampNumbers}
 use Rattle.layout.proofs.put_ramps.Statement.{statement}
 use Rattle.layout.proofs.put_ramps.Tie as tie
 
 abbrev Inv-loop : tie.InvT-loop
-Inv-loop out₀ ramps i₀ out i = Run (λ k. rampNumbers (getD ramps k noRamp)) rampsMost out₀ headWords i out
+Inv-loop out₀ ramps i₀ out i = Run (λ k. rampNumbers (getD ramps k blankRamp)) rampsMost out₀ headWords i out
 
 abbrev μ-loop : tie.MeasureT-loop
 μ-loop out₀ ramps i₀ out i = rampsMost - i

@@ -3,8 +3,7 @@ use mathlib.Core.Path.{_≡_, sym, ap, _∙_}
 use mathlib.Core.Bool.{Bool, true, false, cond}
 use borrow.Author.Needs.{needs}
 use lib.IntN.{pos}
-use Rattle.numbers.specs.Order.{between}
-use Rattle.group.specs.Numbers.{beyond}
+use Rattle.numbers.specs.Order.{between, beyond}
 use Rattle.layout.specs.Layout.{numberAt, countAt}
 use Rattle.layout.proofs.NumberLaws.{told}
 use Rattle.layout.proofs.quantum_of.Statement.{statement}

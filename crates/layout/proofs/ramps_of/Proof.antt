@@ -3,14 +3,14 @@ use Prim.Native.Nat.{_-_}
 use mathlib.Core.Path.{refl}
 use borrow.Author.Needs.{needs}
 use Rattle.group.specs.Numbers.{rampsMost}
-use Rattle.group.specs.Record.{noRamp}
+use Rattle.group.specs.Blank.{blankRamp}
 use Rattle.layout.specs.Layout.{rampOf}
 use Rattle.layout.proofs.ListLaws.{Filled, filled-none, filled-more, filled-all}
 use Rattle.layout.proofs.ramps_of.Statement.{statement}
 use Rattle.layout.proofs.ramps_of.Tie as tie
 
 abbrev Inv-loop : tie.InvT-loop
-Inv-loop numbers ramps₀ i₀ ramps i = Filled (rampOf numbers) noRamp rampsMost i ramps
+Inv-loop numbers ramps₀ i₀ ramps i = Filled (rampOf numbers) blankRamp rampsMost i ramps
 
 abbrev μ-loop : tie.MeasureT-loop
 μ-loop numbers ramps₀ i₀ ramps i = rampsMost - i
@@ -19,7 +19,7 @@ blank-ramp-requires : tie.Need-blank-ramp-requires Inv-loop μ-loop
 blank-ramp-requires c κs = search needs
 
 loop-holds : tie.Need-loop-holds Inv-loop μ-loop
-loop-holds c = filled-none _ noRamp rampsMost _ refl
+loop-holds c = filled-none _ blankRamp rampsMost _ refl
 
 ramp-of-requires : tie.Need-ramp-of-requires Inv-loop μ-loop
 ramp-of-requires c κs = search needs
@@ -38,12 +38,12 @@ loop-less c = search needs
 
 loop-again : tie.Need-loop-again Inv-loop μ-loop
 loop-again c =
-    filled-more _ noRamp rampsMost _ _ _ (c .before .before .loop .inv) (c .before .loop-test .taken) (c .ramp-of .ensures)
+    filled-more _ blankRamp rampsMost _ _ _ (c .before .before .loop .inv) (c .before .loop-test .taken) (c .ramp-of .ensures)
 
 returns : tie.Need-returns Inv-loop μ-loop
 returns c =
     let s = c .before .before .before .args in
-    filled-all (rampOf (s .numbers .now)) noRamp rampsMost _ _ (c .before .loop .inv) (c .loop-test .left)
+    filled-all (rampOf (s .numbers .now)) blankRamp rampsMost _ _ (c .before .loop .inv) (c .loop-test .left)
 
 pub ramps-of-spec : {M : Type 1} → statement M
 ramps-of-spec =

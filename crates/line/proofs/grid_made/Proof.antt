@@ -1,7 +1,7 @@
 -- `line::grid_made` meets its contract.
 use mathlib.Core.Path.{ap, _∙_}
 use mir.Facts.{toZ-ofZ}
-use Rattle.line.specs.Lines.{counted}
+use Rattle.numbers.specs.Order.{countOf}
 use borrow.Author.Needs.{needs}
 use Rattle.line.proofs.grid_made.Statement.{statement}
 use Rattle.line.proofs.grid_made.Tie as tie
@@ -21,10 +21,10 @@ count-of-requires-4 c κs = search needs
 returns : tie.Need-returns
 returns c =
     let s = c .before .before .before .before in
-    let e = c .before .before .before .count-of .ensures ∙ ap counted (toZ-ofZ (s .fits .e)) in
-    let f = c .before .before .count-of2 .ensures ∙ ap counted (toZ-ofZ (s .fits .f)) in
-    let g = c .before .count-of3 .ensures ∙ ap counted (toZ-ofZ (s .fits .g)) in
-    let h = c .count-of4 .ensures ∙ ap counted (toZ-ofZ (s .fits .h)) in
+    let e = c .before .before .before .count-of .ensures ∙ ap countOf (toZ-ofZ (s .fits .e)) in
+    let f = c .before .before .count-of2 .ensures ∙ ap countOf (toZ-ofZ (s .fits .f)) in
+    let g = c .before .count-of3 .ensures ∙ ap countOf (toZ-ofZ (s .fits .g)) in
+    let h = c .count-of4 .ensures ∙ ap countOf (toZ-ofZ (s .fits .h)) in
     λ i. record {
       name = s .args .name;
       lon = record { 0 = toZ-ofZ (s .fits .a) i };

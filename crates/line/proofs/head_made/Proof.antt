@@ -1,7 +1,7 @@
 -- `line::head_made` meets its contract.
 use mathlib.Core.Path.{ap, _∙_}
 use mir.Facts.{toZ-ofZ}
-use Rattle.line.specs.Lines.{counted}
+use Rattle.numbers.specs.Order.{countOf}
 use borrow.Author.Needs.{needs}
 use Rattle.line.proofs.head_made.Statement.{statement}
 use Rattle.line.proofs.head_made.Tie as tie
@@ -21,10 +21,10 @@ count-of-requires-4 c κs = search needs
 returns : tie.Need-returns
 returns c =
     let s = c .before .before .before .before in
-    let a = c .before .before .before .count-of .ensures ∙ ap counted (toZ-ofZ (s .fits .a)) in
-    let b = c .before .before .count-of2 .ensures ∙ ap counted (toZ-ofZ (s .fits .b)) in
-    let d = c .before .count-of3 .ensures ∙ ap counted (toZ-ofZ (s .fits .c)) in
-    let e = c .count-of4 .ensures ∙ ap counted (toZ-ofZ (s .fits .d)) in
+    let a = c .before .before .before .count-of .ensures ∙ ap countOf (toZ-ofZ (s .fits .a)) in
+    let b = c .before .before .count-of2 .ensures ∙ ap countOf (toZ-ofZ (s .fits .b)) in
+    let d = c .before .count-of3 .ensures ∙ ap countOf (toZ-ofZ (s .fits .c)) in
+    let e = c .count-of4 .ensures ∙ ap countOf (toZ-ofZ (s .fits .d)) in
     λ i. record { name = s .args .name; unit = s .args .unit; quantum = a i; parameters = b i; ramps = d i; grids = e i }
 
 pub head-made-spec : {M : Type 1} → statement M

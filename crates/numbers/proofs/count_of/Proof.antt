@@ -3,10 +3,10 @@ use mathlib.Core.Path.{_≡_, sym, ap, _∙_}
 use mir.Facts.{toZ-ofZ}
 use lib.IntN.{ℤ, pos, natAbs}
 use lib.Signed.{ltZ}
-use Rattle.layout.proofs.NumberLaws.{count-below, count-above}
+use Rattle.numbers.proofs.OrderLaws.{count-below, count-above}
 use borrow.Author.Needs.{needs}
-use Rattle.layout.proofs.count_of.Statement.{statement}
-use Rattle.layout.proofs.count_of.Tie as tie
+use Rattle.numbers.proofs.count_of.Statement.{statement}
+use Rattle.numbers.proofs.count_of.Tie as tie
 
 -- a signed parameter reaches a callee by way of its bits
 neg : (c : tie.After-negative) → ltZ (c .before .args .x) (pos 0) ≡ c .negative .result
