@@ -24,7 +24,7 @@ use Rattle.nodes.specs.Load.{loaded, loadedRefusal, nodesAfter}
 use Rattle.fix.specs.declared.Lookup.{Lookup}
 use Rattle.fix.specs.declared.Lookup.the-variants.{Fix, Refused}
 use Rattle.inforce.specs.declared.InForce.{InForce}
-use Rattle.inforce.specs.InForce.{noGrid, inForceOf}
+use Rattle.inforce.specs.InForce.{blankEntry, inForceOf}
 use Rattle.group.specs.Refusals.{refusal, noRefusal, verdictRefusal, lentAfter}
 use Rattle.group.proofs.RefusalLaws.{no-acceptance, lent-new, lent-kept}
 use Rattle.fix.specs.Answers.{lookupRefusal}
@@ -34,8 +34,8 @@ use Rattle.screen.specs.declared.ScreenAnswer.{ScreenAnswer}
 use Rattle.screen.specs.declared.ScreenRecord.{ScreenRecord}
 use Rattle.screen.specs.Screen.{screenRefusal, shiftsOf, answerOf, recordOf}
 use Rattle.numbers.specs.Order.{countOf}
-use Rattle.layout.specs.Layout.{groupOf, numbersOf, countAt, numberAt, stored, joined}
-use Rattle.layout.proofs.ListLaws.{sets-append, sets-whole, length-joined}
+use Rattle.abi.specs.Abi.{groupOfWords, numbersOf, countAt, numberAt, stored, joined}
+use Rattle.abi.proofs.ListLaws.{sets-append, sets-whole, length-joined}
 use Rattle.capi.specs.Answers.{left, judgeAnswer, readOf, readAnswer, storedFound, foundAnswer, pointOf, lookupAnswer, lentText, writtenAnswer, writeAnswer, loadedBy, loadAnswer}
 use Rattle.capi.specs.InForce.{areaOf, entriesFrom, entryWords, listWords, storedEntry, storedList, listAnswer, inForceAnswer}
 use Rattle.capi.proofs.SmallLaws.{found-stored, in-force-stored}
@@ -49,7 +49,7 @@ module _ {A : Type 0} where
   pub passed-over : (t : Bool) (x y : A) → t ≡ false → cond t x y ≡ y
   passed-over t x y e = ap (λ (b : Bool). cond b x y) e
 
-module _ (l : List ℤ) (g : Group) (group : g ≡ groupOf l) where
+module _ (l : List ℤ) (g : Group) (group : g ≡ groupOfWords l) where
   pub judge-told : (v : Verdict) (r : Refusal) → v ≡ judged g → r ≡ verdictRefusal v → r ≡ judgeAnswer l
   unfolding judgeAnswer
   judge-told v r a b = b ∙ ap verdictRefusal (a ∙ ap judged group)
@@ -129,11 +129,11 @@ module _ (quantum parameters : ℤ) (number place : ℕ) (fix : List ℤ) (q np 
 
 -- the list of grids in force, stored part by part
 pub list-stored : (r : InForce) (l o p cs : List ℤ) → length l ≡ listWords → cs ≡ stored (r .count) ∷ [] → o ≡ sets l 0 cs
-    → p ≡ sets o entriesFrom (joined (λ k. storedEntry (getD (r .entries) k noGrid)) gridsMost) → p ≡ storedList r
+    → p ≡ sets o entriesFrom (joined (λ k. storedEntry (getD (r .entries) k blankEntry)) gridsMost) → p ≡ storedList r
 unfolding storedList
 list-stored r l o p cs n a b c =
-    let es = joined (λ k. storedEntry (getD (r .entries) k noGrid)) gridsMost in
+    let es = joined (λ k. storedEntry (getD (r .entries) k blankEntry)) gridsMost in
     let head = stored (r .count) ∷ [] in
-    let m : length es ≡ gridsMost * entryWords = length-joined (λ k. storedEntry (getD (r .entries) k noGrid)) entryWords gridsMost (λ k d. refl) in
+    let m : length es ≡ gridsMost * entryWords = length-joined (λ k. storedEntry (getD (r .entries) k blankEntry)) entryWords gridsMost (λ k d. refl) in
     c ∙ ap (λ (x : List ℤ). sets x 1 es) (b ∙ ap (sets l 0) a) ∙ sets-append l 0 head es
     ∙ sets-whole l (head ++ es) (omega (arith, length-append head es))

@@ -25,7 +25,7 @@ use Rattle.lookup.proofs.TableLaws.{looked-told}
 use Rattle.inforce.specs.declared.Area.{Area}
 use Rattle.inforce.specs.declared.InForce.{InForce}
 use Rattle.inforce.specs.Area.{areaFits}
-use Rattle.inforce.specs.InForce.{listed, inForceIn, refusedBy, inForceOf}
+use Rattle.inforce.specs.InForce.{acceptedList, inForceIn, refusedBy, inForceOf}
 use Rattle.inforce.proofs.TableLaws.{listed-told}
 use Rattle.nodes.specs.Load.{nodeOf, loaded, loadedRefusal, nodesAfter}
 use Rattle.nodes.proofs.TableLaws.{loaded-told}
@@ -34,7 +34,7 @@ use Rattle.screen.specs.declared.ScreenAnswer.the-variants as S
 use Rattle.screen.specs.Screen.{plusZero, screenRefusal, shiftsOf, recordOf}
 use Rattle.screen.proofs.TableLaws.{answer-told}
 use Rattle.numbers.specs.Order.{countOf}
-use Rattle.layout.specs.Layout.{groupOf, numbersOf, joined}
+use Rattle.abi.specs.Abi.{groupOfWords, numbersOf, joined}
 use Rattle.capi.specs.Answers.{pointOf, lentText, judgeAnswer, readAnswer, writeAnswer, foundNumbers, lookupAnswer, loadAnswer}
 use Rattle.capi.specs.InForce.{listWords, listNumbers, inForceAnswer}
 use Rattle.capi.specs.Screen.{lookupOf, shownOf, recordFloats}
@@ -42,7 +42,7 @@ use Rattle.capi.specs.Demand1.{Judges, Reads, Writes, Looks, Lists, Load
 
 pub judges : (group : List ℤ) → Judges group
 unfolding judgeAnswer
-judges group = record { told = judged-told (groupOf group) }
+judges group = record { told = judged-told (groupOfWords group) }
 
 pub reads : (text : List ℕ) (group : List ℤ) → Reads text group
 unfolding readAnswer
@@ -52,10 +52,10 @@ reads text group =
 pub writes : (group : List ℤ) (out : List ℕ) → Writes group out
 unfolding writeAnswer bytesAfter
 writes group out =
-    let w = written (groupOf group) (length out) in
+    let w = written (groupOfWords group) (length out) in
     record {
-      told = written-told (groupOf group) (length out);
-      kept = λ n i. lentText (uncounted w n i) (lent-kept (writtenRefusal w) (put 0 (headerText (groupOf group)) out) out n i);
+      told = written-told (groupOfWords group) (length out);
+      kept = λ n i. lentText (uncounted w n i) (lent-kept (writtenRefusal w) (put 0 (headerText (groupOfWords group)) out) out n i);
     }
   where
     uncounted : (w : Written) → (writtenRefusal w .number ≡ 0 → ⊥) → writtenCount w ≡ 0
@@ -66,8 +66,8 @@ pub looks : (group nodes : List ℤ) (lon lat day : ℤ) → Looks group nodes l
 unfolding lookupAnswer
 looks group nodes lon lat day =
     record {
-      told = looked-told (groupOf group) nodes (pointOf lon lat) day;
-      zeros = zeros (looked (groupOf group) nodes (pointOf lon lat) day);
+      told = looked-told (groupOfWords group) nodes (pointOf lon lat) day;
+      zeros = zeros (looked (groupOfWords group) nodes (pointOf lon lat) day);
     }
   where
     zeros : (x : Lookup) → (lookupRefusal x .number ≡ 0 → ⊥) → foundNumbers x ≡ replicate 4 (pos 0)
@@ -86,10 +86,10 @@ pub lists : (group : List ℤ) (area : Area) → Lists group area
 unfolding inForceAnswer inForceOf
 lists group area =
     record {
-      told = listed-told (groupOf group) area;
+      told = listed-told (groupOfWords group) area;
       zeros =
-          chain-verdict refusedBy Zeros (judged (groupOf group)) _ (λ r e n. no-list r)
-          (chain-if refusedBy Zeros (not (areaFits area)) 10 0 (listed (inForceIn (groupOf group) area)) (λ n. no-list (refusal 10 0)) (λ n. absurd (n refl)));
+          chain-verdict refusedBy Zeros (judged (groupOfWords group)) _ (λ r e n. no-list r)
+          (chain-if refusedBy Zeros (not (areaFits area)) 10 0 (acceptedList (inForceIn (groupOfWords group) area)) (λ n. no-list (refusal 10 0)) (λ n. absurd (n refl)));
     }
 
 pub loads : (quantum : ℤ) (flag : Float) (floats : List Float) (nodes : List ℤ) → Loads quantum flag floats nodes

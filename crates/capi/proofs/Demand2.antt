@@ -12,9 +12,9 @@ use Rattle.group.proofs.RefusalLaws.{lent-new}
 use Rattle.header.specs.Header.{readHeader, written, bytesAfter}
 use Rattle.header.proofs.Demand2.{text-read}
 use Rattle.header.proofs.ShapeLaws.{read-shaped}
-use Rattle.layout.specs.Layout.{groupOf, numbersOf}
-use Rattle.layout.proofs.BackLaws.{group-back}
-use Rattle.layout.proofs.KeptLaws.{accepted-kept}
+use Rattle.abi.specs.Abi.{groupOfWords, numbersOf}
+use Rattle.abi.proofs.BackLaws.{group-back}
+use Rattle.abi.proofs.KeptLaws.{accepted-kept}
 use Rattle.capi.specs.Answers.{readAnswer, writtenAnswer, writeAnswer}
 use Rattle.capi.specs.Demand2.{WrittenBack, ReadBack}
 use Rattle.capi.proofs.Demand1.{reads}
@@ -33,10 +33,10 @@ module _ (text : List ℕ) (group : List ℤ) (z : readAnswer text group .refusa
   unfolding readAnswer
   filled = lent-new (verdictRefusal (readHeader text .verdict)) (numbersOf g) group none
 
-  same-group : groupOf (readAnswer text group .lent) ≡ g
+  same-group : groupOfWords (readAnswer text group .lent) ≡ g
   same-group =
       let s = read-shaped text in
-      ap groupOf filled
+      ap groupOfWords filled
       ∙ group-back g (accepted-kept g (text-read text .accepted none) (s .name) (s .ramp) (s .grid) (s .names))
 
   back : ReadBack text group

@@ -25,7 +25,7 @@ use Rattle.lookup.proofs.TableLaws.{zero-fix}
 use Rattle.screen.specs.Screen.{answerOf}
 use Rattle.screen.specs.Shown.{Times, shiftAt, ShowsResults}
 use Rattle.screen.proofs.ShownLaws.{shown-exactly, record-shown}
-use Rattle.layout.specs.Layout.{groupOf, numberAt}
+use Rattle.abi.specs.Abi.{groupOfWords, numberAt}
 use Rattle.capi.specs.Answers.{fixNumbers, foundAnswer, pointOf, lookupAnswer}
 use Rattle.capi.specs.Screen.{lookupOf, shownOf}
 use Rattle.capi.specs.Shown.{LookupShown, LeftShown}
@@ -73,10 +73,10 @@ of-fix f q np r =
     }
 
 pub left-shown : (group nodes : List ℤ) (lon lat day : ℤ) (q : ℕ) → lookupAnswer group nodes lon lat day .refusal .number ≡ 0 → q ≤ 20
-    → LeftShown (lookupAnswer group nodes lon lat day) q (groupOf group .parameters)
+    → LeftShown (lookupAnswer group nodes lon lat day) q (groupOfWords group .parameters)
 unfolding lookupAnswer
 left-shown group nodes lon lat day q z k =
-    let g = groupOf group in
+    let g = groupOfWords group in
     let u = zero-fix g nodes (pointOf lon lat) day .0 z in
     subst (λ (a : Lookup). LeftShown (foundAnswer a) q (g .parameters)) (sym (u .1))
     (of-fix (u .0) q (g .parameters) (fix-shown g nodes (pointOf lon lat) day q (u .0) (u .1) k))

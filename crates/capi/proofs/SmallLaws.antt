@@ -26,16 +26,16 @@ use Rattle.inforce.specs.declared.Area.{Area}
 use Rattle.inforce.specs.declared.GridInForce.{GridInForce}
 use Rattle.inforce.specs.declared.InForce.{InForce}
 use Rattle.inforce.specs.Area.{areaFits}
-use Rattle.inforce.specs.InForce.{noGrid, inForceOf}
+use Rattle.inforce.specs.InForce.{blankEntry, inForceOf}
 use Rattle.inforce.specs.Demand3.{GridsInForce}
 use Rattle.inforce.proofs.StageLaws.{in-force-group, in-force-10}
 use Rattle.inforce.proofs.Demand3.{none-at, demand-3}
-use Rattle.layout.specs.Layout.{most, stored, joined}
+use Rattle.abi.specs.Abi.{signedMost, stored, joined}
 use Rattle.capi.specs.Answers.{foundNumbers, storedFound}
 use Rattle.capi.specs.InForce.{entryNumbers, storedEntry, listNumbers, storedList}
 
 as-it-is : (n : ℕ) → n ≤ gridsMost → stored n ≡ pos n
-as-it-is n h = ap pos (min-eq-left {m = most} (omega arith))
+as-it-is n h = ap pos (min-eq-left {m = signedMost} (omega arith))
 
 fix-small : (g : Group) (nodes : List ℤ) (p : Point) (t : ℤ) (f : Fix) → looked g nodes p t ≡ L.Fix f → f .grid ≤ gridsMost
 fix-small g nodes p t f e =
@@ -53,19 +53,19 @@ found-stored g nodes p t (L.Refused r) e = refl
 
 record Small (r : InForce) : Type 0 where
   few : r .count ≤ gridsMost
-  each : (k : ℕ) → getD (r .entries) k noGrid .grid ≤ gridsMost
+  each : (k : ℕ) → getD (r .entries) k blankEntry .grid ≤ gridsMost
 
-refused-small : (r : InForce) → r .count ≡ 0 → r .entries ≡ replicate gridsMost noGrid → Small r
+refused-small : (r : InForce) → r .count ≡ 0 → r .entries ≡ replicate gridsMost blankEntry → Small r
 refused-small r c e =
     record {
       few = omega arith;
-      each = λ k. (let q = ap (λ (x : GridInForce). x .grid) (ap (λ (x : List GridInForce). getD x k noGrid) e ∙ none-at gridsMost k) in omega arith);
+      each = λ k. (let q = ap (λ (x : GridInForce). x .grid) (ap (λ (x : List GridInForce). getD x k blankEntry) e ∙ none-at gridsMost k) in omega arith);
     }
 
 listed-small : (g : Group) (a : Area) (r : InForce) → g .grids ≤ gridsMost → GridsInForce g a r → Small r
 listed-small g a r s h = record { few = omega (arith, h .most); each = λ k. go k (leb (r .count) k) refl }
   where
-    go : (k : ℕ) (t : Bool) → leb (r .count) k ≡ t → getD (r .entries) k noGrid .grid ≤ gridsMost
+    go : (k : ℕ) (t : Bool) → leb (r .count) k ≡ t → getD (r .entries) k blankEntry .grid ≤ gridsMost
     go k true e = let q = ap (λ (x : GridInForce). x .grid) (h .unused k (leb-true (r .count) k e)) in omega arith
     go k false e = let q = h .placed k (leb-false (r .count) k e) .number in omega arith
 
@@ -86,8 +86,8 @@ whole : (r : InForce) → Small r → storedList r ≡ listNumbers r
 unfolding storedList listNumbers
 whole r h =
     let c = as-it-is (r .count) (h .few) in
-    let es = joined-same (λ k. storedEntry (getD (r .entries) k noGrid)) (λ k. entryNumbers (getD (r .entries) k noGrid)) gridsMost
-    (λ k. let e = getD (r .entries) k noGrid in ap (λ (z : ℤ). z ∷ e .lon .0 ∷ e .lat .0 ∷ []) (as-it-is (e .grid) (h .each k))) in
+    let es = joined-same (λ k. storedEntry (getD (r .entries) k blankEntry)) (λ k. entryNumbers (getD (r .entries) k blankEntry)) gridsMost
+    (λ k. let e = getD (r .entries) k blankEntry in ap (λ (z : ℤ). z ∷ e .lon .0 ∷ e .lat .0 ∷ []) (as-it-is (e .grid) (h .each k))) in
     λ i. (c i ∷ []) ++ es i
 
 pub in-force-stored : (g : Group) (a : Area) (r : InForce) → r ≡ inForceOf g a → storedList r ≡ listNumbers r

@@ -19,7 +19,7 @@ use Rattle.fix.specs.Answers.{lookupRefusal}
 use Rattle.judge.specs.Judge.{judged}
 use Rattle.lookup.specs.Lookup.{looked}
 use Rattle.numbers.specs.Order.{countOf}
-use Rattle.layout.specs.Layout.{groupOf, numbersOf, stored}
+use Rattle.abi.specs.Abi.{groupOfWords, numbersOf, stored}
 
 -- the version of the interface: major · 1,000,000 + minor · 1,000 + patch
 abbrev pub version : ℕ
@@ -36,7 +36,7 @@ left number place lent = record { refusal = refusal number place; lent = lent }
 -- ---- judging
 
 unfoldable pub judgeAnswer : List ℤ → Refusal
-judgeAnswer group = verdictRefusal (judged (groupOf group))
+judgeAnswer group = verdictRefusal (judged (groupOfWords group))
 
 -- ---- reading: the group's numbers, which stay as they were after a refusal
 
@@ -70,7 +70,7 @@ abbrev pub pointOf : ℤ → ℤ → Point
 pointOf lon lat = record { lon = record { 0 = lon }; lat = record { 0 = lat } }
 
 unfoldable pub lookupAnswer : List ℤ → List ℤ → ℤ → ℤ → ℤ → Answer (List ℤ)
-lookupAnswer group nodes lon lat day = foundAnswer (looked (groupOf group) nodes (pointOf lon lat) day)
+lookupAnswer group nodes lon lat day = foundAnswer (looked (groupOfWords group) nodes (pointOf lon lat) day)
 
 -- ---- writing: the count of bytes, and the lent bytes
 
@@ -85,7 +85,7 @@ abbrev pub writtenAnswer : Written → List ℕ → Answer Text
 writtenAnswer w bytes = record { refusal = writtenRefusal w; lent = lentText (writtenCount w) bytes }
 
 unfoldable pub writeAnswer : List ℤ → List ℕ → Answer Text
-writeAnswer group out = writtenAnswer (written (groupOf group) (length out)) (bytesAfter (groupOf group) out)
+writeAnswer group out = writtenAnswer (written (groupOfWords group) (length out)) (bytesAfter (groupOfWords group) out)
 
 -- ---- a field: its first byte, and the byte behind its last
 

@@ -21,7 +21,7 @@ use Rattle.nodes.specs.Load.{loaded}
 use Rattle.screen.specs.declared.ScreenAnswer.the-variants as S
 use Rattle.screen.specs.Screen.{plusZero}
 use Rattle.numbers.specs.Order.{countOf}
-use Rattle.layout.specs.Layout.{groupOf}
+use Rattle.abi.specs.Abi.{groupOfWords}
 use Rattle.capi.specs.Answers.{Answer, pointOf, lentText, judgeAnswer, readAnswer, writeAnswer, lookupAnswer, loadAnswer}
 use Rattle.capi.specs.InForce.{listWords, inForceAnswer}
 use Rattle.capi.specs.Screen.{shownOf, shiftsAnswer, recordAnswer}
@@ -31,7 +31,7 @@ abbrev pub LeftBeside : {B : Type 0} → B → Answer B → Type 0
 LeftBeside lent a = (a .refusal .number ≡ 0 → ⊥) → a .lent ≡ lent
 
 pub record Judges (group : List ℤ) : Type 0 where
-  pub told : Told (judged (groupOf group) ≡ Accepted) (judgeAnswer group)
+  pub told : Told (judged (groupOfWords group) ≡ Accepted) (judgeAnswer group)
 
 pub record Reads (text : List ℕ) (group : List ℤ) : Type 0 where
   pub told : Told (readHeader text .verdict ≡ Accepted) (readAnswer text group .refusal)
@@ -39,16 +39,16 @@ pub record Reads (text : List ℕ) (group : List ℤ) : Type 0 where
   pub kept : LeftBeside group (readAnswer text group)
 
 pub record Writes (group : List ℤ) (out : List ℕ) : Type 0 where
-  pub told : Told ((n : ℕ) × (written (groupOf group) (length out) ≡ Count n)) (writeAnswer group out .refusal)
+  pub told : Told ((n : ℕ) × (written (groupOfWords group) (length out) ≡ Count n)) (writeAnswer group out .refusal)
   -- the count is 0 and the bytes are as they were
   pub kept : LeftBeside (lentText 0 out) (writeAnswer group out)
 
 pub record Looks (group nodes : List ℤ) (lon lat day : ℤ) : Type 0 where
-  pub told : Told ((f : Fix) × (looked (groupOf group) nodes (pointOf lon lat) day ≡ L.Fix f)) (lookupAnswer group nodes lon lat day .refusal)
+  pub told : Told ((f : Fix) × (looked (groupOfWords group) nodes (pointOf lon lat) day ≡ L.Fix f)) (lookupAnswer group nodes lon lat day .refusal)
   pub zeros : LeftBeside (replicate 4 (pos 0)) (lookupAnswer group nodes lon lat day)
 
 pub record Lists (group : List ℤ) (area : Area) : Type 0 where
-  pub told : Told (inForceOf (groupOf group) area .verdict ≡ Accepted) (inForceAnswer group area .refusal)
+  pub told : Told (inForceOf (groupOfWords group) area .verdict ≡ Accepted) (inForceAnswer group area .refusal)
   pub zeros : LeftBeside (replicate listWords (pos 0)) (inForceAnswer group area)
 
 pub record Loads (quantum : ℤ) (flag : Float) (floats : List Float) (nodes : List ℤ) : Type 0 where

@@ -8,7 +8,7 @@ use lib.ListN.{length}
 use Rattle.group.specs.Refusals.{noRefusal}
 use Rattle.header.specs.Header.{readHeader}
 use Rattle.header.specs.Demand2.{InFront}
-use Rattle.layout.specs.Layout.{groupOf}
+use Rattle.abi.specs.Abi.{groupOfWords}
 use Rattle.capi.specs.Answers.{Answer, Text, readAnswer, writeAnswer}
 
 -- the text is written back
@@ -19,5 +19,5 @@ pub record WrittenBack (text out : List ℕ) (a : Answer Text) : Type 0 where
 
 -- of an accepted reading
 pub record ReadBack (text : List ℕ) (group : List ℤ) : Type 0 where
-  pub same-group : groupOf (readAnswer text group .lent) ≡ readHeader text .group
+  pub same-group : groupOfWords (readAnswer text group .lent) ≡ readHeader text .group
   pub same-bytes : (out : List ℕ) → length text ≤ length out → WrittenBack text out (writeAnswer (readAnswer text group .lent) out)

@@ -7,9 +7,9 @@ use Rattle.group.specs.Numbers.{gridsMost}
 use Rattle.inforce.specs.declared.Area.{Area}
 use Rattle.inforce.specs.declared.GridInForce.{GridInForce}
 use Rattle.inforce.specs.declared.InForce.{InForce}
-use Rattle.inforce.specs.InForce.{noGrid, inForceOf}
+use Rattle.inforce.specs.InForce.{blankEntry, inForceOf}
 use Rattle.group.specs.Refusals.{verdictRefusal}
-use Rattle.layout.specs.Layout.{groupOf, stored, joined}
+use Rattle.abi.specs.Abi.{groupOfWords, stored, joined}
 use Rattle.capi.specs.Answers.{Answer}
 
 abbrev pub areaOf : ℤ → ℤ → ℤ → ℤ → Area
@@ -34,17 +34,17 @@ abbrev pub entryNumbers : GridInForce → List ℤ
 entryNumbers e = pos (e .grid) ∷ e .lon .0 ∷ e .lat .0 ∷ []
 
 unfoldable pub listNumbers : InForce → List ℤ
-listNumbers r = (pos (r .count) ∷ []) ++ joined (λ k. entryNumbers (getD (r .entries) k noGrid)) gridsMost
+listNumbers r = (pos (r .count) ∷ []) ++ joined (λ k. entryNumbers (getD (r .entries) k blankEntry)) gridsMost
 
 -- the same as the code stores them
 abbrev pub storedEntry : GridInForce → List ℤ
 storedEntry e = stored (e .grid) ∷ e .lon .0 ∷ e .lat .0 ∷ []
 
 unfoldable pub storedList : InForce → List ℤ
-storedList r = (stored (r .count) ∷ []) ++ joined (λ k. storedEntry (getD (r .entries) k noGrid)) gridsMost
+storedList r = (stored (r .count) ∷ []) ++ joined (λ k. storedEntry (getD (r .entries) k blankEntry)) gridsMost
 
 abbrev pub listAnswer : InForce → Answer (List ℤ)
 listAnswer r = record { refusal = verdictRefusal (r .verdict); lent = listNumbers r }
 
 unfoldable pub inForceAnswer : List ℤ → Area → Answer (List ℤ)
-inForceAnswer group area = listAnswer (inForceOf (groupOf group) area)
+inForceAnswer group area = listAnswer (inForceOf (groupOfWords group) area)

@@ -12,7 +12,7 @@ use Rattle.screen.specs.declared.ScreenAnswer.{ScreenAnswer}
 use Rattle.screen.specs.declared.ScreenRecord.{ScreenRecord}
 use Rattle.screen.specs.Screen.{screenRefusal, shiftsOf, answerOf, recordOf}
 use Rattle.numbers.specs.Order.{countOf}
-use Rattle.layout.specs.Layout.{numberAt, countAt}
+use Rattle.abi.specs.Abi.{numberAt, countAt}
 use Rattle.capi.specs.Answers.{Answer, pointOf}
 
 -- the number that the lookup returned, the place that it left and the four numbers that it filled

@@ -8,7 +8,7 @@ use Rattle.fix.specs.Answers.{resultsOf}
 use Rattle.lookup.specs.Lookup.{looked}
 use Rattle.screen.specs.Screen.{answerOf, recordOf}
 use Rattle.screen.specs.Shown.{ShowsResults, ShowsPoint}
-use Rattle.layout.specs.Layout.{numberAt}
+use Rattle.abi.specs.Abi.{numberAt}
 use Rattle.capi.specs.Answers.{Answer}
 use Rattle.capi.specs.Screen.{shownOf}
 

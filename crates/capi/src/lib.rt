@@ -8,12 +8,13 @@ ghost use Rattle.group.specs.Refusals.{refusal, noRefusal, verdictRefusal};
 ghost use Rattle.header.specs.Header.{writtenRefusal, writtenCount};
 ghost use Rattle.nodes.specs.Load.{loadedRefusal};
 ghost use Rattle.fix.specs.Answers.{lookupRefusal};
-ghost use Rattle.inforce.specs.InForce.{noGrid};
+ghost use Rattle.inforce.specs.InForce.{blankEntry};
 ghost use Rattle.screen.specs.Screen.{screenRefusal, shiftsOf};
-ghost use Rattle.layout.specs.Layout.{joined};
+ghost use Rattle.abi.specs.Abi.{joined};
 ghost use Rattle.capi.specs.Answers.{version, left, judgeAnswer, readAnswer, storedFound, lookupAnswer, lentText, writeAnswer, fieldPart, loadAnswer};
 ghost use Rattle.capi.specs.InForce.{areaOf, entriesFrom, listWords, storedEntry, storedList, inForceAnswer};
 ghost use Rattle.capi.specs.Screen.{lookupOf, shownOf, shiftsAnswer, recordAnswer};
+use abi::GROUP_WORDS;
 use extent::LatSpan;
 use extent::LonSpan;
 use fix::Fix;
@@ -28,7 +29,6 @@ use header::Written;
 use inforce::Area;
 use inforce::GridInForce;
 use inforce::InForce;
-use layout::GROUP_WORDS;
 use nodes::Loaded;
 use screen::ScreenAnswer;
 
@@ -75,7 +75,7 @@ fn verdict_refusal(v: Verdict) -> Refusal
 pub extern "C" fn bulhyemik_judge(group: &[i64; GROUP_WORDS], place: &mut u64) -> u64
     ensures { λ r. ⌜ refusal r (now (place .exit)) ≡ judgeAnswer (now (group .entry)) ⌝ }
 {
-    let refusal = verdict_refusal(judge::judge(layout::group_of(group)));
+    let refusal = verdict_refusal(judge::judge(abi::group_of_words(group)));
     *place = refusal.place;
     refusal.number
 }
@@ -94,7 +94,7 @@ pub extern "C" fn bulhyemik_read_header(
     let found = reading.group;
     match verdict {
         Verdict::Accepted => {
-            *group = layout::numbers_of(found);
+            *group = abi::numbers_of(found);
             *place = 0;
             0
         }
@@ -135,7 +135,7 @@ pub extern "C" fn bulhyemik_write_header(
 ) -> u64
     ensures { λ r. ⌜ left r (now (place .exit)) (lentText (now (count .exit)) (now (out .exit))) ≡ writeAnswer (now (group .entry)) (now (out .entry)) ⌝ }
 {
-    let w = header::write_header(layout::group_of(group), out);
+    let w = header::write_header(abi::group_of_words(group), out);
     let refusal = written_refusal(w);
     *count = written_count(w);
     *place = refusal.place;
@@ -167,7 +167,7 @@ fn found_numbers(found: Lookup) -> [i64; 4]
     ensures { λ r. ⌜ r ≡ storedFound found ⌝ }
 {
     match found {
-        Lookup::Fix(f) => [layout::as_stored(f.grid), f.first, f.second, f.third],
+        Lookup::Fix(f) => [abi::as_stored(f.grid), f.first, f.second, f.third],
         Lookup::Refused(_) => [0, 0, 0, 0],
     }
 }
@@ -189,7 +189,7 @@ pub extern "C" fn bulhyemik_lookup(
         lon: Longitude(lon),
         lat: Latitude(lat),
     };
-    let found = lookup::lookup(layout::group_of(group), nodes, point, day);
+    let found = lookup::lookup(abi::group_of_words(group), nodes, point, day);
     let numbers = found_numbers(found);
     let refusal = lookup_refusal(found);
     *fix = numbers;
@@ -203,22 +203,22 @@ fn list_numbers(list: InForce) -> [i64; LIST_WORDS]
 {
     let entries = list.entries;
     let mut out = [0i64; LIST_WORDS];
-    let count = [layout::as_stored(list.count)];
-    layout::put_numbers(&mut out, 0, &count);
-    put_entries(&mut out, entries);
+    let count = [abi::as_stored(list.count)];
+    abi::store_numbers(&mut out, 0, &count);
+    store_entries(&mut out, entries);
     out
 }
 
 // Stores the numbers of all entries, behind the count.
-fn put_entries(out: &mut [i64], entries: [GridInForce; GRIDS_MOST])
+fn store_entries(out: &mut [i64], entries: [GridInForce; GRIDS_MOST])
     requires { ⌜ listWords ≤ length (now out) ⌝ }
-    ensures { λ _. ⌜ now (out .exit) ≡ sets (now (out .entry)) entriesFrom (joined (λ k. storedEntry (getD entries k noGrid)) gridsMost) ⌝ }
+    ensures { λ _. ⌜ now (out .exit) ≡ sets (now (out .entry)) entriesFrom (joined (λ k. storedEntry (getD entries k blankEntry)) gridsMost) ⌝ }
 {
     let mut i = 0;
     while i < GRIDS_MOST {
         let e = entries[i];
-        let numbers = [layout::as_stored(e.grid), e.lon.0, e.lat.0];
-        layout::put_numbers(out, i * ENTRY_WORDS + ENTRIES_FROM, &numbers);
+        let numbers = [abi::as_stored(e.grid), e.lon.0, e.lat.0];
+        abi::store_numbers(out, i * ENTRY_WORDS + ENTRIES_FROM, &numbers);
         i += 1;
     }
 }
@@ -246,7 +246,7 @@ pub extern "C" fn bulhyemik_grids_in_force(
             north: Latitude(north),
         },
     };
-    let found = inforce::grids_in_force(layout::group_of(group), area);
+    let found = inforce::grids_in_force(abi::group_of_words(group), area);
     let verdict = found.verdict;
     let numbers = list_numbers(found);
     let refusal = verdict_refusal(verdict);
@@ -288,10 +288,10 @@ fn lookup_of(number: u64, at: u64, fix: &[i64]) -> Lookup
 {
     if number == 0 {
         return Lookup::Fix(Fix {
-            grid: layout::count_at(fix, 0),
-            first: layout::number_at(fix, 1),
-            second: layout::number_at(fix, 2),
-            third: layout::number_at(fix, 3),
+            grid: abi::count_at(fix, 0),
+            first: abi::number_at(fix, 1),
+            second: abi::number_at(fix, 2),
+            third: abi::number_at(fix, 3),
         });
     }
     Lookup::Refused(Refusal {

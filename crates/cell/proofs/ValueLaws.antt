@@ -153,14 +153,14 @@ value-same w u v a i =
     roundZ
     (term-same (w .w00) (u .v00) (v .v00) (a .at00) i +ℤ term-same (w .w10) (u .v10) (v .v10) (a .at10) i
     +ℤ term-same (w .w01) (u .v01) (v .v01) (a .at01) i +ℤ term-same (w .w11) (u .v11) (v .v11) (a .at11) i)
-    (w .area)
+    (w .total)
 
 -- ---- at most half a step from the exact fraction
 
 pub value-half-step : {w : Weights} → Weighed w → (v : Corners)
-    → 2 * natAbs ((pos (w .area) *ℤ valueOf w v) -ℤ weightedSum w v) ≤ w .area
+    → 2 * natAbs ((pos (w .total) *ℤ valueOf w v) -ℤ weightedSum w v) ≤ w .total
 unfolding valueOf
-value-half-step {w} p v = round-half-step (weightedSum w v) (w .area) (p .positive)
+value-half-step {w} p v = round-half-step (weightedSum w v) (w .total) (p .positive)
 
 -- ---- never outside the range of the used corners
 
@@ -182,12 +182,12 @@ module _ (w : Weights) where
   sum-parts p q r s = diff-+ (diff-+ (diff-+ (diff-scale (w .w00) p) (diff-scale (w .w10) q)) (diff-scale (w .w01) r)) (diff-scale (w .w11) s)
 
   -- of one number in every corner
-  parts-one : Weighed w → (n : ℕ) → parts n n n n ≡ n * w .area
+  parts-one : Weighed w → (n : ℕ) → parts n n n n ≡ n * w .total
   unfolding parts
   parts-one p n =
       let x = w .w00 in let y = w .w10 in let z = w .w01 in let u = w .w11 in
-      let t : (x + y + z + u) * n ≡ w .area * n = ap (λ (m : ℕ). m * n) (p .sum) in
-      omega (arith, add-mul (x + y + z) u n, add-mul (x + y) z n, add-mul x y n, mul-comm n (w .area))
+      let t : (x + y + z + u) * n ≡ w .total * n = ap (λ (m : ℕ). m * n) (p .sum) in
+      omega (arith, add-mul (x + y + z) u n, add-mul (x + y) z n, add-mul x y n, mul-comm n (w .total))
 
 module _ {w : Weights} (p : Weighed w) (v : Corners) where
   ends : Diff (weightedSum w v) (parts w (up (v .v00)) (up (v .v10)) (up (v .v01)) (up (v .v11))) (parts w (dn (v .v00)) (dn (v .v10)) (dn (v .v01)) (dn (v .v11)))
@@ -197,23 +197,23 @@ module _ {w : Weights} (p : Weighed w) (v : Corners) where
   unfolding valueOf parts
   value-least l a =
       let m = ends .diff in
-      let s = diff-scale (w .area) (diff-self l) .diff in
+      let s = diff-scale (w .total) (diff-self l) .diff in
       let t0 = term-≤ (w .w00) l (v .v00) (a .at00) in let t1 = term-≤ (w .w10) l (v .v10) (a .at10) in
       let t2 = term-≤ (w .w01) l (v .v01) (a .at01) in let t3 = term-≤ (w .w11) l (v .v11) (a .at11) in
-      round-≥ l (weightedSum w v) (w .area) (p .positive)
+      round-≥ l (weightedSum w v) (w .total) (p .positive)
       (diff-≤
-      (omega (arith, parts-one w p (up l), parts-one w p (dn l), mul-comm (up l) (w .area), mul-comm (dn l) (w .area))))
+      (omega (arith, parts-one w p (up l), parts-one w p (dn l), mul-comm (up l) (w .total), mul-comm (dn l) (w .total))))
 
   pub value-most : (l : ℤ) → EachUsed (λ z. z ≤ℤ l) w v → valueOf w v ≤ℤ l
   unfolding valueOf parts
   value-most l a =
       let m = ends .diff in
-      let s = diff-scale (w .area) (diff-self l) .diff in
+      let s = diff-scale (w .total) (diff-self l) .diff in
       let t0 = term-≤ (w .w00) (v .v00) l (a .at00) in let t1 = term-≤ (w .w10) (v .v10) l (a .at10) in
       let t2 = term-≤ (w .w01) (v .v01) l (a .at01) in let t3 = term-≤ (w .w11) (v .v11) l (a .at11) in
-      round-≤ l (weightedSum w v) (w .area) (p .positive)
+      round-≤ l (weightedSum w v) (w .total) (p .positive)
       (diff-≤
-      (omega (arith, parts-one w p (up l), parts-one w p (dn l), mul-comm (up l) (w .area), mul-comm (dn l) (w .area))))
+      (omega (arith, parts-one w p (up l), parts-one w p (dn l), mul-comm (up l) (w .total), mul-comm (dn l) (w .total))))
 
   -- where every used corner holds one value, as at a node, the cell has that value
   pub value-one : (l : ℤ) → EachUsed (λ z. z ≡ l) w v → valueOf w v ≡ l
@@ -283,7 +283,7 @@ module _ {w : Weights} (p : Weighed w) where
       → Diff (valueOf w v) (blended w a b c d) k
   unfolding valueOf blended parts
   value-shifted {v} {a} {b} {c} {d} k ev ha hb hc hd =
-      round-biased {a = parts w a b c d} (w .area) k (p .positive) ev
+      round-biased {a = parts w a b c d} (w .total) k (p .positive) ev
       (diff-as (sum-parts w {v = v} ha hb hc hd) (omega (arith, parts-one w p k)))
 
   stood : (r : ℕ) → Diff (pos r -ℤ pos valueShift) r valueShift
@@ -319,8 +319,8 @@ module _ {w : Weights} (p : Weighed w) where
 -- ---- what the code's sums need
 
 pub record Sums (w : Weights) (a b c d : ℕ) : Type 0 where
-  pub total : w .w00 + w .w10 + w .w01 + w .w11 ≡ w .area
-  pub most : w .w00 * a + w .w10 * b + w .w01 * c + w .w11 * d ≤ shiftedMost * w .area
+  pub total : w .w00 + w .w10 + w .w01 + w .w11 ≡ w .total
+  pub most : w .w00 * a + w .w10 * b + w .w01 * c + w .w11 * d ≤ shiftedMost * w .total
 
 module _ {w : Weights} (p : Weighed w) {a b c d : ℕ} (ha : a ≤ shiftedMost) (hb : b ≤ shiftedMost) (hc : c ≤ shiftedMost) (hd : d ≤ shiftedMost) where
   pub sums : Sums w a b c d
@@ -332,4 +332,4 @@ module _ {w : Weights} (p : Weighed w) {a b c d : ℕ} (ha : a ≤ shiftedMost) 
 
   pub blend-most : blended w a b c d ≤ shiftedMost
   unfolding blended
-  blend-most = nearest-le shiftedMost _ (w .area) (p .positive) (sums .most)
+  blend-most = nearest-le shiftedMost _ (w .total) (p .positive) (sums .most)

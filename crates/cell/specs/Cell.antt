@@ -38,14 +38,14 @@ weightsOf sx sy fx fy =
       w10 = fx * (sy - fy);
       w01 = (sx - fx) * fy;
       w11 = fx * fy;
-      area = sx * sy;
+      total = sx * sy;
     }
 
--- the weights add to the area
+-- the weights add to the total
 pub record Weighed (w : Weights) : Type 0 where
-  pub sum : w .w00 + w .w10 + w .w01 + w .w11 ≡ w .area
-  pub positive : 0 < w .area
-  pub most : w .area ≤ spacingMost * spacingMost
+  pub sum : w .w00 + w .w10 + w .w01 + w .w11 ≡ w .total
+  pub positive : 0 < w .total
+  pub most : w .total ≤ spacingMost * spacingMost
 
 -- beyond the limit of node values
 abbrev pub isBeyond : ℤ → Bool
@@ -68,4 +68,4 @@ weightedSum w v =
 
 -- over sx·sy, to the nearest whole step, a tie to the even one
 unfoldable pub valueOf : Weights → Corners → ℤ
-valueOf w v = roundZ (weightedSum w v) (w .area)
+valueOf w v = roundZ (weightedSum w v) (w .total)

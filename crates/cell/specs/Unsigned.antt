@@ -6,9 +6,9 @@ use Rattle.numbers.specs.Round.{nearest}
 use Rattle.group.specs.Numbers.{valueMost}
 use Rattle.cell.specs.declared.Weights.{Weights}
 
--- the weighted sum over the area, rounded
+-- the weighted sum over the total, rounded
 unfoldable pub blended : Weights → (a b c d : ℕ) → ℕ
-blended w a b c d = nearest (w .w00 * a + w .w10 * b + w .w01 * c + w .w11 * d) (w .area)
+blended w a b c d = nearest (w .w00 * a + w .w10 * b + w .w01 * c + w .w11 * d) (w .total)
 
 -- what is added to a node value, so that none is below 0: even, so that ties stay
 abbrev pub valueShift : ℕ

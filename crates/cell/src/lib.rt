@@ -15,9 +15,9 @@ const SHIFT: u64 = VALUE_MOST as u64 + VALUE_MOST as u64 % 2;
 // The same for every 32-bit number, and the least and the greatest node value then.
 const HALF: u64 = 2147483648;
 
-const LEAST: u64 = HALF - SHIFT;
+const LIFTED_LEAST: u64 = HALF - SHIFT;
 
-const MOST: u64 = HALF + SHIFT;
+const LIFTED_MOST: u64 = HALF + SHIFT;
 
 // The cell of a point along one axis: its index, from 0, and the distance from its node of lower index.
 pub struct Along {
@@ -25,13 +25,13 @@ pub struct Along {
     pub rest: u64,
 }
 
-// The weights of the corners (0, 0), (1, 0), (0, 1), (1, 1) of a cell, which add to the area, the product of the spacing sizes.
+// The weights of the corners (0, 0), (1, 0), (0, 1), (1, 1) of a cell, which add to the total, the product of the spacing sizes.
 pub struct Weights {
     pub w00: u64,
     pub w10: u64,
     pub w01: u64,
     pub w11: u64,
-    pub area: u64,
+    pub total: u64,
 }
 
 // What the corners (0, 0), (1, 0), (0, 1), (1, 1) of a cell hold, in steps.
@@ -73,7 +73,7 @@ pub fn weights_at(sx: u64, sy: u64, fx: u64, fy: u64) -> Weights
         w10: fx * gy,
         w01: gx * fy,
         w11: fx * fy,
-        area: sx * sy,
+        total: sx * sy,
     }
 }
 
@@ -102,20 +102,20 @@ fn shifted(v: i32) -> u64
     ensures { λ r. ⌜ Shifted v r ⌝ }
 {
     let r = numbers::lifted(v as i64, HALF);
-    if (r < LEAST) | (MOST < r) {
+    if (r < LIFTED_LEAST) | (LIFTED_MOST < r) {
         return SHIFT;
     }
-    r - LEAST
+    r - LIFTED_LEAST
 }
 
-// The weighted sum of four shifted numbers over the area, rounded.
+// The weighted sum of four shifted numbers over the total, rounded.
 fn blend(w: Weights, a: u64, b: u64, c: u64, d: u64) -> u64
     requires { ⌜ Weighed w ⌝ }
     requires { ⌜ (a ≤ shiftedMost) × (b ≤ shiftedMost) × (c ≤ shiftedMost) × (d ≤ shiftedMost) ⌝ }
     ensures { λ r. ⌜ r ≡ blended w a b c d ⌝ }
 {
     let sum = w.w00 * a + w.w10 * b + w.w01 * c + w.w11 * d;
-    numbers::nearest_even(sum, w.area)
+    numbers::nearest_even(sum, w.total)
 }
 
 // The value of a cell whose used corners hold node values, in steps.

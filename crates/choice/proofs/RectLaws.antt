@@ -6,22 +6,22 @@ use Prim.Native.Nat.{ℕ, _≤_}
 use borrow.Author.Tests.{leb-true, le-leb}
 use lib.Dec.{leb}
 use Rattle.numbers.proofs.Bools.{and-left, and-right, both}
-use Rattle.choice.specs.Rect.{westOf, eastOf, southOf, northOf, holds}
+use Rattle.choice.specs.Rect.{westOf, eastOf, southOf, northOf, rectHolds}
 
-pub record Holds (rs : List ℕ) (i x y : ℕ) : Type 0 where
+pub record RectHolds (rs : List ℕ) (i x y : ℕ) : Type 0 where
   pub west≤ : westOf rs i ≤ x
   pub ≤east : x ≤ eastOf rs i
   pub south≤ : southOf rs i ≤ y
   pub ≤north : y ≤ northOf rs i
 
-pub holds-true : (rs : List ℕ) (i x y : ℕ) → Holds rs i x y → holds rs i x y ≡ true
-unfolding holds
-holds-true rs i x y h =
+pub rect-holds-true : (rs : List ℕ) (i x y : ℕ) → RectHolds rs i x y → rectHolds rs i x y ≡ true
+unfolding rectHolds
+rect-holds-true rs i x y h =
     both (le-leb _ _ (h .west≤)) (both (le-leb _ _ (h .≤east)) (both (le-leb _ _ (h .south≤)) (le-leb _ _ (h .≤north))))
 
-pub true-holds : (rs : List ℕ) (i x y : ℕ) → holds rs i x y ≡ true → Holds rs i x y
-unfolding holds
-true-holds rs i x y e =
+pub true-rect-holds : (rs : List ℕ) (i x y : ℕ) → rectHolds rs i x y ≡ true → RectHolds rs i x y
+unfolding rectHolds
+true-rect-holds rs i x y e =
     let lats = leb (southOf rs i) y && leb y (northOf rs i) in
     let a = and-right (leb (westOf rs i) x) (leb x (eastOf rs i) && lats) e in
     let b = and-right (leb x (eastOf rs i)) lats a in

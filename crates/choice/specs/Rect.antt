@@ -19,9 +19,9 @@ abbrev pub northOf : List ℕ → ℕ → ℕ
 northOf rs i = at rs (i * 4 + 3)
 
 -- rectangle i, from 0, holds the point (x, y)
-unfoldable pub holds : List ℕ → ℕ → ℕ → ℕ → Bool
-holds rs i x y = leb (westOf rs i) x && (leb x (eastOf rs i) && (leb (southOf rs i) y && leb y (northOf rs i)))
+unfoldable pub rectHolds : List ℕ → ℕ → ℕ → ℕ → Bool
+rectHolds rs i x y = leb (westOf rs i) x && (leb x (eastOf rs i) && (leb (southOf rs i) y && leb y (northOf rs i)))
 
 -- how many rectangles have all four sides, and a number in a second list
-abbrev pub size : List ℕ → List ℕ → ℕ
-size rs ns = min (length rs / 4) (length ns)
+abbrev pub pairCount : List ℕ → List ℕ → ℕ
+pairCount rs ns = min (length rs / 4) (length ns)

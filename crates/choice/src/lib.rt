@@ -3,22 +3,22 @@ ghost use mathlib.Core.Path.{_≡_};
 ghost use Prim.Native.Nat.{_+_, _*_, _<_, _≤_};
 ghost use lib.ListN.{length};
 ghost use Rattle.numbers.specs.Lists.{at};
-ghost use Rattle.choice.specs.Rect.{holds, size};
+ghost use Rattle.choice.specs.Rect.{rectHolds, pairCount};
 ghost use Rattle.choice.specs.Choice.{betterOf, blocks, chosen};
 ghost use Rattle.choice.specs.Holder.{holder};
 
 // How many rectangles have all four sides, and a number in a second list.
-pub fn size_of(sides: &[u64], numbers: &[u64]) -> usize
-    ensures { λ r. ⌜ r ≡ size (now (sides .entry)) (now (numbers .entry)) ⌝ }
+pub fn pair_count(sides: &[u64], numbers: &[u64]) -> usize
+    ensures { λ r. ⌜ r ≡ pairCount (now (sides .entry)) (now (numbers .entry)) ⌝ }
 {
     let n = sides.len() / 4;
     if n < numbers.len() { n } else { numbers.len() }
 }
 
 // Whether rectangle i holds the point.
-pub fn holds(sides: &[u64], i: usize, x: u64, y: u64) -> bool
+pub fn rect_holds(sides: &[u64], i: usize, x: u64, y: u64) -> bool
     requires { ⌜ i * 4 + 3 < length (now sides) ⌝ }
-    ensures { λ r. ⌜ r ≡ holds (now (sides .entry)) i x y ⌝ }
+    ensures { λ r. ⌜ r ≡ rectHolds (now (sides .entry)) i x y ⌝ }
 {
     let at = i * 4;
     (sides[at] <= x) & ((x <= sides[at + 1]) & ((sides[at + 2] <= y) & (y <= sides[at + 3])))
@@ -34,10 +34,10 @@ pub fn is_blocker(ranks: &[u64], j: usize, g: usize) -> bool
 
 // The better of grid i, where it holds the point, and the grid numbered c, one of those before it or 0 for none.
 fn better_of(sides: &[u64], ranks: &[u64], x: u64, y: u64, i: usize, c: u64) -> u64
-    requires { ⌜ (i < size (now sides) (now ranks)) × (c ≤ i) ⌝ }
-    ensures { λ r. ⌜ r ≡ betterOf (holds (now (sides .entry)) i x y) (at (now (ranks .entry))) i c ⌝ }
+    requires { ⌜ (i < pairCount (now sides) (now ranks)) × (c ≤ i) ⌝ }
+    ensures { λ r. ⌜ r ≡ betterOf (rectHolds (now (sides .entry)) i x y) (at (now (ranks .entry))) i c ⌝ }
 {
-    if !holds(sides, i, x, y) {
+    if !rect_holds(sides, i, x, y) {
         return c;
     }
     if c == 0 {
@@ -52,9 +52,9 @@ fn better_of(sides: &[u64], ranks: &[u64], x: u64, y: u64, i: usize, c: u64) -> 
 
 // The number, from 1, of the grid chosen at the point, 0 if none is. A grid counts if it has four sides and a rank.
 pub fn chosen_at(sides: &[u64], ranks: &[u64], x: u64, y: u64) -> u64
-    ensures { λ r. ⌜ r ≡ chosen (λ i. holds (now (sides .entry)) i x y) (at (now (ranks .entry))) (size (now (sides .entry)) (now (ranks .entry))) ⌝ }
+    ensures { λ r. ⌜ r ≡ chosen (λ i. rectHolds (now (sides .entry)) i x y) (at (now (ranks .entry))) (pairCount (now (sides .entry)) (now (ranks .entry))) ⌝ }
 {
-    let n = size_of(sides, ranks);
+    let n = pair_count(sides, ranks);
     let mut c = 0;
     let mut i = 0;
     while i < n {
@@ -68,11 +68,11 @@ pub fn chosen_at(sides: &[u64], ranks: &[u64], x: u64, y: u64) -> u64
 // owners' ranks, best first, it is the number of the grid chosen at the point (HolderLaws); a grid may own several.
 pub fn first_holder(sides: &[u64], owners: &[u64], rows: usize, x: u64, y: u64) -> u64
     requires { ⌜ (rows * 4 ≤ length (now sides)) × (rows ≤ length (now owners)) ⌝ }
-    ensures { λ r. ⌜ r ≡ holder (λ i. holds (now (sides .entry)) i x y) (at (now (owners .entry))) rows ⌝ }
+    ensures { λ r. ⌜ r ≡ holder (λ i. rectHolds (now (sides .entry)) i x y) (at (now (owners .entry))) rows ⌝ }
 {
     let mut i = 0;
     while i < rows {
-        if holds(sides, i, x, y) {
+        if rect_holds(sides, i, x, y) {
             return owners[i];
         }
         i += 1;

@@ -12,17 +12,17 @@ use lib.ListN.{length, getD}
 use Rattle.numbers.proofs.Bools.{true-false}
 use Rattle.region.specs.declared.Spot.{Spot}
 use Rattle.region.specs.declared.Spot.the-variants.{At, Nothing}
-use Rattle.region.specs.declared.Area.{Area}
+use Rattle.region.specs.declared.Bounds.{Bounds}
 use Rattle.region.proofs.SearchLaws.{at-first, none-first, first-same}
-use Rattle.coverage.specs.Layout.{firstTaken}
-use Rattle.coverage.specs.InForce.{entriesOf, inForceBy, noEntry, Inside, Placed, Ordered, GridsInForce}
+use Rattle.coverage.specs.Rectangles.{firstTaken}
+use Rattle.coverage.specs.InForce.{entriesOf, inForceBy, noEntry, Inside, EntryPlaced, Ordered, EntriesInForce}
 use Rattle.coverage.specs.declared.Entry.{Entry}
 use Rattle.numbers.proofs.Lists.{at-mem, mem-at, pairs-at, pairs-by}
 use Rattle.coverage.proofs.EntryLaws.{entries≤, mem-entries, entries-mem, pairs-entries}
 
-module _ (choose : ℕ → ℕ → ℕ) (n : ℕ) (a : Area) where
+module _ (choose : ℕ → ℕ → ℕ) (n : ℕ) (a : Bounds) where
   -- where the grid numbered k is chosen first
-  first-placed : (k x y : ℕ) → 1 ≤ k → k ≤ n → firstTaken choose a k ≡ At x y → Placed choose n a (record { grid = k; lon = x; lat = y })
+  first-placed : (k x y : ℕ) → 1 ≤ k → k ≤ n → firstTaken choose a k ≡ At x y → EntryPlaced choose n a (record { grid = k; lon = x; lat = y })
   first-placed k x y low high e =
       let f = at-first (λ u v. eqb (choose u v) k) (a .west) (a .east) (a .south) (a .north) x y e in
       record {
@@ -55,8 +55,8 @@ module _ (choose : ℕ → ℕ → ℕ) (n : ℕ) (a : Area) where
           (none-first (λ u v. eqb (choose u v) k) (a .west) (a .east) (a .south) (a .north) q x y (i .west≤) (i .≤east) (i .south≤) (i .≤north)))
 
 -- where a choice takes one of n grids or none
-pub in-force : (choose : ℕ → ℕ → ℕ) (Before : ℕ → ℕ → Type 0) (n : ℕ) (a : Area) (order : List ℕ) → Ordered Before n order
-    → ((x y g : ℕ) → choose x y ≡ suc g → g < n) → GridsInForce choose Before n a (inForceBy choose order a)
+pub in-force : (choose : ℕ → ℕ → ℕ) (Before : ℕ → ℕ → Type 0) (n : ℕ) (a : Bounds) (order : List ℕ) → Ordered Before n order
+    → ((x y g : ℕ) → choose x y ≡ suc g → g < n) → EntriesInForce choose Before n a (inForceBy choose order a)
 in-force choose Before n a order o taken =
     record {
       named = named;
@@ -69,7 +69,7 @@ in-force choose Before n a order o taken =
     es : List Entry
     es = inForceBy choose order a
 
-    member-placed : (e : Entry) → List·Memᴰ e es → Placed choose n a e
+    member-placed : (e : Entry) → List·Memᴰ e es → EntryPlaced choose n a e
     member-placed e m =
         let p = mem-entries (firstTaken choose a) order e m in
         let i = mem-at 0 (p .0) in
@@ -90,7 +90,7 @@ in-force choose Before n a order o taken =
         (pairs-entries (firstTaken choose a) Before order (pairs-by Before 0 order (o .sorted))) i j m q
 
 -- The list depends on the choice at the area's coordinates, and on nothing else of it.
-module _ (choose take : ℕ → ℕ → ℕ) (a : Area) (same : (x y : ℕ) → Inside a x y → choose x y ≡ take x y) where
+module _ (choose take : ℕ → ℕ → ℕ) (a : Bounds) (same : (x y : ℕ) → Inside a x y → choose x y ≡ take x y) where
   first-alike : (k : ℕ) → firstTaken choose a k ≡ firstTaken take a k
   first-alike k =
       first-same (λ x y. eqb (choose x y) k) (λ x y. eqb (take x y) k) (a .west) (a .east) (a .south) (a .north)

@@ -11,8 +11,8 @@ use lib.Seq.{set-append-seam, append-snoc, take-suc, length-take-le}
 use Rattle.numbers.specs.Lists.{at}
 use Rattle.region.specs.declared.Spot.{Spot}
 use Rattle.region.specs.declared.Spot.the-variants.{At, Nothing}
-use Rattle.coverage.specs.Layout.{entriesMost}
-use Rattle.coverage.specs.InForce.{entryOf, entriesOf, noEntry, filled, listed}
+use Rattle.coverage.specs.Rectangles.{entriesMost}
+use Rattle.coverage.specs.InForce.{entryOf, entriesOf, noEntry, filled, listingOf}
 use Rattle.coverage.specs.declared.Entry.{Entry}
 use Rattle.coverage.specs.declared.Listing.{Listing}
 use Rattle.numbers.proofs.Lists.{Pairs, pairs-one, pairs-append}
@@ -78,7 +78,7 @@ pub record Shown (spot : ℕ → Spot) (ks : List ℕ) (found : ℕ) (entries : 
   pub same : entries ≡ filled (entriesOf spot ks)
 
 pub shown-listed : (spot : ℕ → Spot) (ks : List ℕ) (found : ℕ) (entries : List Entry) → Shown spot ks found entries
-    → _≡_ {A = Listing} (record { count = found; entries = entries }) (listed (entriesOf spot ks))
+    → _≡_ {A = Listing} (record { count = found; entries = entries }) (listingOf (entriesOf spot ks))
 shown-listed spot ks found entries h = rw (h .many, h .same) refl
 
 -- one grid of the order more

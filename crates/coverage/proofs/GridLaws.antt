@@ -13,41 +13,41 @@ use Rattle.numbers.specs.First.{some}
 use Rattle.numbers.proofs.FirstLaws.{some-by, by-some}
 use Rattle.numbers.proofs.Bools.{and-left, and-right, or-cases, both, or-left, or-right, untrue, true-false}
 use Rattle.numbers.specs.Lists.{at}
-use Rattle.choice.specs.Rect.{westOf, eastOf, southOf, northOf, holds}
+use Rattle.choice.specs.Rect.{westOf, eastOf, southOf, northOf, rectHolds}
 use Rattle.choice.specs.Choice.{blocks}
-use Rattle.choice.proofs.RectLaws.{Holds, holds-true, true-holds}
+use Rattle.choice.proofs.RectLaws.{RectHolds, rect-holds-true, true-rect-holds}
 use Rattle.choice.proofs.ChoiceLaws.{chosen-unblocked, unblocked-chosen}
 use Rattle.region.specs.First.{firstIn, earlier}
-use Rattle.region.specs.declared.Area.{Area}
+use Rattle.region.specs.declared.Bounds.{Bounds}
 use Rattle.region.specs.declared.Spot.{Spot}
 use Rattle.region.specs.declared.Spot.the-variants.{Nothing}
 use Rattle.region.proofs.SearchLaws.{narrow, first-same, first-none, first-either}
-use Rattle.coverage.specs.Layout.{Layout, ownHolds, gridHolds, chosenAt, firstChosen, Sound}
+use Rattle.coverage.specs.Rectangles.{Rectangles, ownHolds, gridHolds, chosenAt, firstChosen, SoundRects}
 use Rattle.coverage.specs.InForce.{Inside}
 use Rattle.coverage.specs.Steps.{blockHolds, unblocked, firstOf, firstOfRect, partOf}
 
 -- a rectangle of a grid, and the grid
-module _ (l : Layout) (x y : ℕ) where
-  pub rect-grid : (r : ℕ) → r < length (l .owners) → Holds (l .rects) r x y → gridHolds l (at (l .owners) r) x y ≡ true
+module _ (l : Rectangles) (x y : ℕ) where
+  pub rect-grid : (r : ℕ) → r < length (l .owners) → RectHolds (l .rects) r x y → gridHolds l (at (l .owners) r) x y ≡ true
   unfolding gridHolds
   rect-grid r m h =
       some-by (ownHolds (l .rects) (l .owners) (at (l .owners) r) x y) (length (l .owners)) r m
-      (both (eq-eqb (at (l .owners) r) (at (l .owners) r) refl) (holds-true (l .rects) r x y h))
+      (both (eq-eqb (at (l .owners) r) (at (l .owners) r) refl) (rect-holds-true (l .rects) r x y h))
 
-  pub grid-rect : (g : ℕ) → gridHolds l g x y ≡ true → (r : ℕ) × (r < length (l .owners)) × (at (l .owners) r ≡ g) × Holds (l .rects) r x y
+  pub grid-rect : (g : ℕ) → gridHolds l g x y ≡ true → (r : ℕ) × (r < length (l .owners)) × (at (l .owners) r ≡ g) × RectHolds (l .rects) r x y
   unfolding gridHolds
   grid-rect g e =
       let s = by-some (ownHolds (l .rects) (l .owners) g x y) (length (l .owners)) e in
       let r = s .0 in
-      (r, s .1, eqb-true (at (l .owners) r) g (and-left (eqb (at (l .owners) r) g) (holds (l .rects) r x y) (s .2)), true-holds (l .rects) r x y (and-right (eqb (at (l .owners) r) g) (holds (l .rects) r x y) (s .2)))
+      (r, s .1, eqb-true (at (l .owners) r) g (and-left (eqb (at (l .owners) r) g) (rectHolds (l .rects) r x y) (s .2)), true-rect-holds (l .rects) r x y (and-right (eqb (at (l .owners) r) g) (rectHolds (l .rects) r x y) (s .2)))
 
 -- the points that no rectangle of g's blockers holds
-module _ (l : Layout) (sound : Sound l) (g x y : ℕ) where
+module _ (l : Rectangles) (sound : SoundRects l) (g x y : ℕ) where
   free-of : unblocked l g x y ≡ true → (j : ℕ) → blocks (at (l .ranks)) j g ≡ true → gridHolds l j x y ≡ true → ⊥
   unfolding unblocked
   free-of f j b h =
       let r = grid-rect l x y j h in
-      let k = some-by (blockHolds l g x y) (length (l .owners)) (r .0) (r .1) (both (ap (λ (i : ℕ). blocks (at (l .ranks)) i g) (r .2) ∙ b) (holds-true (l .rects) (r .0) x y (r .3))) in
+      let k = some-by (blockHolds l g x y) (length (l .owners)) (r .0) (r .1) (both (ap (λ (i : ℕ). blocks (at (l .ranks)) i g) (r .2) ∙ b) (rect-holds-true (l .rects) (r .0) x y (r .3))) in
       true-false f (rw k refl)
 
   of-free : ((j : ℕ) → j < length (l .ranks) → blocks (at (l .ranks)) j g ≡ true → gridHolds l j x y ≡ true → ⊥) → unblocked l g x y ≡ true
@@ -57,8 +57,8 @@ module _ (l : Layout) (sound : Sound l) (g x y : ℕ) where
       (λ e.
       let s = by-some (blockHolds l g x y) (length (l .owners)) e in
       let b = blocks (at (l .ranks)) (at (l .owners) (s .0)) g in
-      h (at (l .owners) (s .0)) (sound .owned (s .0) (s .1)) (and-left b (holds (l .rects) (s .0) x y) (s .2))
-      (rect-grid l x y (s .0) (s .1) (true-holds (l .rects) (s .0) x y (and-right b (holds (l .rects) (s .0) x y) (s .2))))))
+      h (at (l .owners) (s .0)) (sound .owned (s .0) (s .1)) (and-left b (rectHolds (l .rects) (s .0) x y) (s .2))
+      (rect-grid l x y (s .0) (s .1) (true-rect-holds (l .rects) (s .0) x y (and-right b (rectHolds (l .rects) (s .0) x y) (s .2))))))
       refl
 
   -- g is chosen just where it holds the point and no blocker of it does
@@ -79,7 +79,7 @@ module _ (l : Layout) (sound : Sound l) (g x y : ℕ) where
       both (u .inside) (of-free (λ j m b h. u .alone j m b h))
 
 -- the search for g
-pub spot-chosen : (l : Layout) → Sound l → (a : Area) (g : ℕ) → g < length (l .ranks) → {s : Spot} → s ≡ firstOf l a g (length (l .owners))
+pub spot-chosen : (l : Rectangles) → SoundRects l → (a : Bounds) (g : ℕ) → g < length (l .ranks) → {s : Spot} → s ≡ firstOf l a g (length (l .owners))
     → s ≡ firstChosen l a (g + 1)
 unfolding gridHolds
 spot-chosen l sound a g m q =
@@ -103,7 +103,7 @@ module _ (p : ℕ → Bool) (n : ℕ) where
       ]
 
 -- one rectangle more
-module _ (l : Layout) (a : Area) (g : ℕ) where
+module _ (l : Rectangles) (a : Bounds) (g : ℕ) where
   abbrev own : ℕ → ℕ → ℕ → Bool
   own x y r = ownHolds (l .rects) (l .owners) g x y r
 
@@ -130,19 +130,19 @@ module _ (l : Layout) (a : Area) (g : ℕ) where
   rect-other r h =
       sym (first-none (λ x y. own x y r && unblocked l g x y) (a .west) (a .east) (a .south) (a .north) (λ i j b c d e. rw (ne-eqb (at (l .owners) r) g h) refl))
 
-  pub rect-own : (r : ℕ) → at (l .owners) r ≡ g → (p : Area) → p ≡ partOf (l .rects) r a → (q : ℕ → ℕ → Bool)
+  pub rect-own : (r : ℕ) → at (l .owners) r ≡ g → (p : Bounds) → p ≡ partOf (l .rects) r a → (q : ℕ → ℕ → Bool)
       → ((x y : ℕ) → Inside p x y → q x y ≡ unblocked l g x y) → {t : Spot}
       → t ≡ firstIn q (p .west) (p .east) (p .south) (p .north) → t ≡ firstOfRect l a g r
   rect-own r o p d q same e =
-      let pw : p .west ≡ max (a .west) (westOf (l .rects) r) = ap (λ (z : Area). z .west) d in
-      let pe : p .east ≡ min (a .east) (eastOf (l .rects) r) = ap (λ (z : Area). z .east) d in
-      let ps : p .south ≡ max (a .south) (southOf (l .rects) r) = ap (λ (z : Area). z .south) d in
-      let pn : p .north ≡ min (a .north) (northOf (l .rects) r) = ap (λ (z : Area). z .north) d in
+      let pw : p .west ≡ max (a .west) (westOf (l .rects) r) = ap (λ (z : Bounds). z .west) d in
+      let pe : p .east ≡ min (a .east) (eastOf (l .rects) r) = ap (λ (z : Bounds). z .east) d in
+      let ps : p .south ≡ max (a .south) (southOf (l .rects) r) = ap (λ (z : Bounds). z .south) d in
+      let pn : p .north ≡ min (a .north) (northOf (l .rects) r) = ap (λ (z : Bounds). z .north) d in
       e ∙ narrow (λ x y. own x y r && unblocked l g x y) q (a .west) (a .east) (a .south) (a .north) (p .west) (p .east) (p .south) (p .north)
       (omega arith) (omega arith) (omega arith) (omega arith)
       (λ i j h k m f t.
       let u = and-left (own i j r) (unblocked l g i j) t in
-      let v = true-holds (l .rects) r i j (and-right (eqb (at (l .owners) r) g) (holds (l .rects) r i j) u) in
+      let v = true-rect-holds (l .rects) r i j (and-right (eqb (at (l .owners) r) g) (rectHolds (l .rects) r i j) u) in
       let w : p .west ≤ i = omega (arith, v .west≤) in
       let x : i ≤ p .east = omega (arith, v .≤east) in
       let y : p .south ≤ j = omega (arith, v .south≤) in
@@ -150,5 +150,5 @@ module _ (l : Layout) (a : Area) (g : ℕ) where
       (w, x, y, z, same i j (record { west≤ = w; ≤east = x; south≤ = y; ≤north = z }) ∙ and-right (own i j r) (unblocked l g i j) t))
       (λ i j h k m f t.
       both
-      (both (eq-eqb (at (l .owners) r) g o) (holds-true (l .rects) r i j (record { west≤ = omega arith; ≤east = omega arith; south≤ = omega arith; ≤north = omega arith })))
+      (both (eq-eqb (at (l .owners) r) g o) (rect-holds-true (l .rects) r i j (record { west≤ = omega arith; ≤east = omega arith; south≤ = omega arith; ≤north = omega arith })))
       (sym (same i j (record { west≤ = h; ≤east = k; south≤ = m; ≤north = f })) ∙ t))

@@ -1,4 +1,4 @@
 -- What the contracts of `coverage` cite.
-pub mod Layout
+pub mod Rectangles
 pub mod InForce
 pub mod Steps

@@ -8,33 +8,33 @@ use lib.Dec.{leb}
 use lib.ListN.{length, set}
 use Rattle.numbers.specs.First.{some}
 use Rattle.numbers.specs.Lists.{at}
-use Rattle.choice.specs.Rect.{westOf, eastOf, southOf, northOf, holds}
+use Rattle.choice.specs.Rect.{westOf, eastOf, southOf, northOf, rectHolds}
 use Rattle.choice.specs.Choice.{blocks}
 use Rattle.region.specs.First.{firstIn}
-use Rattle.region.specs.declared.Area.{Area}
+use Rattle.region.specs.declared.Bounds.{Bounds}
 use Rattle.region.specs.declared.Spot.{Spot}
-use Rattle.coverage.specs.Layout.{Layout, Sound, ownHolds, firstChosen}
+use Rattle.coverage.specs.Rectangles.{Rectangles, SoundRects, ownHolds, firstChosen}
 
 -- rectangle r is one of a blocker of grid g and holds the point
-abbrev pub blockHolds : Layout → ℕ → ℕ → ℕ → ℕ → Bool
-blockHolds l g x y r = blocks (at (l .ranks)) (at (l .owners) r) g && holds (l .rects) r x y
+abbrev pub blockHolds : Rectangles → ℕ → ℕ → ℕ → ℕ → Bool
+blockHolds l g x y r = blocks (at (l .ranks)) (at (l .owners) r) g && rectHolds (l .rects) r x y
 
 -- no blocker of grid g holds the point
-unfoldable pub unblocked : Layout → ℕ → ℕ → ℕ → Bool
+unfoldable pub unblocked : Rectangles → ℕ → ℕ → ℕ → Bool
 unblocked l g x y = not (some (blockHolds l g x y) (length (l .owners)))
 
 -- of the area, the first point that rectangle r, if it is one of grid g's, holds and that no blocker of g holds
-abbrev pub firstOfRect : Layout → Area → ℕ → ℕ → Spot
+abbrev pub firstOfRect : Rectangles → Bounds → ℕ → ℕ → Spot
 firstOfRect l a g r =
     firstIn (λ x y. ownHolds (l .rects) (l .owners) g x y r && unblocked l g x y) (a .west) (a .east) (a .south) (a .north)
 
 -- the same of grid g's rectangles among the first n
-abbrev pub firstOf : Layout → Area → ℕ → ℕ → Spot
+abbrev pub firstOf : Rectangles → Bounds → ℕ → ℕ → Spot
 firstOf l a g n =
     firstIn (λ x y. some (ownHolds (l .rects) (l .owners) g x y) n && unblocked l g x y) (a .west) (a .east) (a .south) (a .north)
 
 -- the part of the area that lies in rectangle r
-abbrev pub partOf : List ℕ → ℕ → Area → Area
+abbrev pub partOf : List ℕ → ℕ → Bounds → Bounds
 partOf rs r a =
     record {
       west = max (a .west) (westOf rs r);
@@ -44,12 +44,12 @@ partOf rs r a =
     }
 
 -- neither of rectangle r and the area lies wholly on one side of the other
-unfoldable pub meets : List ℕ → ℕ → Area → Bool
+unfoldable pub meets : List ℕ → ℕ → Bounds → Bool
 meets rs r a =
     leb (westOf rs r) (a .east) && (leb (a .west) (eastOf rs r) && (leb (southOf rs r) (a .north) && leb (a .south) (northOf rs r)))
 
 -- rectangle r is one of a blocker of grid g and meets the part
-unfoldable pub isNear : Layout → ℕ → Area → ℕ → Bool
+unfoldable pub isNear : Rectangles → ℕ → Bounds → ℕ → Bool
 isNear l g part r = blocks (at (l .ranks)) (at (l .owners) r) g && meets (l .rects) r part
 
 -- rectangle r of rs stored as rectangle i of near
@@ -59,27 +59,27 @@ copied rs r near i =
 
 -- rectangle i of near holds the points that rectangle r of rs holds
 abbrev pub Alike : List ℕ → ℕ → List ℕ → ℕ → Type 0
-Alike near i rs r = (x y : ℕ) → holds near i x y ≡ holds rs r x y
+Alike near i rs r = (x y : ℕ) → rectHolds near i x y ≡ rectHolds rs r x y
 
 -- rectangle r is one of a blocker of grid g
-abbrev pub Blocker : Layout → ℕ → ℕ → Type 0
+abbrev pub Blocker : Rectangles → ℕ → ℕ → Type 0
 Blocker l g r = (r < length (l .owners)) × (blocks (at (l .ranks)) (at (l .owners) r) g ≡ true)
 
 -- the first count rectangles of near are of g's blockers, and all of those that meet the part are among them
-pub record Near (l : Layout) (g : ℕ) (part : Area) (near : List ℕ) (count : ℕ) : Type 0 where
+pub record Near (l : Rectangles) (g : ℕ) (part : Bounds) (near : List ℕ) (count : ℕ) : Type 0 where
   pub few : count ≤ length (l .owners)
   pub only : (i : ℕ) → i < count → (r : ℕ) × Blocker l g r × Alike near i (l .rects) r
   pub all : (r : ℕ) → r < length (l .owners) → isNear l g part r ≡ true → (i : ℕ) × (i < count) × Alike near i (l .rects) r
 
 -- they are filled in, and the list is as long as it was
-abbrev pub NearFilled : Layout → ℕ → Area → (near after : List ℕ) → ℕ → Type 0
+abbrev pub NearFilled : Rectangles → ℕ → Bounds → (near after : List ℕ) → ℕ → Type 0
 NearFilled l g part near after count = Near l g part after count × (length after ≡ length near)
 
 -- a search's answer, and the list that it overwrites as long as it was
-abbrev pub RectAnswer : Layout → Area → ℕ → ℕ → Spot → (near after : List ℕ) → Type 0
+abbrev pub RectAnswer : Rectangles → Bounds → ℕ → ℕ → Spot → (near after : List ℕ) → Type 0
 RectAnswer l a g r s near after = (s ≡ firstOfRect l a g r) × (length after ≡ length near)
 
-abbrev pub GridAnswer : Layout → Area → ℕ → Spot → (near after : List ℕ) → Type 0
+abbrev pub GridAnswer : Rectangles → Bounds → ℕ → Spot → (near after : List ℕ) → Type 0
 GridAnswer l a g s near after = (s ≡ firstChosen l a (g + 1)) × (length after ≡ length near)
 
 -- the first n numbers are those below n, in any order
@@ -89,7 +89,7 @@ pub record Each (n : ℕ) (numbers : List ℕ) : Type 0 where
   pub each : (r : ℕ) → r < n → (k : ℕ) × (k < n) × (at numbers k ≡ r)
 
 -- what a search relies on: a sound layout, an order of its rectangles, and room for their sides
-pub record Searchable (l : Layout) (eastward near : List ℕ) : Type 0 where
-  pub sound : Sound l
+pub record Searchable (l : Rectangles) (eastward near : List ℕ) : Type 0 where
+  pub sound : SoundRects l
   pub order : Each (length (l .owners)) eastward
   pub room : length (l .rects) ≤ length near

@@ -72,7 +72,7 @@ pub fn day_factor(ramps: [Ramp; RAMPS_MOST], n: usize, day: i64) -> i64
 
 // A value in steps times a day factor in millionths, in steps: an even number of steps, the size of
 // the greatest result, is added before the rounding and taken off behind it.
-fn scaled(v: i64, f: i64) -> i64
+fn times_factor(v: i64, f: i64) -> i64
     requires { ⌜ (natAbs v ≤ valueMost) × (natAbs f ≤ factorMost) ⌝ }
     ensures { λ r. ⌜ r ≡ resultOf v f ⌝ }
 {
@@ -88,5 +88,5 @@ pub fn result_of(value: i64, factor: i64) -> i64
     if factor == FACTOR_ONE {
         return value;
     }
-    scaled(value, factor)
+    times_factor(value, factor)
 }

@@ -15,11 +15,11 @@ use Rattle.cell.specs.Cell.{isBeyond, usedSome, valueOf}
 use Rattle.cell.specs.Used.{SomeUsed}
 use Rattle.cell.proofs.ValueLaws.{used-some, some-used, some-same, value-same}
 use Rattle.day.specs.Day.{resultOf}
-use Rattle.fix.specs.declared.Place.{Place}
+use Rattle.fix.specs.declared.Offset.{Offset}
 use Rattle.fix.specs.declared.Lookup.the-variants as L
-use Rattle.fix.specs.Fix.{spotOf, cornersOf, cornerSome, valueIn, resultAt, fixIn, SameNodes}
+use Rattle.fix.specs.Fix.{cellOf, cornersOf, cornerSome, valueIn, resultAt, fixIn, SameNodes}
 
-module _ (l : Place) (nodes : List ℤ) (factor : ℤ) (grid : ℕ) where
+module _ (l : Offset) (nodes : List ℤ) (factor : ℤ) (grid : ℕ) where
   pub fix-marked : cornerSome isMark l nodes ≡ true → fixIn l nodes factor grid ≡ L.Refused (record { number = 8; place = 0 })
   unfolding fixIn
   fix-marked e = if-here L.Refused (cornerSome isMark l nodes) 8 0 _ e
@@ -43,39 +43,39 @@ module _ (l : Place) (nodes : List ℤ) (factor : ℤ) (grid : ℕ) where
 
 -- ---- a test of the corners is passed exactly where a used corner of some parameter has the property that it tests
 
-module _ (test : ℤ → Bool) (P : ℤ → Type 0) (tests : (z : ℤ) → (test z ≡ true) ↔ P z) (l : Place) (nodes : List ℤ) where
-  pub corner-some : cornerSome test l nodes ≡ true → (q : ℕ) × (q < l .np) × SomeUsed P (spotOf l .weights) (cornersOf l nodes q)
+module _ (test : ℤ → Bool) (P : ℤ → Type 0) (tests : (z : ℤ) → (test z ≡ true) ↔ P z) (l : Offset) (nodes : List ℤ) where
+  pub corner-some : cornerSome test l nodes ≡ true → (q : ℕ) × (q < l .np) × SomeUsed P (cellOf l .weights) (cornersOf l nodes q)
   unfolding cornerSome
   corner-some e =
-      let s = by-some (λ q. usedSome test (spotOf l .weights) (cornersOf l nodes q)) (l .np) e in
-      (s .0, s .1, used-some test P tests (spotOf l .weights) (cornersOf l nodes (s .0)) (s .2))
+      let s = by-some (λ q. usedSome test (cellOf l .weights) (cornersOf l nodes q)) (l .np) e in
+      (s .0, s .1, used-some test P tests (cellOf l .weights) (cornersOf l nodes (s .0)) (s .2))
 
-  pub some-corner : (q : ℕ) → q < l .np → SomeUsed P (spotOf l .weights) (cornersOf l nodes q) → cornerSome test l nodes ≡ true
+  pub some-corner : (q : ℕ) → q < l .np → SomeUsed P (cellOf l .weights) (cornersOf l nodes q) → cornerSome test l nodes ≡ true
   unfolding cornerSome
   some-corner q h u =
-      some-by (λ q. usedSome test (spotOf l .weights) (cornersOf l nodes q)) (l .np) q h
-      (some-used test P tests (spotOf l .weights) (cornersOf l nodes q) u)
+      some-by (λ q. usedSome test (cellOf l .weights) (cornersOf l nodes q)) (l .np) q h
+      (some-used test P tests (cellOf l .weights) (cornersOf l nodes q) u)
 
 -- ---- what the used corners don't hold changes nothing
 
-module _ (l : Place) (nodes others : List ℤ) (same : SameNodes l nodes others) where
+module _ (l : Offset) (nodes others : List ℤ) (same : SameNodes l nodes others) where
   corner-same : (test : ℤ → Bool) → cornerSome test l nodes ≡ cornerSome test l others
   unfolding cornerSome
   corner-same test =
       ap (λ (n : ℕ). ltb n (l .np))
-      (first-same (λ q. usedSome test (spotOf l .weights) (cornersOf l nodes q)) (λ q. usedSome test (spotOf l .weights) (cornersOf l others q)) (l .np)
-      (λ q h. some-same test (spotOf l .weights) (cornersOf l nodes q) (cornersOf l others q) (same q h)))
+      (first-same (λ q. usedSome test (cellOf l .weights) (cornersOf l nodes q)) (λ q. usedSome test (cellOf l .weights) (cornersOf l others q)) (l .np)
+      (λ q h. some-same test (cellOf l .weights) (cornersOf l nodes q) (cornersOf l others q) (same q h)))
 
   result-same : (factor : ℤ) (q : ℕ) → resultAt l nodes factor q ≡ resultAt l others factor q
   unfolding resultAt valueIn
   result-same factor q = pick (ltb q (l .np)) refl
     where
       pick : (b : Bool) → ltb q (l .np) ≡ b
-          → cond b (resultOf (valueOf (spotOf l .weights) (cornersOf l nodes q)) factor) (pos 0)
-          ≡ cond b (resultOf (valueOf (spotOf l .weights) (cornersOf l others q)) factor) (pos 0)
+          → cond b (resultOf (valueOf (cellOf l .weights) (cornersOf l nodes q)) factor) (pos 0)
+          ≡ cond b (resultOf (valueOf (cellOf l .weights) (cornersOf l others q)) factor) (pos 0)
       pick true e =
           ap (λ (z : ℤ). resultOf z factor)
-          (value-same (spotOf l .weights) (cornersOf l nodes q) (cornersOf l others q) (same q (ltb-true q (l .np) e)))
+          (value-same (cellOf l .weights) (cornersOf l nodes q) (cornersOf l others q) (same q (ltb-true q (l .np) e)))
       pick false e = refl
 
   pub fix-same : (factor : ℤ) (grid : ℕ) → fixIn l nodes factor grid ≡ fixIn l others factor grid

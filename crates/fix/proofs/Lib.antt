@@ -1,5 +1,5 @@
--- The laws of a point's place in its grid and of its fix.
-pub mod PlaceLaws
+-- The laws of a point's offset in its grid and of its fix.
+pub mod OffsetLaws
 pub mod FixLaws
 pub mod NodeLaws
 pub mod PartLaws

@@ -7,18 +7,18 @@ use lib.IntN.{ℤ}
 use Rattle.cell.specs.Cell.{cellAlong}
 use Rattle.cell.proofs.AlongLaws.{along-node}
 use Rattle.cell.proofs.ValueLaws.{node-00, node-10, node-01, node-11}
-use Rattle.fix.specs.declared.Place.{Place}
-use Rattle.fix.specs.Fix.{Placed, spotOf, nodeAt, cornersAt, cornersOf, valueIn}
-use Rattle.fix.proofs.PlaceLaws.{distances}
+use Rattle.fix.specs.declared.Offset.{Offset}
+use Rattle.fix.specs.Fix.{InsideGrid, cellOf, nodeAt, cornersAt, cornersOf, valueIn}
+use Rattle.fix.proofs.OffsetLaws.{distances}
 
 -- the point is node i of an axis: the first or the last node of its cell
 abbrev AtNode : (d s n i : ℕ) → Type 0
 AtNode d s n i =
     ((cellAlong d s n .index ≡ i) × (cellAlong d s n .rest ≡ 0)) ⊎ ((cellAlong d s n .index + 1 ≡ i) × (cellAlong d s n .rest ≡ s))
 
-module _ {l : Place} (h : Placed l) (nodes : List ℤ) (q : ℕ) where
+module _ {l : Offset} (h : InsideGrid l) (nodes : List ℤ) (q : ℕ) where
   by-corner : (i j : ℕ) → AtNode (l .dx) (l .sx) (l .ni) i → AtNode (l .dy) (l .sy) (l .nj) j → valueIn l nodes q ≡ nodeAt l nodes i j q
-  unfolding valueIn cornersOf cornersAt spotOf
+  unfolding valueIn cornersOf cornersAt cellOf
   by-corner i j (inl a) (inl b) = node-00 (distances h) _ (a .1) (b .1) ∙ (λ k. nodeAt l nodes (a .0 k) (b .0 k) q)
   by-corner i j (inr a) (inl b) = node-10 (distances h) _ (a .1) (b .1) ∙ (λ k. nodeAt l nodes (a .0 k) (b .0 k) q)
   by-corner i j (inl a) (inr b) = node-01 (distances h) _ (a .1) (b .1) ∙ (λ k. nodeAt l nodes (a .0 k) (b .0 k) q)

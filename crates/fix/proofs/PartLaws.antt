@@ -21,12 +21,12 @@ use Rattle.group.specs.Numbers.{parametersMost, valueMost, mark, isMark, factor
 use Rattle.cell.specs.Cell.{Weighed, used, isBeyond, usedSome, valueOf}
 use Rattle.cell.specs.Used.{Unless, EachUsed}
 use Rattle.cell.proofs.ValueLaws.{each-map, none-beyond}
-use Rattle.fix.specs.declared.Place.{Place}
+use Rattle.fix.specs.declared.Offset.{Offset}
 use Rattle.fix.specs.declared.Lookup.the-variants as L
-use Rattle.fix.specs.Fix.{Placed, spotOf, cornersOf, cornerSome, valueIn, resultAt, fixIn}
+use Rattle.fix.specs.Fix.{InsideGrid, cellOf, cornersOf, cornerSome, valueIn, resultAt, fixIn}
 use Rattle.fix.specs.Parts.{faultAt, refusedIn}
 use Rattle.day.specs.Day.{resultOf}
-use Rattle.fix.proofs.PlaceLaws.{spot-weighed, part-most}
+use Rattle.fix.proofs.OffsetLaws.{cell-weighed, part-most}
 use Rattle.fix.proofs.FixLaws.{fix-marked, fix-beyond, fix-found}
 
 -- ---- the mark is beyond the limit of node values
@@ -53,7 +53,7 @@ mark-beyond w v e = used-none isMark w v (each-map no-mark (none-beyond w v e))
 
 -- ---- one parameter, as code reads it: w and v are the weights and the corners that it was handed
 
-module _ (l : Place) (nodes : List ℤ) (p : ℕ) where
+module _ (l : Offset) (nodes : List ℤ) (p : ℕ) where
   pub missing : l .np ≤ p → faultAt l nodes p ≡ false
   unfolding faultAt
   missing h = rw (le-ltb p (l .np) h) refl
@@ -62,8 +62,8 @@ module _ (l : Place) (nodes : List ℤ) (p : ℕ) where
   unfolding resultAt
   none factor h = rw (le-ltb p (l .np) h) refl
 
-  module _ {w : Weights} {v : Corners} (h : Placed l) (e : w ≡ spotOf l .weights) (f : v ≡ cornersOf l nodes p) (k : p < l .np) where
-    same : usedSome isBeyond w v ≡ usedSome isBeyond (spotOf l .weights) (cornersOf l nodes p)
+  module _ {w : Weights} {v : Corners} (h : InsideGrid l) (e : w ≡ cellOf l .weights) (f : v ≡ cornersOf l nodes p) (k : p < l .np) where
+    same : usedSome isBeyond w v ≡ usedSome isBeyond (cellOf l .weights) (cornersOf l nodes p)
     same i = usedSome isBeyond (e i) (f i)
 
     pub tested : {t : Bool} (b : Bool) → t ≡ usedSome isBeyond w v → t ≡ b → faultAt l nodes p ≡ b
@@ -71,7 +71,7 @@ module _ (l : Place) (nodes : List ℤ) (p : ℕ) where
     tested b g i = rw (lt-ltb p (l .np) k) (sym (g ∙ same) ∙ i)
 
     pub weighed : {t : Bool} → t ≡ usedSome isBeyond w v → t ≡ false → Weighed w × (usedSome isBeyond w v ≡ false)
-    weighed g i = (subst Weighed (sym e) (spot-weighed h), sym g ∙ i)
+    weighed g i = (subst Weighed (sym e) (cell-weighed h), sym g ∙ i)
 
     value : {z : ℤ} → SFits w64 z → z ≡ valueOf w v → toZ w64 (ofZ w64 z) ≡ valueIn l nodes p
     unfolding valueIn
@@ -92,12 +92,12 @@ module _ (l : Place) (nodes : List ℤ) (p : ℕ) where
 
 -- ---- the fix
 
-module _ (l : Place) (nodes : List ℤ) (factor : ℤ) (grid : ℕ) where
+module _ (l : Offset) (nodes : List ℤ) (factor : ℤ) (grid : ℕ) where
   abbrev beyondAt : ℕ → Bool
-  beyondAt p = usedSome isBeyond (spotOf l .weights) (cornersOf l nodes p)
+  beyondAt p = usedSome isBeyond (cellOf l .weights) (cornersOf l nodes p)
 
   abbrev markAt : ℕ → Bool
-  markAt p = usedSome isMark (spotOf l .weights) (cornersOf l nodes p)
+  markAt p = usedSome isMark (cellOf l .weights) (cornersOf l nodes p)
 
   pub fix-fault : (p : ℕ) → faultAt l nodes p ≡ true → refusedIn l nodes ≡ fixIn l nodes factor grid
   unfolding faultAt cornerSome refusedIn
@@ -130,7 +130,7 @@ module _ (l : Place) (nodes : List ℤ) (factor : ℤ) (grid : ℕ) where
         })
     unfolding cornerSome
     fix-sound =
-        let m = first-none markAt (l .np) (λ k h. mark-beyond (spotOf l .weights) (cornersOf l nodes k) (each k h)) in
+        let m = first-none markAt (l .np) (λ k h. mark-beyond (cellOf l .weights) (cornersOf l nodes k) (each k h)) in
         let b = first-none beyondAt (l .np) each in
         fix-found l nodes factor grid (le-ltb (first markAt (l .np)) (l .np) (omega arith)) (le-ltb (first beyondAt (l .np)) (l .np) (omega arith))
 

@@ -11,9 +11,9 @@ abbrev pub lookupRefusal : Lookup → Refusal
 lookupRefusal (L.Fix f) = noRefusal
 lookupRefusal (L.Refused r) = r
 
-abbrev pub gridOf : Lookup → ℕ
-gridOf (L.Fix f) = f .grid
-gridOf (L.Refused r) = 0
+abbrev pub lookupGrid : Lookup → ℕ
+lookupGrid (L.Fix f) = f .grid
+lookupGrid (L.Refused r) = 0
 
 -- result p of a fix, from 0
 abbrev pub resultIn : Fix → ℕ → ℤ

@@ -7,12 +7,12 @@ ghost use Prim.Native.Nat.{_≤_, _<_};
 ghost use lib.IntN.{natAbs};
 ghost use lib.ListN.{length};
 ghost use Rattle.group.specs.Numbers.{isMark, factorMost};
-ghost use Rattle.fix.specs.Fix.{Placed, Listed, position, spotOf, cornersOf, cornerSome, fixIn};
+ghost use Rattle.fix.specs.Fix.{InsideGrid, RangeListed, position, cellOf, cornersOf, cornerSome, fixIn};
 ghost use Rattle.fix.specs.Parts.{Begun, refusedIn};
 
 // A point in a grid: its distances in mas from node 0 and the spacing sizes, along parallel and meridian; the counts of nodes,
 // START and the count of parameters.
-pub struct Place {
+pub struct Offset {
     pub dx: u64,
     pub dy: u64,
     pub sx: u64,
@@ -24,7 +24,7 @@ pub struct Place {
 }
 
 // A point's cell: the indices of its node of lower indices, and the weights of its corners.
-pub struct Spot {
+pub struct Cell {
     pub i: u64,
     pub j: u64,
     pub weights: Weights,
@@ -45,14 +45,14 @@ pub enum Lookup {
 }
 
 // The cell of a point in a grid.
-fn spot_of(l: Place) -> Spot
-    requires { ⌜ Placed l ⌝ }
-    ensures { λ r. ⌜ r ≡ spotOf l ⌝ }
+fn cell_of(l: Offset) -> Cell
+    requires { ⌜ InsideGrid l ⌝ }
+    ensures { λ r. ⌜ r ≡ cellOf l ⌝ }
 {
     let x = cell::cell_along(l.dx, l.sx, l.ni);
     let y = cell::cell_along(l.dy, l.sy, l.nj);
     let weights = cell::weights_at(l.sx, l.sy, x.rest, y.rest);
-    Spot {
+    Cell {
         i: x.index,
         j: y.index,
         weights: weights,
@@ -60,16 +60,16 @@ fn spot_of(l: Place) -> Spot
 }
 
 // The position of the first parameter of node (i, j) in the node list.
-fn position(l: Place, i: u64, j: u64) -> u64
-    requires { ⌜ Placed l × (i < l .ni) × (j < l .nj) × (0 < l .np) ⌝ }
+fn position(l: Offset, i: u64, j: u64) -> u64
+    requires { ⌜ InsideGrid l × (i < l .ni) × (j < l .nj) × (0 < l .np) ⌝ }
     ensures { λ r. ⌜ r ≡ position l i j 0 ⌝ }
 {
     l.start + (j * l.ni + i) * l.np
 }
 
 // What the corners of the point's cell hold of parameter p; a is the position of the cell's node of lower indices.
-fn corners_at(l: Place, nodes: &[i32], a: u64, p: u64) -> Corners
-    requires { ⌜ Placed l × Listed l (length (now nodes)) × (a ≡ position l (spotOf l .i) (spotOf l .j) 0) × (p < l .np) ⌝ }
+fn corners_at(l: Offset, nodes: &[i32], a: u64, p: u64) -> Corners
+    requires { ⌜ InsideGrid l × RangeListed l (length (now nodes)) × (a ≡ position l (cellOf l .i) (cellOf l .j) 0) × (p < l .np) ⌝ }
     ensures { λ r. ⌜ r ≡ cornersOf l (now (nodes .entry)) p ⌝ }
 {
     let np = l.np;
@@ -88,7 +88,7 @@ fn corners_at(l: Place, nodes: &[i32], a: u64, p: u64) -> Corners
 }
 
 // Whether a used corner of the point's cell holds the mark, any parameter.
-fn some_mark(l: Place, w: Weights, a: u64, nodes: &[i32]) -> bool
+fn some_mark(l: Offset, w: Weights, a: u64, nodes: &[i32]) -> bool
     requires { ⌜ Begun l (length (now nodes)) w a ⌝ }
     ensures { λ r. ⌜ r ≡ cornerSome isMark l (now (nodes .entry)) ⌝ }
 {
@@ -105,7 +105,7 @@ fn some_mark(l: Place, w: Weights, a: u64, nodes: &[i32]) -> bool
 }
 
 // Which refusal a used corner that holds no node value has: 8 where one is the mark, else 11.
-fn refused(l: Place, w: Weights, a: u64, nodes: &[i32]) -> Lookup
+fn refused(l: Offset, w: Weights, a: u64, nodes: &[i32]) -> Lookup
     requires { ⌜ Begun l (length (now nodes)) w a ⌝ }
     ensures { λ r. ⌜ r ≡ refusedIn l (now (nodes .entry)) ⌝ }
 {
@@ -123,7 +123,7 @@ fn refused(l: Place, w: Weights, a: u64, nodes: &[i32]) -> Lookup
 
 // The fix of a point with the weights w of its cell's corners, whose node of lower indices stands at a. One parameter at a time, with
 // no loop and no call that is shared, so that each is compiled in its place.
-fn fix_from(l: Place, w: Weights, a: u64, nodes: &[i32], factor: i64, grid: u64) -> Lookup
+fn fix_from(l: Offset, w: Weights, a: u64, nodes: &[i32], factor: i64, grid: u64) -> Lookup
     requires { ⌜ Begun l (length (now nodes)) w a × (0 < l .np) × (natAbs factor ≤ factorMost) ⌝ }
     ensures { λ r. ⌜ r ≡ fixIn l (now (nodes .entry)) factor grid ⌝ }
 {
@@ -168,8 +168,8 @@ fn fix_from(l: Place, w: Weights, a: u64, nodes: &[i32], factor: i64, grid: u64)
 
 // The fix of a point in the grid of a number, from 1, with the day factor in millionths: refusal 8 where a used corner is the
 // mark, else 11 where one is beyond the limit of node values, else the results. Each corner is read once; the mark is beyond that limit too.
-pub fn fix_in(l: Place, nodes: &[i32], factor: i64, grid: u64) -> Lookup
-    requires { ⌜ Placed l × Listed l (length (now nodes)) × (natAbs factor ≤ factorMost) ⌝ }
+pub fn fix_in(l: Offset, nodes: &[i32], factor: i64, grid: u64) -> Lookup
+    requires { ⌜ InsideGrid l × RangeListed l (length (now nodes)) × (natAbs factor ≤ factorMost) ⌝ }
     ensures { λ r. ⌜ r ≡ fixIn l (now (nodes .entry)) factor grid ⌝ }
 {
     if l.np == 0 {
@@ -180,7 +180,7 @@ pub fn fix_in(l: Place, nodes: &[i32], factor: i64, grid: u64) -> Lookup
             third: 0,
         });
     }
-    let s = spot_of(l);
+    let s = cell_of(l);
     let a = position(l, s.i, s.j);
     fix_from(l, s.weights, a, nodes, factor, grid)
 }

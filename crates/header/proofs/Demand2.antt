@@ -21,7 +21,7 @@ use Rattle.judge.specs.Judge.{judged}
 use Rattle.header.specs.declared.Reading.{Reading}
 use Rattle.header.specs.declared.Written.{Written}
 use Rattle.header.specs.declared.Written.the-variants as W
-use Rattle.header.specs.Whole.{Header, stopped, header, readLines, groupOf, acceptedReading, headerText}
+use Rattle.header.specs.Whole.{Header, stopped, header, readLines, groupOfLines, acceptedReading, headerText}
 use Rattle.header.specs.Header.{verdictReading, judgedReading, readHeader, written, writtenRefusal, writtenCount, bytesAfter}
 use Rattle.header.specs.Demand2.{InFront, TextRead, TextWritten, Shaped, Formed, JudgedAsText}
 use Rattle.header.proofs.HeaderLaws.{count-answer}
@@ -47,7 +47,7 @@ judged-read t g e = in-lines (readLines t) e
 
     in-lines : (x : Header Ramp Grid) → judgedReading x ≡ acceptedReading g → judged g ≡ Accepted
     in-lines (stopped r) f = absurd (no-acceptance r (ap (λ (a : Reading). a .verdict) f))
-    in-lines (header h rs ds) f = in-verdict (groupOf h rs ds) (judged (groupOf h rs ds)) refl f
+    in-lines (header h rs ds) f = in-verdict (groupOfLines h rs ds) (judged (groupOfLines h rs ds)) refl f
 
 blank-read : (t : List ℕ) (q : Refusal) → readHeader t .verdict ≡ Refused q → readHeader t .group ≡ blankGroup
 unfolding readHeader
@@ -59,7 +59,7 @@ blank-read t q e = in-lines (readLines t) e
 
     in-lines : (x : Header Ramp Grid) → judgedReading x .verdict ≡ Refused q → judgedReading x .group ≡ blankGroup
     in-lines (stopped r) f = refl
-    in-lines (header h rs ds) f = in-verdict (groupOf h rs ds) (judged (groupOf h rs ds)) f
+    in-lines (header h rs ds) f = in-verdict (groupOfLines h rs ds) (judged (groupOfLines h rs ds)) f
 
 module _ (t : List ℕ) (e : readHeader t .verdict ≡ Accepted) where
   abbrev group : Group

@@ -30,7 +30,7 @@ use Rattle.line.specs.Lines.{rampLine, rampText, gridText}
 use Rattle.line.proofs.NameLaws.{blank-name}
 use Rattle.line.proofs.KindLaws.{RampFormed, HeadFormed, headWithin, ramp-kind, grid-name}
 use Rattle.header.specs.Items.{entries}
-use Rattle.header.specs.Whole.{stopped, gridLines, readLines, groupOf, acceptedReading, headOfGroup, headerText}
+use Rattle.header.specs.Whole.{stopped, gridLines, readLines, groupOfLines, acceptedReading, headOfGroup, headerText}
 use Rattle.header.specs.Header.{verdictReading, judgedReading, readHeader}
 use Rattle.header.specs.Demand2.{Shaped, Formed}
 use Rattle.header.proofs.ItemLaws.{All}
@@ -141,7 +141,7 @@ module _ (g : Group) (f : Formed g) where
   head-formed = record { name = f .name; room = f .shape .name }
 
   module _ (e : headFits g ≡ true) where
-    group-back : groupOf (headOfGroup g) (take (g .ramps) (g .ramp)) (take (g .grids) (g .grid)) ≡ g
+    group-back : groupOfLines (headOfGroup g) (take (g .ramps) (g .ramp)) (take (g .grids) (g .grid)) ≡ g
     group-back =
         let r = entries-back 8 blankRamp blankRamp (g .ramp) (g .ramps) (f .shape .ramp) (ramps-most g e) (λ k u v. blank-ramp (rampAt g k) (f .no-ramp k v u)) in
         let d = entries-back 64 blankGrid noGrid (g .grid) (g .grids) (f .shape .grid) (grids-between g e .1) (λ k u v. blank-grid (gridAt g k) (f .shape .names k v) (f .no-grid k v u)) in

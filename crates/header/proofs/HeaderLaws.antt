@@ -23,7 +23,7 @@ use Rattle.group.specs.declared.Verdict.the-variants.{Accepted, Refused}
 use Rattle.judge.specs.Judge.{judged}
 use Rattle.judge.proofs.TableLaws.{judged-table}
 use Rattle.header.specs.declared.Reading.{Reading}
-use Rattle.header.specs.Whole.{Header, stopped, header, readLines, groupOf, refusedReading, linesReading, headOfGroup, headerText}
+use Rattle.header.specs.Whole.{Header, stopped, header, readLines, groupOfLines, refusedReading, linesReading, headOfGroup, headerText}
 use Rattle.header.specs.Header.{verdictReading, judgedReading, readHeader, written, writtenRefusal, bytesAfter}
 
 module _ (t : List ℕ) (q : Reading) (e : q ≡ linesReading (readLines t)) where
@@ -43,7 +43,7 @@ module _ (t : List ℕ) (q : Reading) (e : q ≡ linesReading (readLines t)) whe
         go : (x : Header Ramp Grid) → q ≡ linesReading x → judgedReading x ≡ verdictReading (q .group) v
         go (stopped s) f = absurd (no-acceptance s (sym (ap (λ (a : Reading). a .verdict) f) ∙ w))
         go (header h rs ds) f =
-            let g : q .group ≡ groupOf h rs ds = ap (λ (a : Reading). a .group) f in
+            let g : q .group ≡ groupOfLines h rs ds = ap (λ (a : Reading). a .group) f in
             sym (λ i. verdictReading (g i) (judged (g i))) ∙ ap (verdictReading (q .group)) (sym j)
 
     pub header-refused : (r : Refusal) → v ≡ Refused r → refusedReading r ≡ readHeader t

@@ -28,7 +28,7 @@ use Rattle.judge.proofs.Accepted.{accepted, accepted-head}
 use Rattle.line.specs.declared.Head.{Head}
 use Rattle.line.specs.Names.{nameText, unitText}
 use Rattle.header.specs.Items.{closed}
-use Rattle.line.specs.Lines.{groupWord, headInts, headText, rampWord, rampInts, rampText, gridWord, gridInts, gridText}
+use Rattle.line.specs.Lines.{groupKeyword, headInts, headText, rampKeyword, rampInts, rampText, gridKeyword, gridInts, gridText}
 use Rattle.header.specs.Whole.{headOfGroup, headerText}
 use Rattle.header.specs.Writing.{Wide}
 use Rattle.line.proofs.LimitLaws.{head-sizes, ramp-sizes, origin-sizes, counts-sizes}
@@ -58,7 +58,7 @@ head-length h m e =
     let n = name-length (h .name) m in
     let u = unit-length (h .unit) in
     let p = length-append (headText h) (10 ∷ []) in
-    let q = line-length groupWord (nameText (h .name) ∷ unitText (h .unit) ∷ map intText (headInts h)) in
+    let q = line-length groupKeyword (nameText (h .name) ∷ unitText (h .unit) ∷ map intText (headInts h)) in
     omega arith
 
 ramp-length : (r : Ramp) → rampFits r ≡ true → length (rampText r) < 43
@@ -69,7 +69,7 @@ ramp-length r e =
     let b = intText-length 7 (r .s0) (omega arith) in
     let c = intText-length 6 (r .b) (omega arith) in
     let d = intText-length 7 (r .s1) (omega arith) in
-    let q = line-length rampWord (map intText (rampInts r)) in
+    let q = line-length rampKeyword (map intText (rampInts r)) in
     omega arith
 
 grid-length : (g : Grid) → gridFits g ≡ true → length (gridText g) < 97
@@ -88,7 +88,7 @@ grid-length g e =
     let c′ = posText-length 3 (g .rank) (omega arith) in
     let d′ = posText-length 7 (g .start) (omega arith) in
     let n = name-length (g .name) (grid-name g e) in
-    let q = line-length gridWord (nameText (g .name) ∷ map intText (gridInts g)) in
+    let q = line-length gridKeyword (nameText (g .name) ∷ map intText (gridInts g)) in
     omega arith
 
 -- ---- lines that follow each other

@@ -21,7 +21,7 @@ use Rattle.line.specs.Line.{Line, bad, good}
 use Rattle.line.specs.Lines.{headLine, rampLine, gridLine}
 use Rattle.line.proofs.RoomLaws.{HeadRoom, head-room, grid-room}
 use Rattle.header.specs.Items.{Items, refused, items, onLine, readItems, entries}
-use Rattle.header.specs.Whole.{Header, stopped, header, ending, afterGrids, afterRampsOf, afterHeadOf, gridLines, readLines, groupOf}
+use Rattle.header.specs.Whole.{Header, stopped, header, ending, afterGrids, afterRampsOf, afterHeadOf, gridLines, readLines, groupOfLines}
 use Rattle.header.specs.Header.{verdictReading, judgedReading, readHeader}
 use Rattle.header.specs.Demand2.{Shaped}
 
@@ -95,7 +95,7 @@ entries-length : {A : Type 0} (n : ℕ) (z : A) (xs : List A) → length xs ≤ 
 entries-length n z xs h =
     let r = length-replicate (n - length xs) z in length-append xs (replicate (n - length xs) z) ∙ omega arith
 
-group-shaped : (h : Head) (rs : List Ramp) (ds : List Grid) → Room (header h rs ds) → Shaped (groupOf h rs ds)
+group-shaped : (h : Head) (rs : List Ramp) (ds : List Grid) → Room (header h rs ds) → Shaped (groupOfLines h rs ds)
 group-shaped h rs ds r =
     let a = r .0 in let m = a .ramps in let n = a .grids in let e = r .1 in let f = r .2 in
     record {
@@ -135,4 +135,4 @@ read-shaped t = go (readLines t) (lines-room t)
 
     go : (x : Header Ramp Grid) → Room x → Shaped (judgedReading x .group)
     go (stopped r) s = blank-shaped
-    go (header h rs ds) s = by-verdict (groupOf h rs ds) (judged (groupOf h rs ds)) (group-shaped h rs ds s)
+    go (header h rs ds) s = by-verdict (groupOfLines h rs ds) (judged (groupOfLines h rs ds)) (group-shaped h rs ds s)

@@ -21,12 +21,12 @@ use Rattle.judge.specs.Judge.{judged}
 use Rattle.judge.proofs.TableLaws.{judged-told}
 use Rattle.line.specs.declared.Head.{Head}
 use Rattle.line.specs.Line.{Line, bad, good}
-use Rattle.line.specs.Lines.{keyed, formed, fields, groupWord, headTexts, headFit, headOf, headLine, rampWord, rampTexts, rampFit, rampOf, rampLine, gridWord, gridTexts, gridFit, gridOf}
+use Rattle.line.specs.Lines.{keyed, formed, fields, groupKeyword, headTexts, headFit, headOf, headLine, rampKeyword, rampTexts, rampFit, rampOf, rampLine, gridKeyword, gridTexts, gridFit, gridOf}
 use Rattle.header.specs.declared.Reading.{Reading}
 use Rattle.header.specs.declared.Written.{Written}
 use Rattle.header.specs.declared.Written.the-variants as W
 use Rattle.header.specs.Items.{Items, refused, items, onLine, readItems}
-use Rattle.header.specs.Whole.{Header, stopped, header, ending, afterGrids, afterRampsOf, afterHeadOf, readLinesOf, gridLines, readLines, groupOf, refusedReading}
+use Rattle.header.specs.Whole.{Header, stopped, header, ending, afterGrids, afterRampsOf, afterHeadOf, readLinesOf, gridLines, readLines, groupOfLines, refusedReading}
 use Rattle.header.specs.Header.{judgedReading, readHeader, written, writtenRefusal}
 
 abbrev InTable : Refusal → Type 0
@@ -101,7 +101,7 @@ module _ {R D : Type 0} (ramp : ℕ → List ℕ → Line Refusal R) (grid : Hea
   after-head (items (h ∷ hs) ls) p = after-ramps h (readItems ramp (h .ramps) 2 ls) (items-in ramp ramp-in (h .ramps) 2 ls)
 
   lines-in : (t : List ℕ) → HeaderIn (readLinesOf ramp grid t)
-  lines-in t = after-head (readItems headLine 1 1 (split 10 t)) (items-in headLine (λ n l. keyed-in 2 4 headTexts headFit headOf (refusal 1 n) (refusal 2 n) refl refl groupWord (split 9 l)) 1 1 (split 10 t))
+  lines-in t = after-head (readItems headLine 1 1 (split 10 t)) (items-in headLine (λ n l. keyed-in 2 4 headTexts headFit headOf (refusal 1 n) (refusal 2 n) refl refl groupKeyword (split 9 l)) 1 1 (split 10 t))
 
 -- ---- reading and writing
 
@@ -112,12 +112,12 @@ pub read-told : (t : List ℕ) → Told (readHeader t .verdict ≡ Accepted) (ve
 unfolding readHeader
 read-told t =
     in-lines (readLines t)
-    (lines-in rampLine gridLines (λ n l. keyed-in 0 4 rampTexts rampFit rampOf (refusal 1 n) (refusal 2 n) refl refl rampWord (split 9 l))
-    (λ h ls n l. keyed-in 1 8 gridTexts gridFit gridOf (refusal 1 n) (refusal 2 n) refl refl gridWord (split 9 l)) t)
+    (lines-in rampLine gridLines (λ n l. keyed-in 0 4 rampTexts rampFit rampOf (refusal 1 n) (refusal 2 n) refl refl rampKeyword (split 9 l))
+    (λ h ls n l. keyed-in 1 8 gridTexts gridFit gridOf (refusal 1 n) (refusal 2 n) refl refl gridKeyword (split 9 l)) t)
   where
     in-lines : (x : Header Ramp Grid) → HeaderIn x → Told (judgedReading x .verdict ≡ Accepted) (verdictRefusal (judgedReading x .verdict))
     in-lines (stopped r) p = told-by readings r p
-    in-lines (header h rs ds) p = told-verdict readings (judged (groupOf h rs ds)) (judged-told (groupOf h rs ds)) (told-accepted refl)
+    in-lines (header h rs ds) p = told-verdict readings (judged (groupOfLines h rs ds)) (judged-told (groupOfLines h rs ds)) (told-accepted refl)
 
 -- a refusal is no count
 pub no-count : (n : ℕ) (r : Refusal) → W.Refused r ≡ W.Count n → ⊥

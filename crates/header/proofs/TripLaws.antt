@@ -29,7 +29,7 @@ use Rattle.line.proofs.LineLaws.{limited, Kind}
 use Rattle.line.proofs.KindLaws.{RampFormed, GridFormed, HeadFormed, headWithin, head-kind, ramp-kind, grid-kind}
 use Rattle.header.specs.declared.Reading.{Reading}
 use Rattle.header.specs.Items.{Items, refused, items, onLine, readItems, closed, entries}
-use Rattle.header.specs.Whole.{Header, stopped, header, ending, afterGrids, afterRampsOf, afterHeadOf, readLinesOf, gridLines, readLines, groupOf, acceptedReading, linesText, headerText}
+use Rattle.header.specs.Whole.{Header, stopped, header, ending, afterGrids, afterRampsOf, afterHeadOf, readLinesOf, gridLines, readLines, groupOfLines, acceptedReading, linesText, headerText}
 use Rattle.header.specs.Header.{verdictReading, judgedReading, readHeader}
 use Rattle.header.proofs.ItemLaws.{All, beyond, limitedItems, limited-none, closed-line, read-closed, closed-read, count-read}
 
@@ -192,7 +192,7 @@ pub same-bytes : (t : List ℕ) (g : Group) → readHeader t ≡ acceptedReading
 unfolding readHeader headerText
 same-bytes t g e = in-lines (readLines t) refl e
   where
-    in-verdict : (h : Head) (rs : List Ramp) (ds : List Grid) (v : Verdict) → Read t h rs ds → verdictReading (groupOf h rs ds) v ≡ acceptedReading g → headerText g ≡ t
+    in-verdict : (h : Head) (rs : List Ramp) (ds : List Grid) (v : Verdict) → Read t h rs ds → verdictReading (groupOfLines h rs ds) v ≡ acceptedReading g → headerText g ≡ t
     in-verdict h rs ds (Refused r) s f = absurd (no-acceptance r (ap (λ (a : Reading). a .verdict) f))
     in-verdict h rs ds Accepted s f =
         ap headerText (sym (ap (λ (a : Reading). a .group) f))
@@ -201,7 +201,7 @@ same-bytes t g e = in-lines (readLines t) refl e
 
     in-lines : (x : Header Ramp Grid) → readLines t ≡ x → judgedReading x ≡ acceptedReading g → headerText g ≡ t
     in-lines (stopped r) p f = absurd (no-acceptance r (ap (λ (a : Reading). a .verdict) f))
-    in-lines (header h rs ds) p f = in-verdict h rs ds (judged (groupOf h rs ds)) (same-lines rampLine rampText RampFormed rampFits ramp-kind gridLines gridText GridsFormed gridFits Always grid-lines t h rs ds p) f
+    in-lines (header h rs ds) p f = in-verdict h rs ds (judged (groupOfLines h rs ds)) (same-lines rampLine rampText RampFormed rampFits ramp-kind gridLines gridText GridsFormed gridFits Always grid-lines t h rs ds p) f
 
 -- so the text of a group is unique
 pub one-text : (g : Group) (t u : List ℕ) → readHeader t ≡ acceptedReading g → readHeader u ≡ acceptedReading g → t ≡ u

@@ -19,7 +19,7 @@ use Rattle.line.specs.declared.Head.{Head}
 use Rattle.group.specs.Refusals.{refusal}
 use Rattle.line.specs.Line.{Line, bad, good}
 use Rattle.header.specs.Items.{Items, refused, items, onLine, readItems, verdictOf, foundOf, behindOf, Are}
-use Rattle.line.specs.Lines.{fields, groupWord, headTexts, headFit, headOf, headLine}
+use Rattle.line.specs.Lines.{fields, groupKeyword, headTexts, headFit, headOf, headLine}
 use Rattle.header.specs.Whole.{Header, stopped, header, ending, afterGrids, afterRampsOf, afterHeadOf, readLinesOf}
 use Rattle.line.proofs.LineLaws.{keyed-good, fields-good, four-of}
 use Rattle.line.proofs.LimitLaws.{head-sizes}
@@ -111,7 +111,7 @@ module _ {R D : Type 0} (ramp : ℕ → List ℕ → Line Refusal R) (grid : Hea
 
 -- the counts of a group line that is read
 pub head-counts : (n : ℕ) (line : List ℕ) (h : Head) → headLine n line ≡ good h → (h .ramps ≤ rampsMost) × (h .grids ≤ gridsMost)
-head-counts n line h e = ⊎-elim (λ w. go (w .0) (w .2)) (λ w. let z : _≡_ {A = ℕ} 0 1 = cc in absurd (omega arith)) (keyed-good groupWord of (λ fs. bad (refusal 1 n)) (split 9 line) h e)
+head-counts n line h e = ⊎-elim (λ w. go (w .0) (w .2)) (λ w. let z : _≡_ {A = ℕ} 0 1 = cc in absurd (omega arith)) (keyed-good groupKeyword of (λ fs. bad (refusal 1 n)) (split 9 line) h e)
   where
     of : List (List ℕ) → Line Refusal Head
     of = fields 2 4 headTexts headFit headOf (refusal 1 n) (refusal 2 n)

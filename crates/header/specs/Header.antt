@@ -14,7 +14,7 @@ use Rattle.header.specs.declared.Written.{Written}
 use Rattle.header.specs.declared.Written.the-variants as W
 use Rattle.group.specs.declared.Refusal.{Refusal}
 use Rattle.group.specs.Refusals.{noRefusal, refuseIf, unlessRefused, lentAfter}
-use Rattle.header.specs.Whole.{Header, stopped, header, readLines, groupOf, refusedReading, acceptedReading, headerText}
+use Rattle.header.specs.Whole.{Header, stopped, header, readLines, groupOfLines, refusedReading, acceptedReading, headerText}
 
 -- a group that was read: its judge's refusal, else the group
 abbrev pub verdictReading : Group → Verdict → Reading
@@ -23,7 +23,7 @@ verdictReading g v = unlessRefused refusedReading v (acceptedReading g)
 -- the lines that were read: their refusal, else the group that they make, judged
 abbrev pub judgedReading : Header Ramp Grid → Reading
 judgedReading (stopped r) = refusedReading r
-judgedReading (header h rs ds) = verdictReading (groupOf h rs ds) (judged (groupOf h rs ds))
+judgedReading (header h rs ds) = verdictReading (groupOfLines h rs ds) (judged (groupOfLines h rs ds))
 
 -- reading goes line by line, 1 before 2 on one line, then 3, 4, 5
 unfoldable pub readHeader : List ℕ → Reading

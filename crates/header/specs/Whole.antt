@@ -58,8 +58,8 @@ abbrev pub readLines : List ℕ → Header Ramp Grid
 readLines = readLinesOf rampLine gridLines
 
 -- the record of a header's lines
-abbrev pub groupOf : Head → List Ramp → List Grid → Group
-groupOf h rs ds =
+abbrev pub groupOfLines : Head → List Ramp → List Grid → Group
+groupOfLines h rs ds =
     record {
       name = h .name;
       unit = h .unit;
@@ -79,7 +79,7 @@ acceptedReading g = record { verdict = Accepted; group = g }
 
 abbrev pub linesReading : Header Ramp Grid → Reading
 linesReading (stopped r) = refusedReading r
-linesReading (header h rs ds) = acceptedReading (groupOf h rs ds)
+linesReading (header h rs ds) = acceptedReading (groupOfLines h rs ds)
 
 -- the lines of a group
 abbrev pub headOfGroup : Group → Head

@@ -27,8 +27,8 @@ use Rattle.coverage.specs.InForce as flat
 use Rattle.inforce.specs.declared.Area.{Area}
 use Rattle.inforce.specs.declared.GridInForce.{GridInForce}
 use Rattle.inforce.specs.Area.{areaFits, InArea, lonAt, latAt}
-use Rattle.inforce.specs.InForce.{inForceIn, shown, noGrid, listed}
-use Rattle.inforce.specs.Demand3.{entryAt, Placed, GridsInForce, Demand3}
+use Rattle.inforce.specs.InForce.{inForceIn, shownEntry, blankEntry, acceptedList}
+use Rattle.inforce.specs.Demand3.{entryAt, GridPlaced, GridsInForce, Demand3}
 use Rattle.inforce.proofs.AreaLaws.{area-size, area-inside, inside-area}
 use Rattle.inforce.proofs.GroupLaws.{placed-in}
 use Rattle.inforce.proofs.StageLaws.{in-force-listed}
@@ -48,24 +48,24 @@ module _ (m a b : ℕ) where
       diff-≤ (omega arith)
 
 -- what stands in each place
-pub none-at : (n i : ℕ) → getD (replicate n noGrid) i noGrid ≡ noGrid
+pub none-at : (n i : ℕ) → getD (replicate n blankEntry) i blankEntry ≡ blankEntry
 none-at zero i = refl
 none-at (suc n) zero = refl
 none-at (suc n) (suc i) = none-at n i
 
 module _ (es : List Entry) where
-  used : (i : ℕ) → i < length es → entryAt (listed es) i ≡ shown (getD es i flat.noEntry)
+  used : (i : ℕ) → i < length es → entryAt (acceptedList es) i ≡ shownEntry (getD es i flat.noEntry)
   used i h =
-      List·getD-append (map shown es) (replicate (gridsMost - length es) noGrid) noGrid i (omega (arith, length-map es shown)) ∙ map-at shown flat.noEntry noGrid es i h
+      List·getD-append (map shownEntry es) (replicate (gridsMost - length es) blankEntry) blankEntry i (omega (arith, length-map es shownEntry)) ∙ map-at shownEntry flat.noEntry blankEntry es i h
 
-  unused : (i : ℕ) → length es ≤ i → entryAt (listed es) i ≡ noGrid
+  unused : (i : ℕ) → length es ≤ i → entryAt (acceptedList es) i ≡ blankEntry
   unused i h =
-      let e : i ≡ length (map shown es) + (i - length es) = omega (arith, length-map es shown) in
-      rw e (getD-append-add (map shown es) (replicate (gridsMost - length es) noGrid) (i - length es) noGrid ∙ none-at (gridsMost - length es) (i - length es))
+      let e : i ≡ length (map shownEntry es) + (i - length es) = omega (arith, length-map es shownEntry) in
+      rw e (getD-append-add (map shownEntry es) (replicate (gridsMost - length es) blankEntry) (i - length es) blankEntry ∙ none-at (gridsMost - length es) (i - length es))
 
-  whole : length es ≤ gridsMost → length (listed es .entries) ≡ gridsMost
+  whole : length es ≤ gridsMost → length (acceptedList es .entries) ≡ gridsMost
   whole h =
-      omega (arith, length-append (map shown es) (replicate (gridsMost - length es) noGrid), length-map es shown, length-replicate (gridsMost - length es) noGrid)
+      omega (arith, length-append (map shownEntry es) (replicate (gridsMost - length es) blankEntry), length-map es shownEntry, length-replicate (gridsMost - length es) blankEntry)
 
 module _ (g : Group) (e : judged g ≡ Accepted) (a : Area) (f : areaFits a ≡ true) where
   abbrev es : List Entry
@@ -77,7 +77,7 @@ module _ (g : Group) (e : judged g ≡ Accepted) (a : Area) (f : areaFits a ≡ 
       let n = area-size a f x y i in
       ap₂ (chosenIn g) (lowered-raised lonZero x (n .0)) (lowered-raised latZero y (n .1))
 
-  placed : (i : ℕ) → i < length es → Placed g a (shown (getD es i flat.noEntry))
+  placed : (i : ℕ) → i < length es → GridPlaced g a (shownEntry (getD es i flat.noEntry))
   placed i l =
       let p = placed-in g e a f .placed i l in
       let t = getD es i flat.noEntry in
@@ -99,14 +99,14 @@ module _ (g : Group) (e : judged g ≡ Accepted) (a : Area) (f : areaFits a ≡ 
             (p .first (lonFromLeast x) (latFromLeast y) (area-inside a f x y h) (back x y h ∙ c));
       }
 
-  of-list : GridsInForce g a (listed es)
+  of-list : GridsInForce g a (acceptedList es)
   of-list =
       record {
         accepted = refl;
         named = λ x y k i c.
             let n = placed-in g e a f .named (lonFromLeast x) (latFromLeast y) k (area-inside a f x y i) (back x y i ∙ c) in
             (n .0, n .1, ap (λ (t : GridInForce). t .grid) (used es (n .0) (n .1)) ∙ n .2);
-        placed = λ i l. subst (Placed g a) (sym (used es i l)) (placed i l);
+        placed = λ i l. subst (GridPlaced g a) (sym (used es i l)) (placed i l);
         ordered = λ i j l m. rw (used es i (omega arith), used es j m) (placed-in g e a f .ordered i j l m);
         once = λ i j l m q.
             placed-in g e a f .once i j l m

@@ -12,12 +12,12 @@ use Rattle.flat.proofs.OrderSteps.{byRank≤}
 use Rattle.flat.proofs.OrderLaws.{begins-number, by-rank-alike}
 use Rattle.group.specs.Numbers.{gridsMost, rankMost}
 use Rattle.choice.proofs.PartLaws.{part-holds, chosen-part}
-use Rattle.region.specs.declared.Area.{Area}
-use Rattle.coverage.specs.Layout.{Layout, layout, chosenAt, Sound}
-use Rattle.coverage.specs.InForce.{inForce, listed, Numbers}
+use Rattle.region.specs.declared.Bounds.{Bounds}
+use Rattle.coverage.specs.Rectangles.{Rectangles, rectangles, chosenAt, SoundRects}
+use Rattle.coverage.specs.InForce.{inForce, listingOf, Numbers}
 use Rattle.coverage.proofs.OneEach.{OneEach, one-chosen, one-sound}
 use Rattle.coverage.proofs.Demand3.{in-force-alike}
-use Rattle.inforce.specs.Flat.{FlatSound, flatChosen, flatListed}
+use Rattle.inforce.specs.Flat.{FlatSound, flatChosen, flatListing}
 
 -- the order of the part that the grids of the group fill has at most as many numbers as a group has grids
 pub order-short : (ranks : List ℕ) (n : ℕ) → n ≤ length ranks → n ≤ gridsMost → (order : List ℕ) (count : ℕ)
@@ -27,8 +27,8 @@ order-short ranks n h k order count b =
 
 module _ (sides owners ranks : List ℕ) (n : ℕ) (s : FlatSound sides ranks n) (o : Owned n owners) (w : length owners ≡ gridsMost) where
   -- the parts that the grids of the group fill
-  abbrev part : Layout
-  part = layout (take (n * 4) sides) (take n owners) (take n ranks)
+  abbrev part : Rectangles
+  part = rectangles (take (n * 4) sides) (take n owners) (take n ranks)
 
   sides-length : length (take (n * 4) sides) ≡ n * 4
   sides-length = length-take-le (n * 4) sides (s .room .sides-room)
@@ -52,7 +52,7 @@ module _ (sides owners ranks : List ℕ) (n : ℕ) (s : FlatSound sides ranks n)
             getD-take n owners g 0 m ∙ o g m;
       }
 
-  pub flat-sound : Sound part
+  pub flat-sound : SoundRects part
   flat-sound =
       one-sound part one-each (omega (arith, ranks-length, s .room .few))
       (λ x y i j l m e h k.
@@ -76,10 +76,10 @@ module _ (sides owners ranks : List ℕ) (n : ℕ) (s : FlatSound sides ranks n)
               rw (getD-take count order i 0 k) (begins-number (at (take n ranks)) (length (take n ranks)) rankMost order count b i k);
         }
 
-    pub flat-list : (a : Area) → listed (inForce part (take count order) a) ≡ flatListed sides ranks n a
-    unfolding flatListed
+    pub flat-list : (a : Bounds) → listingOf (inForce part (take count order) a) ≡ flatListing sides ranks n a
+    unfolding flatListing
     flat-list a =
-        ap listed
+        ap listingOf
         (ap (λ (ns : List ℕ). inForce part ns a) (b .same ∙ part-order)
         ∙ in-force-alike (chosenAt part) (flatChosen sides ranks n) a
         (λ x y i. one-chosen part one-each x y ∙ chosen-part sides ranks n x y (s .room .sides-room) (s .room .ranks-room)) (byRank (at ranks) n rankMost))

@@ -20,14 +20,14 @@ use Rattle.flat.proofs.OrderSteps.{byRank≤}
 use Rattle.flat.proofs.OrderLaws.{mem-byRank, byRank-mem, pairs-byRank, before-differs, by-rank-alike}
 use Rattle.ingroup.specs.InGroup.{chosenIn}
 use Rattle.ingroup.proofs.InGroupLaws.{chosen-holds, rank-limits, flat-apart, flat-chosen}
-use Rattle.coverage.specs.InForce.{inForceBy, Inside, Ordered, GridsInForce}
+use Rattle.coverage.specs.InForce.{inForceBy, Inside, Ordered, EntriesInForce}
 use Rattle.coverage.specs.InForce as flat
 use Rattle.coverage.proofs.EntryLaws.{filled-used, filled-length}
 use Rattle.coverage.proofs.Demand3.{in-force, in-force-alike}
 use Rattle.inforce.specs.declared.Area.{Area}
 use Rattle.inforce.specs.Area.{areaFits, lonAt, latAt, areaFromLeast}
-use Rattle.inforce.specs.Flat.{FlatSound, flatChosen, flatListed}
-use Rattle.inforce.specs.InForce.{inForceIn, listed, Narrow}
+use Rattle.inforce.specs.Flat.{FlatSound, flatChosen, flatListing}
+use Rattle.inforce.specs.InForce.{inForceIn, acceptedList, Narrow}
 use Rattle.inforce.proofs.AreaLaws.{inside-most}
 
 module _ (g : Group) (e : judged g ≡ Accepted) where
@@ -74,13 +74,13 @@ module _ (g : Group) (e : judged g ≡ Accepted) where
           ∙ in-force-alike (flatChosen sides ranks (g .grids)) (λ x y. chosenIn g (lonAt x) (latAt y)) (areaFromLeast a) same-choice
           (byRank (λ k. gridAt g k .rank) (g .grids) rankMost)
 
-      pub group-listed : flatListed sides ranks (g .grids) (areaFromLeast a) ≡ flat.listed (inForceIn g a)
-      unfolding flatListed
-      group-listed = ap flat.listed same-list
+      pub group-listed : flatListing sides ranks (g .grids) (areaFromLeast a) ≡ flat.listingOf (inForceIn g a)
+      unfolding flatListing
+      group-listed = ap flat.listingOf same-list
 
 -- what is known of the list
 module _ (g : Group) (e : judged g ≡ Accepted) (a : Area) (f : areaFits a ≡ true) where
-  pub placed-in : GridsInForce (λ x y. chosenIn g (lonAt x) (latAt y)) (Before (λ k. gridAt g k .rank)) (g .grids) (areaFromLeast a) (inForceIn g a)
+  pub placed-in : EntriesInForce (λ x y. chosenIn g (lonAt x) (latAt y)) (Before (λ k. gridAt g k .rank)) (g .grids) (areaFromLeast a) (inForceIn g a)
   placed-in =
       in-force (λ x y. chosenIn g (lonAt x) (latAt y)) (Before (λ k. gridAt g k .rank)) (g .grids) (areaFromLeast a)
       (byRank (λ k. gridAt g k .rank) (g .grids) rankMost) (ranked-order g e) (λ x y k c. chosen-holds g (lonAt x) (latAt y) k c .0)
@@ -88,7 +88,7 @@ module _ (g : Group) (e : judged g ≡ Accepted) (a : Area) (f : areaFits a ≡ 
   few : length (inForceIn g a) ≤ gridsMost
   few = omega (arith, placed-in .few, accepted-head g e .grids)
 
-  pub narrow-list : Narrow (flat.listed (inForceIn g a))
+  pub narrow-list : Narrow (flat.listingOf (inForceIn g a))
   narrow-list =
       record {
         few = few;

@@ -9,7 +9,7 @@ use Rattle.group.proofs.RefusalLaws.{if-here, if-past}
 use Rattle.judge.specs.Judge.{judged}
 use Rattle.inforce.specs.declared.Area.{Area}
 use Rattle.inforce.specs.Area.{areaFits}
-use Rattle.inforce.specs.InForce.{inForceIn, listed, refusedBy, inForceOf}
+use Rattle.inforce.specs.InForce.{inForceIn, acceptedList, refusedBy, inForceOf}
 
 module _ (g : Group) (a : Area) where
   pub in-force-group : (r : Refusal) → judged g ≡ Refused r → inForceOf g a ≡ refusedBy r
@@ -17,12 +17,12 @@ module _ (g : Group) (a : Area) where
   in-force-group r e = rw e refl
 
   module _ (e : judged g ≡ Accepted) where
-    admitted : inForceOf g a ≡ refuseIf refusedBy (not (areaFits a)) 10 0 (listed (inForceIn g a))
+    admitted : inForceOf g a ≡ refuseIf refusedBy (not (areaFits a)) 10 0 (acceptedList (inForceIn g a))
     unfolding inForceOf
     admitted = rw e refl
 
     pub in-force-10 : areaFits a ≡ false → inForceOf g a ≡ refusedBy (refusal 10 0)
     in-force-10 f = admitted ∙ if-here refusedBy (not (areaFits a)) 10 0 _ (ap not f)
 
-    pub in-force-listed : areaFits a ≡ true → inForceOf g a ≡ listed (inForceIn g a)
+    pub in-force-listed : areaFits a ≡ true → inForceOf g a ≡ acceptedList (inForceIn g a)
     in-force-listed f = admitted ∙ if-past refusedBy (not (areaFits a)) 10 0 _ (ap not f)

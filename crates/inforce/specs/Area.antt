@@ -9,7 +9,7 @@ use Rattle.group.specs.Numbers.{lonAdmitted, latAdmitted, lonZero, latZero}
 use Rattle.extent.specs.declared.LonSpan.{LonSpan}
 use Rattle.extent.specs.declared.LatSpan.{LatSpan}
 use Rattle.extent.specs.Sides.{lonFromLeast, latFromLeast}
-use Rattle.region.specs.declared.Area as least
+use Rattle.region.specs.declared.Bounds as least
 use Rattle.inforce.specs.declared.Area.{Area}
 
 -- sides within the limits, west not above east and south not above north: all that 10 does not refuse
@@ -35,7 +35,7 @@ abbrev pub latAt : ℕ → ℤ
 latAt y = pos y -ℤ pos latZero
 
 -- an area by the distances of its sides
-abbrev pub areaFromLeast : Area → least.Area
+abbrev pub areaFromLeast : Area → least.Bounds
 areaFromLeast a =
     record {
       west = lonFromLeast (a .lon .west .0);

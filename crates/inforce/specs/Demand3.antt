@@ -18,10 +18,10 @@ use Rattle.inforce.specs.declared.Area.{Area}
 use Rattle.inforce.specs.declared.GridInForce.{GridInForce}
 use Rattle.inforce.specs.declared.InForce.{InForce}
 use Rattle.inforce.specs.Area.{areaFits, InArea}
-use Rattle.inforce.specs.InForce.{noGrid, inForceOf}
+use Rattle.inforce.specs.InForce.{blankEntry, inForceOf}
 
 abbrev pub entryAt : InForce → ℕ → GridInForce
-entryAt r i = getD (r .entries) i noGrid
+entryAt r i = getD (r .entries) i blankEntry
 
 -- the rank of the grid numbered k, from 1
 abbrev pub rankOf : Group → ℕ → ℕ
@@ -29,7 +29,7 @@ rankOf g k = gridAt g (k - 1) .rank
 
 -- the entry's coordinate is of the area, its grid is chosen there, and every other such coordinate lies farther north, or equally far
 -- north and farther east
-pub record Placed (g : Group) (a : Area) (e : GridInForce) : Type 0 where
+pub record GridPlaced (g : Group) (a : Area) (e : GridInForce) : Type 0 where
   pub number : (1 ≤ e .grid) × (e .grid ≤ g .grids)
   pub inside : InArea a (e .lon .0) (e .lat .0)
   pub chosen : chosenIn g (e .lon .0) (e .lat .0) ≡ e .grid
@@ -41,7 +41,7 @@ pub record GridsInForce (g : Group) (a : Area) (r : InForce) : Type 0 where
   -- a grid chosen at one or more coordinates of the area is named
   pub named : (x y : ℤ) (k : ℕ) → InArea a x y → chosenIn g x y ≡ suc k → (i : ℕ) × (i < r .count) × (entryAt r i .grid ≡ suc k)
   -- and no other: a grid named is chosen at the coordinate beside it, which is the southmost, then westmost such
-  pub placed : (i : ℕ) → i < r .count → Placed g a (entryAt r i)
+  pub placed : (i : ℕ) → i < r .count → GridPlaced g a (entryAt r i)
   -- best rank first, equal ranks in header order
   pub ordered : (i j : ℕ) → i < j → j < r .count
       → (rankOf g (entryAt r i .grid) < rankOf g (entryAt r j .grid))
@@ -49,7 +49,7 @@ pub record GridsInForce (g : Group) (a : Area) (r : InForce) : Type 0 where
   -- each once
   pub once : (i j : ℕ) → i < j → j < r .count → entryAt r i .grid ≡ entryAt r j .grid → ⊥
   -- the count is the number of entries: those behind it are zero, of 64 in all
-  pub unused : (i : ℕ) → r .count ≤ i → entryAt r i ≡ noGrid
+  pub unused : (i : ℕ) → r .count ≤ i → entryAt r i ≡ blankEntry
   pub most : r .count ≤ g .grids
   pub entries : length (r .entries) ≡ gridsMost
   -- a grid that is hidden wherever it holds a coordinate of the area, by one or by several others together, is absent

@@ -28,34 +28,34 @@ abbrev pub inForceIn : Group → Area → List Entry
 inForceIn g a = inForceBy (λ x y. chosenIn g (lonAt x) (latAt y)) (byRank (λ k. gridAt g k .rank) (g .grids) rankMost) (areaFromLeast a)
 
 -- an entry as it is handed back
-abbrev pub shown : Entry → GridInForce
-shown e = record { grid = e .grid; lon = record { 0 = lonAt (e .lon) }; lat = record { 0 = latAt (e .lat) } }
+abbrev pub shownEntry : Entry → GridInForce
+shownEntry e = record { grid = e .grid; lon = record { 0 = lonAt (e .lon) }; lat = record { 0 = latAt (e .lat) } }
 
 -- an unused entry
-abbrev pub noGrid : GridInForce
-noGrid = record { grid = 0; lon = record { 0 = pos 0 }; lat = record { 0 = pos 0 } }
+abbrev pub blankEntry : GridInForce
+blankEntry = record { grid = 0; lon = record { 0 = pos 0 }; lat = record { 0 = pos 0 } }
 
 -- the count and 64 entries, of which the unused ones are zero
-abbrev pub listed : List Entry → InForce
-listed es = record { verdict = Accepted; count = length es; entries = map shown es ++ replicate (gridsMost - length es) noGrid }
+abbrev pub acceptedList : List Entry → InForce
+acceptedList es = record { verdict = Accepted; count = length es; entries = map shownEntry es ++ replicate (gridsMost - length es) blankEntry }
 
 -- a list of coverage's, handed back: its first entries, as many as its count
 abbrev pub shownFirst : List Entry → ℕ → List GridInForce
-shownFirst es n = map shown (take n es) ++ replicate (gridsMost - n) noGrid
+shownFirst es n = map shownEntry (take n es) ++ replicate (gridsMost - n) blankEntry
 
 unfoldable pub shownList : Listing → InForce
 shownList l = record { verdict = Accepted; count = l .count; entries = shownFirst (l .entries) (l .count) }
 
 -- beside a refusal the list is empty
 abbrev pub refusedBy : Refusal → InForce
-refusedBy r = record { verdict = Refused r; count = 0; entries = replicate gridsMost noGrid }
+refusedBy r = record { verdict = Refused r; count = 0; entries = replicate gridsMost blankEntry }
 
 -- 2 to 5, then 10, else the list
 unfoldable pub inForceOf : Group → Area → InForce
 inForceOf g a =
     unlessRefused refusedBy (judged g)
     (refuseIf refusedBy (not (areaFits a)) 10 0
-    (listed (inForceIn g a)))
+    (acceptedList (inForceIn g a)))
 
 -- a list whose coordinates fit 63 bits
 pub record Narrow (l : Listing) : Type 0 where

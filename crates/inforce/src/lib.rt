@@ -4,8 +4,8 @@ ghost use mathlib.Core.Bool.{true};
 ghost use Prim.Native.Nat.{_<_, _*_, _^_};
 ghost use Rattle.judge.specs.Judge.{judged};
 ghost use Rattle.inforce.specs.Area.{lonFits, latFits, areaFits, areaFromLeast};
-ghost use Rattle.inforce.specs.Flat.{FlatSound, flatListed};
-ghost use Rattle.inforce.specs.InForce.{inForceIn, shown, noGrid, listed, shownList, refusedBy, inForceOf, Narrow};
+ghost use Rattle.inforce.specs.Flat.{FlatSound, flatListing};
+ghost use Rattle.inforce.specs.InForce.{inForceIn, shownEntry, blankEntry, acceptedList, shownList, refusedBy, inForceOf, Narrow};
 use coverage::Entry;
 use coverage::Listing;
 use extent::LatSpan;
@@ -74,12 +74,12 @@ fn area_fits(a: Area) -> bool
 }
 
 // An area by the distances of its sides from the least longitude and latitude.
-fn area_from_least(a: Area) -> region::Area
+fn area_from_least(a: Area) -> region::Bounds
     ensures { λ r. ⌜ r ≡ areaFromLeast a ⌝ }
 {
     let lon = a.lon;
     let lat = a.lat;
-    region::Area {
+    region::Bounds {
         west: lon_from_least(lon.west),
         east: lon_from_least(lon.east),
         south: lat_from_least(lat.south),
@@ -90,7 +90,7 @@ fn area_from_least(a: Area) -> region::Area
 // An entry with its coordinate in mas.
 fn shown_entry(e: Entry) -> GridInForce
     requires { ⌜ (e .lon < 2 ^ 63) × (e .lat < 2 ^ 63) ⌝ }
-    ensures { λ r. ⌜ r ≡ shown e ⌝ }
+    ensures { λ r. ⌜ r ≡ shownEntry e ⌝ }
 {
     GridInForce {
         grid: e.grid,
@@ -100,9 +100,9 @@ fn shown_entry(e: Entry) -> GridInForce
 }
 
 // The grids in force by an accepted group's flat lists, the area and the coordinates as distances.
-fn list_flat(sides: &[u64], ranks: &[u64], n: usize, a: region::Area) -> Listing
+fn list_flat(sides: &[u64], ranks: &[u64], n: usize, a: region::Bounds) -> Listing
     requires { ⌜ FlatSound (now sides) (now ranks) n ⌝ }
-    ensures { λ r. ⌜ r ≡ flatListed (now (sides .entry)) (now (ranks .entry)) n a ⌝ }
+    ensures { λ r. ⌜ r ≡ flatListing (now (sides .entry)) (now (ranks .entry)) n a ⌝ }
 {
     let mut owners = [0u64; GRIDS_MOST];
     flat::fill_owners(n, &mut owners);
@@ -114,7 +114,7 @@ fn list_flat(sides: &[u64], ranks: &[u64], n: usize, a: region::Area) -> Listing
 
 // An unused entry.
 fn blank_entry() -> GridInForce
-    ensures { λ r. ⌜ r ≡ noGrid ⌝ }
+    ensures { λ r. ⌜ r ≡ blankEntry ⌝ }
 {
     GridInForce {
         grid: 0,
@@ -159,7 +159,7 @@ fn refused_by(r: Refusal) -> InForce
 // The list of an accepted group and an admitted area.
 fn list_in(group: Group, area: Area) -> InForce
     requires { ⌜ (judged group ≡ Verdict.Accepted) × (areaFits area ≡ true) ⌝ }
-    ensures { λ r. ⌜ r ≡ listed (inForceIn group area) ⌝ }
+    ensures { λ r. ⌜ r ≡ acceptedList (inForceIn group area) ⌝ }
 {
     let mut sides = [0u64; flat::SIDES];
     let mut ranks = [0u64; GRIDS_MOST];

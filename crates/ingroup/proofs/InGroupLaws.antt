@@ -46,12 +46,12 @@ module _ (g : Group) (e : judged g ≡ Accepted) where
     flat-ranked k l = let r = rank-limits k l in let q = s .rank k l in (omega arith, omega arith)
 
     -- the sides that stand in the list
-    sides-held : (k x y : ℕ) → k < g .grids → rect.holds sides k x y ≡ true → sidesHold (sidesOf (gridAt g k)) x y ≡ true
-    unfolding rect.holds rectAt
+    sides-held : (k x y : ℕ) → k < g .grids → rect.rectHolds sides k x y ≡ true → sidesHold (sidesOf (gridAt g k)) x y ≡ true
+    unfolding rect.rectHolds rectAt
     sides-held k x y l h = ap (λ (t : Sides). sidesHold t x y) (sym (s .side k l)) ∙ h
 
     -- no two grids that hold a point share a rank
-    pub flat-apart : (x y : ℕ) → Apart (λ i. rect.holds sides i x y) (at ranks) (g .grids)
+    pub flat-apart : (x y : ℕ) → Apart (λ i. rect.rectHolds sides i x y) (at ranks) (g .grids)
     unfolding sameRank
     flat-apart x y i j l m r h k =
         let a : i < g .grids = omega arith in
@@ -62,14 +62,14 @@ module _ (g : Group) (e : judged g ≡ Accepted) where
 
     module _ (x y : ℤ) (h : natAbs x ≤ lonZero) (v : natAbs y ≤ latZero) where
       -- a rectangle of the list holds the point where its grid does
-      pub flat-holds : (k : ℕ) → k < g .grids → rect.holds sides k (lonFromLeast x) (latFromLeast y) ≡ holds (gridAt g k) x y
-      unfolding rect.holds rectAt
+      pub flat-holds : (k : ℕ) → k < g .grids → rect.rectHolds sides k (lonFromLeast x) (latFromLeast y) ≡ holds (gridAt g k) x y
+      unfolding rect.rectHolds rectAt
       flat-holds k l =
           ap (λ (t : Sides). sidesHold t (lonFromLeast x) (latFromLeast y)) (s .side k l)
           ∙ sym (holds-sides (gridAt g k) (accepted-edges g e k l) x y h v)
 
-      pub flat-chosen : chosen (λ k. rect.holds sides k (lonFromLeast x) (latFromLeast y)) (at ranks) (g .grids) ≡ chosenIn g x y
+      pub flat-chosen : chosen (λ k. rect.rectHolds sides k (lonFromLeast x) (latFromLeast y)) (at ranks) (g .grids) ≡ chosenIn g x y
       unfolding chosenIn
       flat-chosen =
-          chosen-agree (λ k. rect.holds sides k (lonFromLeast x) (latFromLeast y)) (λ k. holds (gridAt g k) x y)
+          chosen-agree (λ k. rect.rectHolds sides k (lonFromLeast x) (latFromLeast y)) (λ k. holds (gridAt g k) x y)
           (at ranks) (λ k. gridAt g k .rank) (g .grids) flat-holds (s .rank)

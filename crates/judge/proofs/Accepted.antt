@@ -17,7 +17,7 @@ use Rattle.extent.specs.Extent.{inside, Sized}
 use Rattle.extent.specs.Sides.{Edges}
 use Rattle.judge.specs.Judge.{unusedRamp, unusedGrid, badRamp, badGrid, sameName, namedEarlier, outside, sameRank, rankedEarlier, judgedLines, judgedLimits, judgedGrids, judgedRanks, judged, Sound}
 use Rattle.flat.specs.Lists.{Measured}
-use Rattle.judge.specs.Rules.{Head}
+use Rattle.judge.specs.Rules.{HeadLimits}
 use Rattle.judge.proofs.LimitLaws.{head-sized, grid-sized, grid-edges, measured}
 
 -- a test that some entry passes is false: it is false of each
@@ -75,7 +75,7 @@ accepted-exactly g = (accepted g, sound-accepted g)
 
 module _ (g : Group) (e : judged g ≡ Accepted) where
   -- what is accepted, in sizes
-  pub accepted-head : Head g
+  pub accepted-head : HeadLimits g
   accepted-head = head-sized g (accepted g e .head)
 
   -- what filling the flat lists relies on

@@ -13,13 +13,13 @@ use Rattle.group.specs.Record.{gridAt}
 use Rattle.group.specs.Limits.{gridFits, gridBlank}
 use Rattle.extent.specs.Extent.{inside}
 use Rattle.judge.specs.Judge.{unusedGrid, badGrid, outside, sameName, sameRank}
-use Rattle.judge.specs.Rules.{rampBreaks, Grids}
-use Rattle.judge.specs.Marks.{marksOf, Listed, clash, sharesEarlier, Comparable}
+use Rattle.judge.specs.Rules.{rampBreaks, GridLimits}
+use Rattle.judge.specs.Keys.{keysOf, KeysListed, clash, sharesEarlier, Comparable}
 use Rattle.judge.specs.declared.RampRule.the-variants as R
 use Rattle.judge.specs.declared.Shared.{Shared}
 use Rattle.judge.specs.declared.Shared.the-variants as S
 use Rattle.judge.proofs.LimitLaws.{name-good, name-bytes, grid-edges}
-use Rattle.judge.proofs.MarkLaws.{clash-name, clash-rank}
+use Rattle.judge.proofs.KeyLaws.{clash-name, clash-rank}
 
 -- an entry before the count is no unused one
 pub ramp-kept : (g : Group) (k : ℕ) → k < g .ramps → rampBreaks R.Unused g k ≡ false
@@ -33,21 +33,21 @@ pub unused-test : (g : Group) (k : ℕ) (t v : Bool) → g .grids ≤ k → t �
 unused-test g k t v h e w = ap (λ (b : Bool). b && not (gridBlank (gridAt g k))) (le-leb (g .grids) k h) ∙ ap not (sym e) ∙ w
 
 -- what the loops that found nothing say of each grid
-pub grids-fit : (g : Group) (i : ℕ) → i ≡ first (badGrid g) (g .grids) → g .grids ≤ i → Grids g
+pub grids-fit : (g : Group) (i : ℕ) → i ≡ first (badGrid g) (g .grids) → g .grids ≤ i → GridLimits g
 grids-fit g i e h =
     record { fits = λ k l. not-false (gridFits (gridAt g k)) (none-at (badGrid g) (g .grids) k (omega arith) l) }
 
-pub comparable : (g : Group) → Grids g → (i : ℕ) → i ≡ first (outside g) (g .grids) → g .grids ≤ i → Comparable S.Rank g
+pub comparable : (g : Group) → GridLimits g → (i : ℕ) → i ≡ first (outside g) (g .grids) → g .grids ≤ i → Comparable S.Rank g
 comparable g f i e h k l =
     grid-edges (gridAt g k) (f .fits k l) (g .parameters)
     (not-false (inside (g .parameters) (gridAt g k)) (none-at (outside g) (g .grids) k (omega arith) l))
 
--- comparing marks is comparing grids
-module _ (g : Group) (f : Grids g) (fours keys : List ℕ) where
+-- comparing keys is comparing grids
+module _ (g : Group) (f : GridLimits g) (fours keys : List ℕ) where
   some-same : (p q : ℕ → Bool) (k : ℕ) → ((j : ℕ) → j < k → p j ≡ q j) → some p k ≡ some q k
   some-same p q k h = ap (λ (m : ℕ). ltb m k) (first-same p q k h)
 
-  same-sharing : (s : Shared) → Comparable s g → Listed (λ k. marksOf s (gridAt g k)) (g .grids) fours keys
+  same-sharing : (s : Shared) → Comparable s g → KeysListed (λ k. keysOf s (gridAt g k)) (g .grids) fours keys
       → first (λ k. some (clash s fours keys k) k) (g .grids) ≡ first (sharesEarlier s g) (g .grids)
   same-sharing S.Name u m =
       first-same _ _ (g .grids)
@@ -59,6 +59,6 @@ module _ (g : Group) (f : Grids g) (fours keys : List ℕ) where
       (λ k l. some-same _ (λ j. sameRank (gridAt g j) (gridAt g k)) k
       (λ j a. clash-rank g (g .grids) fours keys j k (omega arith) l m (u j (omega arith)) (u k l)))
 
-  pub sharing : (s : Shared) (r : ℕ) → Comparable s g → Listed (λ k. marksOf s (gridAt g k)) (g .grids) fours keys
+  pub sharing : (s : Shared) (r : ℕ) → Comparable s g → KeysListed (λ k. keysOf s (gridAt g k)) (g .grids) fours keys
       → r ≡ first (λ k. some (clash s fours keys k) k) (g .grids) → r ≡ first (sharesEarlier s g) (g .grids)
   sharing s r u m e = e ∙ same-sharing s u m

@@ -1,6 +1,6 @@
 -- The laws of the judge.
 pub mod LimitLaws
-pub mod MarkLaws
+pub mod KeyLaws
 pub mod JudgeLaws
 pub mod Accepted
 pub mod TableLaws

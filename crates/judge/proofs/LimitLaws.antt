@@ -24,7 +24,7 @@ use Rattle.extent.specs.Extent.{Sized, inside}
 use Rattle.extent.specs.Sides.{Edges}
 use Rattle.extent.proofs.SideLaws.{edges-within}
 use Rattle.flat.specs.Lists.{Measured}
-use Rattle.judge.specs.Rules.{Head, Grids}
+use Rattle.judge.specs.Rules.{HeadLimits, GridLimits}
 
 -- three and four tests in a row
 module _ (a b c : Bool) (e : (a && b && c) ≡ true) where
@@ -188,9 +188,9 @@ module _ (g : Group) (e : headFits g ≡ true) where
   pub grids-between : (1 ≤ g .grids) × (g .grids ≤ gridsMost)
   grids-between = count-between 1 gridsMost (g .grids) (four-of-4 h1 h2 h3 h4 numbers-good)
 
-  pub head-sized : Head g
+  pub head-sized : HeadLimits g
   head-sized = record { ramps = ramps-most; grids = grids-between .1; parameters = parameters-between .1 }
 
 -- what filling the flat lists relies on
-pub measured : (g : Group) → Head g → Grids g → Measured g
+pub measured : (g : Group) → HeadLimits g → GridLimits g → Measured g
 measured g h f = record { grids = h .grids; parameters = h .parameters; sized = λ k l. grid-sized (gridAt g k) (f .fits k l) }

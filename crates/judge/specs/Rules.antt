@@ -24,13 +24,13 @@ abbrev pub rampBreaks : RampRule → Group → ℕ → Bool
 rampBreaks rule g k = rampTest rule (leb (g .ramps) k) (rampAt g k)
 
 -- what a group line within its limits says of the loops behind it
-pub record Head (g : Group) : Type 0 where
+pub record HeadLimits (g : Group) : Type 0 where
   pub ramps : g .ramps ≤ rampsMost
   pub grids : g .grids ≤ gridsMost
   pub parameters : g .parameters ≤ parametersMost
 
 -- each grid line is within its limits
-pub record Grids (g : Group) : Type 0 where
+pub record GridLimits (g : Group) : Type 0 where
   pub fits : (k : ℕ) → k < g .grids → gridFits (gridAt g k) ≡ true
 
 -- what the judge leaves in the lent lists: the sides and ranks of an accepted group's grids

@@ -13,8 +13,8 @@ ghost use Rattle.group.specs.Numbers.{rampsMost, gridsMost};
 ghost use Rattle.group.specs.Limits.{nameFits, headNumbersFit};
 ghost use Rattle.flat.specs.Lists.{Sided};
 ghost use Rattle.judge.specs.Judge.{unusedGrid, badGrid, namedEarlier, outside, rankedEarlier, judgedLines, judgedGrids, judgedRanks, judged};
-ghost use Rattle.judge.specs.Rules.{rampTest, Head, Grids, Left};
-ghost use Rattle.judge.specs.Marks.{wordAt, nameMarks, putFour, Listed, agree, clash, Comparable};
+ghost use Rattle.judge.specs.Rules.{rampTest, HeadLimits, GridLimits, Left};
+ghost use Rattle.judge.specs.Keys.{wordAt, nameKeys, putFour, KeysListed, agree, clash, Comparable};
 use group::Grid;
 use group::Group;
 use group::Name;
@@ -49,7 +49,7 @@ enum Shared {
 }
 
 // The numbers by which a grid is compared with another.
-struct Marks {
+struct Keys {
     key: u64,
     a: u64,
     b: u64,
@@ -89,7 +89,7 @@ fn first_ramp(rule: RampRule, ramps: [Ramp; group::RAMPS_MOST], used: u64, from:
 
 // The first grid entry behind the count that is not all zero, the count of entries if none is.
 fn first_unused(group: Group) -> u64
-    requires { ⌜ Head group ⌝ }
+    requires { ⌜ HeadLimits group ⌝ }
     ensures { λ r. ⌜ r ≡ first (unusedGrid group) gridsMost ⌝ }
 {
     let mut i: u64 = group.grids;
@@ -106,7 +106,7 @@ fn first_unused(group: Group) -> u64
 
 // The first grid whose line is outside its limits, the count of grids if none is.
 fn first_bad(group: Group) -> u64
-    requires { ⌜ Head group ⌝ }
+    requires { ⌜ HeadLimits group ⌝ }
     ensures { λ r. ⌜ r ≡ first (badGrid group) (group .grids) ⌝ }
 {
     let n = group.grids;
@@ -124,7 +124,7 @@ fn first_bad(group: Group) -> u64
 
 // The first grid with a far edge outside the limits or a node range that ends too late, the count of grids if none is.
 fn first_outside(group: Group) -> u64
-    requires { ⌜ Head group × Grids group ⌝ }
+    requires { ⌜ HeadLimits group × GridLimits group ⌝ }
     ensures { λ r. ⌜ r ≡ first (outside group) (group .grids) ⌝ }
 {
     let n = group.grids;
@@ -163,10 +163,10 @@ fn word(name: Name, from: usize) -> u64
 }
 
 // The numbers by which a name is compared with the others.
-fn name_marks(name: Name) -> Marks
-    ensures { λ r. ⌜ r ≡ nameMarks name ⌝ }
+fn name_keys(name: Name) -> Keys
+    ensures { λ r. ⌜ r ≡ nameKeys name ⌝ }
 {
-    Marks {
+    Keys {
         key: name.len,
         a: word(name, 0),
         b: word(name, 8),
@@ -175,8 +175,8 @@ fn name_marks(name: Name) -> Marks
     }
 }
 
-// Stores the marks of grid i.
-fn put_marks(fours: &mut [u64], keys: &mut [u64], i: usize, m: Marks)
+// Stores the keys of grid i.
+fn put_keys(fours: &mut [u64], keys: &mut [u64], i: usize, m: Keys)
     requires { ⌜ (i * 4 + 3 < length (now fours)) × (i < length (now keys)) ⌝ }
     ensures { λ _. ⌜ (now (fours .exit) ≡ putFour (now (fours .entry)) i m) × (now (keys .exit) ≡ set (now (keys .entry)) i (m .key)) ⌝ }
 {
@@ -188,24 +188,24 @@ fn put_marks(fours: &mut [u64], keys: &mut [u64], i: usize, m: Marks)
     keys[i] = m.key;
 }
 
-// Stores the marks of the names of a group's grids, four and a key for each.
+// Stores the keys of the names of a group's grids, the first in a list of its own.
 fn fill_names(group: Group, fours: &mut [u64], keys: &mut [u64])
     requires { ⌜ (group .grids ≤ gridsMost) × (gridsMost * 4 ≤ length (now fours)) × (gridsMost ≤ length (now keys)) ⌝ }
-    ensures { λ _. ⌜ Listed (λ k. nameMarks (gridAt group k .name)) (group .grids) (now (fours .exit)) (now (keys .exit)) ⌝ }
+    ensures { λ _. ⌜ KeysListed (λ k. nameKeys (gridAt group k .name)) (group .grids) (now (fours .exit)) (now (keys .exit)) ⌝ }
 {
     let n = group.grids;
     let mut i: u64 = 0;
     while i < n {
         let at = i as usize;
         let g = group.grid[at];
-        let m = name_marks(g.name);
-        put_marks(fours, keys, at, m);
+        let m = name_keys(g.name);
+        put_keys(fours, keys, at, m);
         i += 1;
     }
 }
 
-// Whether the marks of grids j and k agree.
-fn marks_agree(shared: Shared, fours: &[u64], j: usize, k: usize) -> bool
+// Whether the keys of grids j and k agree.
+fn keys_agree(shared: Shared, fours: &[u64], j: usize, k: usize) -> bool
     requires { ⌜ (j * 4 + 3 < length (now fours)) × (k * 4 + 3 < length (now fours)) ⌝ }
     ensures { λ r. ⌜ r ≡ agree shared (now (fours .entry)) j k ⌝ }
 {
@@ -234,7 +234,7 @@ fn grids_clash(shared: Shared, fours: &[u64], keys: &[u64], j: usize, k: usize) 
     if keys[j] != keys[k] {
         return false;
     }
-    marks_agree(shared, fours, j, k)
+    keys_agree(shared, fours, j, k)
 }
 
 // Whether some grid before grid k shares with it what it may not.
@@ -270,7 +270,7 @@ fn first_clash(shared: Shared, fours: &[u64], keys: &[u64], n: u64) -> u64
 
 // The first grid of a group whose name stands earlier, the count of grids if there is none.
 fn first_named(group: Group) -> u64
-    requires { ⌜ Head group × Grids group ⌝ }
+    requires { ⌜ HeadLimits group × GridLimits group ⌝ }
     ensures { λ r. ⌜ r ≡ first (namedEarlier group) (group .grids) ⌝ }
 {
     let mut fours = [0u64; FOURS];
@@ -282,7 +282,7 @@ fn first_named(group: Group) -> u64
 // The first grid of a group that shares a coordinate and its rank with an earlier one, the count of grids if none does; the lists are
 // left with the sides and ranks of all.
 fn first_ranked(group: Group, sides: &mut [u64], ranks: &mut [u64]) -> u64
-    requires { ⌜ Head group × Grids group × Comparable Shared.Rank group × (gridsMost * 4 ≤ length (now sides)) × (gridsMost ≤ length (now ranks)) ⌝ }
+    requires { ⌜ HeadLimits group × GridLimits group × Comparable Shared.Rank group × (gridsMost * 4 ≤ length (now sides)) × (gridsMost ≤ length (now ranks)) ⌝ }
     ensures { λ r. ⌜ (r ≡ first (rankedEarlier group) (group .grids)) × Sided group (group .grids) (now (sides .exit)) (now (ranks .exit)) ⌝ }
 {
     flat::fill_sides(group, sides, ranks);
@@ -291,7 +291,7 @@ fn first_ranked(group: Group, sides: &mut [u64], ranks: &mut [u64]) -> u64
 
 // Refusals 3 to 5, of a group whose numbers are within their limits; what it leaves in the lists, `judge_into` says.
 fn judge_grids(group: Group, sides: &mut [u64], ranks: &mut [u64]) -> Verdict
-    requires { ⌜ Head group × Grids group × (gridsMost * 4 ≤ length (now sides)) × (gridsMost ≤ length (now ranks)) ⌝ }
+    requires { ⌜ HeadLimits group × GridLimits group × (gridsMost * 4 ≤ length (now sides)) × (gridsMost ≤ length (now ranks)) ⌝ }
     ensures { λ r. ⌜ (r ≡ judgedGrids group (judgedRanks group Accepted)) × Left r group (now (sides .exit)) (now (ranks .exit)) ⌝ }
 {
     let n = group.grids;
@@ -321,7 +321,7 @@ fn judge_grids(group: Group, sides: &mut [u64], ranks: &mut [u64]) -> Verdict
 
 // Refusal 2 behind the group line, then 3 to 5.
 fn judge_lines(group: Group, sides: &mut [u64], ranks: &mut [u64]) -> Verdict
-    requires { ⌜ Head group × (gridsMost * 4 ≤ length (now sides)) × (gridsMost ≤ length (now ranks)) ⌝ }
+    requires { ⌜ HeadLimits group × (gridsMost * 4 ≤ length (now sides)) × (gridsMost ≤ length (now ranks)) ⌝ }
     ensures { λ r. ⌜ (r ≡ judgedLines group (judgedGrids group (judgedRanks group Accepted))) × Left r group (now (sides .exit)) (now (ranks .exit)) ⌝ }
 {
     let m = group.ramps;

@@ -21,14 +21,14 @@ use Rattle.line.specs.declared.Head.{Head}
 use Rattle.line.specs.Names.{nameText, readName, unitText, readUnit}
 use Rattle.group.specs.Refusals.{refusal}
 use Rattle.line.specs.Line.{good, bad}
-use Rattle.line.specs.Lines.{fields, groupWord, headTexts, paired, headFit, headOf, headInts, headLine, headText, rampWord, rampTexts, rampFit, rampOf, rampInts, rampLine, rampText, gridWord, gridTexts, gridFit, gridOf, gridInts, gridLine, gridText}
+use Rattle.line.specs.Lines.{fields, groupKeyword, headTexts, paired, headFit, headOf, headInts, headLine, headText, rampKeyword, rampTexts, rampFit, rampOf, rampInts, rampLine, rampText, gridKeyword, gridTexts, gridFit, gridOf, gridInts, gridLine, gridText}
 use Rattle.line.proofs.LineLaws.{four-of, eight-of, WellFormed, fielded-free, fields-back, fields-same, limited, Kind, Body, body-kind}
 use Rattle.line.proofs.NameLaws.{fits-isName, readName-text, name-read, name-free, readUnit-text, unit-read, unit-free}
 use Rattle.line.proofs.LimitLaws.{head-sizes, counts-sizes}
 
 -- ---- ramps
 
-ramp-free : (c : ℕ) → c < 45 → Free c rampWord
+ramp-free : (c : ℕ) → c < 45 → Free c rampKeyword
 ramp-free c l = (ne-eqb 114 c (omega arith), (ne-eqb 97 c (omega arith), (ne-eqb 109 c (omega arith), (ne-eqb 112 c (omega arith), tt))))
 
 no-texts : Unit {0} → List (List ℕ)
@@ -45,7 +45,7 @@ ramp-formed : (r : Ramp) → WellFormed 0 4 rampTexts rampFit rampOf no-texts no
 unfolding no-texts no-part
 ramp-formed r = record { lead-free = λ c l. tt; lead-count = refl; lead-back = refl; ints-count = refl; whole = refl }
 
-pub ramp-body : Body (λ n. fields 0 4 rampTexts rampFit rampOf (refusal 1 n) (refusal 2 n)) rampWord (λ r. map intText (rampInts r)) RampFormed (limited rampFits (refusal 2))
+pub ramp-body : Body (λ n. fields 0 4 rampTexts rampFit rampOf (refusal 1 n) (refusal 2 n)) rampKeyword (λ r. map intText (rampInts r)) RampFormed (limited rampFits (refusal 2))
 unfolding no-texts no-part
 ramp-body =
     record {
@@ -56,7 +56,7 @@ ramp-body =
     }
 
 pub ramp-kind : Kind rampLine rampText RampFormed (limited rampFits (refusal 2))
-ramp-kind = body-kind (limited rampFits (refusal 2)) (λ n. fields 0 4 rampTexts rampFit rampOf (refusal 1 n) (refusal 2 n)) rampWord (λ r. map intText (rampInts r)) RampFormed ramp-body (refusal 1)
+ramp-kind = body-kind (limited rampFits (refusal 2)) (λ n. fields 0 4 rampTexts rampFit rampOf (refusal 1 n) (refusal 2 n)) rampKeyword (λ r. map intText (rampInts r)) RampFormed ramp-body (refusal 1)
 
 -- ---- grids
 
@@ -65,7 +65,7 @@ pub record GridFormed (g : Grid) : Type 0 where
   pub name : nameFits (g .name) ≡ true
   pub room : length (g .name .bytes) ≡ nameMost
 
-grid-free : (c : ℕ) → c < 45 → Free c gridWord
+grid-free : (c : ℕ) → c < 45 → Free c gridKeyword
 grid-free c l = (ne-eqb 103 c (omega arith), (ne-eqb 114 c (omega arith), (ne-eqb 105 c (omega arith), (ne-eqb 100 c (omega arith), tt))))
 
 pub grid-name : (g : Grid) → gridFits g ≡ true → nameFits (g .name) ≡ true
@@ -112,7 +112,7 @@ grid-ints n =
     let s = counts-sizes e f g h (and-right (originFits a b c d) (countsFit e f g h) t) in
     λ i. a ∷ b ∷ c ∷ d ∷ s .0 .1 i ∷ s .1 .1 i ∷ s .2 .1 i ∷ s .3 .1 i ∷ [])
 
-pub grid-body : Body (λ n. fields 1 8 gridTexts gridFit gridOf (refusal 1 n) (refusal 2 n)) gridWord (λ g. nameText (g .name) ∷ map intText (gridInts g)) (λ n. GridFormed) (limited gridFits (refusal 2))
+pub grid-body : Body (λ n. fields 1 8 gridTexts gridFit gridOf (refusal 1 n) (refusal 2 n)) gridKeyword (λ g. nameText (g .name) ∷ map intText (gridInts g)) (λ n. GridFormed) (limited gridFits (refusal 2))
 unfolding grid-texted grid-part
 grid-body =
     record {
@@ -123,7 +123,7 @@ grid-body =
     }
 
 pub grid-kind : Kind gridLine gridText (λ n. GridFormed) (limited gridFits (refusal 2))
-grid-kind = body-kind (limited gridFits (refusal 2)) (λ n. fields 1 8 gridTexts gridFit gridOf (refusal 1 n) (refusal 2 n)) gridWord (λ g. nameText (g .name) ∷ map intText (gridInts g)) (λ n. GridFormed) grid-body (refusal 1)
+grid-kind = body-kind (limited gridFits (refusal 2)) (λ n. fields 1 8 gridTexts gridFit gridOf (refusal 1 n) (refusal 2 n)) gridKeyword (λ g. nameText (g .name) ∷ map intText (gridInts g)) (λ n. GridFormed) grid-body (refusal 1)
 
 -- ---- group lines
 
@@ -135,7 +135,7 @@ pub record HeadFormed (h : Head) : Type 0 where
 abbrev pub headWithin : Head → Bool
 headWithin h = headFit (headInts h)
 
-head-free : (c : ℕ) → c < 45 → Free c groupWord
+head-free : (c : ℕ) → c < 45 → Free c groupKeyword
 head-free c l = (ne-eqb 103 c (omega arith), (ne-eqb 114 c (omega arith), (ne-eqb 111 c (omega arith), (ne-eqb 117 c (omega arith), (ne-eqb 112 c (omega arith), tt)))))
 
 head-texted : Name × U.Unit → List (List ℕ)
@@ -172,7 +172,7 @@ head-ints t =
     four-of (λ zs. headFit zs ≡ true → headInts (headOf t zs) ≡ zs)
     (λ a b c d e. let s = head-sizes a b c d e in λ i. s .0 .1 i ∷ s .1 .1 i ∷ s .2 .1 i ∷ s .3 .1 i ∷ [])
 
-pub head-body : Body (λ n. fields 2 4 headTexts headFit headOf (refusal 1 n) (refusal 2 n)) groupWord (λ h. nameText (h .name) ∷ unitText (h .unit) ∷ map intText (headInts h)) (λ n. HeadFormed) (limited headWithin (refusal 2))
+pub head-body : Body (λ n. fields 2 4 headTexts headFit headOf (refusal 1 n) (refusal 2 n)) groupKeyword (λ h. nameText (h .name) ∷ unitText (h .unit) ∷ map intText (headInts h)) (λ n. HeadFormed) (limited headWithin (refusal 2))
 unfolding head-texted head-part
 head-body =
     record {
@@ -183,4 +183,4 @@ head-body =
     }
 
 pub head-kind : Kind headLine headText (λ n. HeadFormed) (limited headWithin (refusal 2))
-head-kind = body-kind (limited headWithin (refusal 2)) (λ n. fields 2 4 headTexts headFit headOf (refusal 1 n) (refusal 2 n)) groupWord (λ h. nameText (h .name) ∷ unitText (h .unit) ∷ map intText (headInts h)) (λ n. HeadFormed) head-body (refusal 1)
+head-kind = body-kind (limited headWithin (refusal 2)) (λ n. fields 2 4 headTexts headFit headOf (refusal 1 n) (refusal 2 n)) groupKeyword (λ h. nameText (h .name) ∷ unitText (h .unit) ∷ map intText (headInts h)) (λ n. HeadFormed) head-body (refusal 1)

@@ -13,25 +13,25 @@ use lib.IntN.{ℤ, pos, negsuc, natAbs}
 use borrow.Author.Tests.{eq-eqb, ne-eqb, eqb-true}
 use Rattle.text.specs.Parts.{split, join}
 use Rattle.text.specs.Decimal.{readInt, intText}
-use Rattle.text.specs.Number.{most, clamp, numberOf}
+use Rattle.text.specs.Number.{numberMost, clamp, numberOf}
 use Rattle.text.specs.Fields.{same, readInts}
 use Rattle.text.specs.declared.Number.the-variants as N
 use Rattle.text.proofs.PartLaws.{Free, AllFree, join-split, split-join, Free-join, first-part}
 use Rattle.text.proofs.FieldLaws.{same-refl, same-true, ints-bad, ints-text, text-ints, length-ints, ints-free, malformed, Numbers, numbers-read, clamp-id}
 use Rattle.line.specs.Line.{Line, bad, good}
-use Rattle.line.specs.Lines.{keyed, judged, formed, fields}
+use Rattle.line.specs.Lines.{keyed, withLimits, formed, fields}
 
 -- ---- numbers that the code tells apart
 
 abbrev pub Small : List ℤ → Type 0
 Small [] = Unit {0}
-Small (z ∷ zs) = (natAbs z < most) × Small zs
+Small (z ∷ zs) = (natAbs z < numberMost) × Small zs
 
 pub small-clamp : (zs : List ℤ) → Small zs → map clamp zs ≡ zs
 small-clamp [] s = refl
 small-clamp (z ∷ zs) s = let h = s .0 in λ i. clamp-id z (omega arith) i ∷ small-clamp zs (s .1) i
 
-unclamped : (z : ℤ) → natAbs (clamp z) < most → clamp z ≡ z
+unclamped : (z : ℤ) → natAbs (clamp z) < numberMost → clamp z ≡ z
 unclamped (pos n) h = ap pos (omega arith)
 unclamped (negsuc n) h = ap negsuc (omega arith)
 
@@ -108,7 +108,7 @@ module _ {B A : Type 0} (texts numbers : ℕ) (read : List (List ℕ) → Option
     form-of = formed texts numbers read fits make form limit
 
     abbrev made : B → List ℤ → Line E A
-    made = judged texts numbers read fits make form limit
+    made = withLimits texts numbers read fits make form limit
 
     unnumbered : (o : Option B) → form-of o none ≡ bad form
     unnumbered none = refl

@@ -22,18 +22,18 @@ use Rattle.group.specs.Limits.{nameByte, byteFits, nameFits, nameBlank}
 use Rattle.group.specs.declared.Name.{Name}
 use Rattle.group.specs.declared.Unit as U
 use Rattle.group.specs.declared.Unit.the-variants.{ArcSecond, Metre}
-use Rattle.line.specs.Names.{nameBytes, isName, nameOf, nameText, readName, unitText, readUnit}
+use Rattle.line.specs.Names.{allNameBytes, isName, nameOf, nameText, readName, unitText, readUnit}
 use Rattle.group.specs.Blank.{blankName}
 
 -- ---- what a scan of a name meets
 
-pub bytes-bad : (s : List ℕ) (i : ℕ) → i < length s → nameByte (getD s i 0) ≡ false → nameBytes (drop i s) ≡ false
+pub bytes-bad : (s : List ℕ) (i : ℕ) → i < length s → nameByte (getD s i 0) ≡ false → allNameBytes (drop i s) ≡ false
 bytes-bad s i h e = rw (drop-cons s i 0 h, e)
 
-pub bytes-good : (s : List ℕ) (i : ℕ) → i < length s → nameByte (getD s i 0) ≡ true → nameBytes (drop i s) ≡ nameBytes (drop (i + 1) s)
+pub bytes-good : (s : List ℕ) (i : ℕ) → i < length s → nameByte (getD s i 0) ≡ true → allNameBytes (drop i s) ≡ allNameBytes (drop (i + 1) s)
 bytes-good s i h e = rw (drop-cons s i 0 h, e, add-one)
 
-pub bytes-end : (s : List ℕ) (i : ℕ) → length s ≤ i → nameBytes (drop i s) ≡ true
+pub bytes-end : (s : List ℕ) (i : ℕ) → length s ≤ i → allNameBytes (drop i s) ≡ true
 bytes-end s i h = rw (drop-of-length-le s h)
 
 pub name-empty : (s : List ℕ) → length s < 1 → isName s ≡ false
@@ -44,7 +44,7 @@ pub name-long : (s : List ℕ) → nameMost < length s → isName s ≡ false
 unfolding isName
 name-long s h = simp (lt-leb (length s) nameMost h, and-false)
 
-pub name-bytes : (s : List ℕ) → 1 ≤ length s → length s ≤ nameMost → isName s ≡ nameBytes s
+pub name-bytes : (s : List ℕ) → 1 ≤ length s → length s ≤ nameMost → isName s ≡ allNameBytes s
 unfolding isName
 name-bytes s h k = rw (le-leb 1 (length s) h, le-leb (length s) nameMost k)
 
@@ -79,12 +79,12 @@ name-step s i h k =
 
 -- ---- a name as text is a name as a record
 
-bytes-at : (f : List ℕ) (k : ℕ) → nameBytes f ≡ true → k < length f → nameByte (getD f k 0) ≡ true
+bytes-at : (f : List ℕ) (k : ℕ) → allNameBytes f ≡ true → k < length f → nameByte (getD f k 0) ≡ true
 bytes-at [] k e h = absurd (omega arith)
-bytes-at (x ∷ xs) zero e h = and-left (nameByte x) (nameBytes xs) e
-bytes-at (x ∷ xs) (suc k) e h = bytes-at xs k (and-right (nameByte x) (nameBytes xs) e) (omega arith)
+bytes-at (x ∷ xs) zero e h = and-left (nameByte x) (allNameBytes xs) e
+bytes-at (x ∷ xs) (suc k) e h = bytes-at xs k (and-right (nameByte x) (allNameBytes xs) e) (omega arith)
 
-bytes-all : (f : List ℕ) → ((k : ℕ) → k < length f → nameByte (getD f k 0) ≡ true) → nameBytes f ≡ true
+bytes-all : (f : List ℕ) → ((k : ℕ) → k < length f → nameByte (getD f k 0) ≡ true) → allNameBytes f ≡ true
 bytes-all [] h = refl
 bytes-all (x ∷ xs) h = rw (h 0 (omega arith)) (bytes-all xs (λ k l. h (suc k) (omega arith)))
 
@@ -109,11 +109,11 @@ pub isName-fits : (f : List ℕ) → isName f ≡ true → nameFits (nameOf f) �
 unfolding nameFits
 isName-fits f e =
     let l = name-length f e in
-    let b : nameBytes f ≡ true = sym (name-bytes f (l .0) (l .1)) ∙ e in
+    let b : allNameBytes f ≡ true = sym (name-bytes f (l .0) (l .1)) ∙ e in
     rw (le-leb 1 (length f) (l .0), le-leb (length f) nameMost (l .1))
     (all-every (byteFits (nameOf f)) nameMost (λ k h. elim (decLt k (length f)) [ yes i ↦ inside b k i | no i ↦ behind k (omega arith) ]))
   where
-    inside : nameBytes f ≡ true → (k : ℕ) → k < length f → byteFits (nameOf f) k ≡ true
+    inside : allNameBytes f ≡ true → (k : ℕ) → k < length f → byteFits (nameOf f) k ≡ true
     inside b k i = byte-in (nameOf f) k i ∙ ap nameByte (List·getD-append f (replicate (nameMost - length f) 0) 0 k i) ∙ bytes-at f k b i
 
     behind : (k : ℕ) → length f ≤ k → byteFits (nameOf f) k ≡ true
@@ -181,9 +181,9 @@ low-byte x h = rw (lt-leb 65 x (omega arith), lt-leb 97 x (omega arith), lt-leb 
 byte-free : (c x : ℕ) → c < 45 → nameByte x ≡ true → eqb x c ≡ false
 byte-free c x h e = ne-eqb x c (λ q. false-not-true (sym (low-byte x (omega arith)) ∙ e))
 
-bytes-free : (c : ℕ) (s : List ℕ) → c < 45 → nameBytes s ≡ true → Free c s
+bytes-free : (c : ℕ) (s : List ℕ) → c < 45 → allNameBytes s ≡ true → Free c s
 bytes-free c [] h e = tt
-bytes-free c (x ∷ xs) h e = (byte-free c x h (and-left (nameByte x) (nameBytes xs) e), bytes-free c xs h (and-right (nameByte x) (nameBytes xs) e))
+bytes-free c (x ∷ xs) h e = (byte-free c x h (and-left (nameByte x) (allNameBytes xs) e), bytes-free c xs h (and-right (nameByte x) (allNameBytes xs) e))
 
 pub name-free : (c : ℕ) (s : List ℕ) → c < 45 → isName s ≡ true → Free c s
 name-free c s h e = let l = name-length s e in bytes-free c s h (sym (name-bytes s (l .0) (l .1)) ∙ e)

@@ -15,7 +15,7 @@ use Rattle.group.specs.Refusals.{refusal}
 use Rattle.line.specs.declared.Head.{Head}
 use Rattle.line.specs.Line.{bad, good}
 use Rattle.line.specs.Names.{isName, nameOf, readName, readUnit}
-use Rattle.line.specs.Lines.{fields, lineOf, at, groupWord, headTexts, headFit, headOf, headLine, gridWord, gridTexts, gridFit, gridOf, gridLine}
+use Rattle.line.specs.Lines.{fields, lineOf, intAt, groupKeyword, headTexts, headFit, headOf, headLine, gridKeyword, gridTexts, gridFit, gridOf, gridLine}
 use Rattle.line.proofs.LineLaws.{keyed-good, Good, fields-good}
 use Rattle.line.proofs.NameLaws.{name-length}
 use Rattle.line.proofs.KindLaws.{paired-both}
@@ -49,14 +49,14 @@ pub record HeadRoom (h : Head) : Type 0 where
 
 pub head-room : (n : ℕ) (l : List ℕ) (h : Head) → headLine n l ≡ good h → HeadRoom h
 head-room n l h e =
-    let w = line-good 2 4 headTexts headFit headOf (refusal 1 n) (refusal 2 n) groupWord l h e in
+    let w = line-good 2 4 headTexts headFit headOf (refusal 1 n) (refusal 2 n) groupKeyword l h e in
     let fs = w .0 in let g = w .1 in let zs = g .zs in
-    let s = head-sizes (at zs 0) (at zs 1) (at zs 2) (at zs 3) (g .fit) in
+    let s = head-sizes (intAt zs 0) (intAt zs 1) (intAt zs 2) (intAt zs 3) (g .fit) in
     let t = paired-both (readName (getD fs 0 [])) (readUnit (getD fs 1 [])) (g .b) (g .texted) in
     subst HeadRoom (g .whole) (record { name = name-room (getD fs 0 []) (g .b .0) (t .0); ramps = s .2 .0; grids = s .3 .0 })
 
 pub grid-room : (n : ℕ) (l : List ℕ) (d : Grid) → gridLine n l ≡ good d → length (d .name .bytes) ≡ 24
 grid-room n l d e =
-    let w = line-good 1 8 gridTexts gridFit gridOf (refusal 1 n) (refusal 2 n) gridWord l d e in
+    let w = line-good 1 8 gridTexts gridFit gridOf (refusal 1 n) (refusal 2 n) gridKeyword l d e in
     let g = w .1 in
     ap (λ (x : Grid). length (x .name .bytes)) (sym (g .whole)) ∙ name-room (getD (w .0) 0 []) (g .b) (g .texted)

@@ -30,13 +30,13 @@ module _ {E A : Type 0} where
 -- the fields behind a keyword: how many texts and numbers they are, how the texts are read, the limits of the numbers, the record
 -- that is made of them, and the faults: fields that aren't of this form, then a number outside its limit
 module _ {B A E : Type 0} (texts numbers : ℕ) (read : List (List ℕ) → Option B) (fits : List ℤ → Bool) (make : B → List ℤ → A) (form limit : E) where
-  abbrev pub judged : B → List ℤ → Line E A
-  judged b zs = cond (fits zs) (good (make b zs)) (bad limit)
+  abbrev pub withLimits : B → List ℤ → Line E A
+  withLimits b zs = cond (fits zs) (good (make b zs)) (bad limit)
 
   abbrev pub formed : Option B → Option (List ℤ) → Line E A
   formed none zs = bad form
   formed (some b) none = bad form
-  formed (some b) (some zs) = judged b zs
+  formed (some b) (some zs) = withLimits b zs
 
   abbrev pub fields : List (List ℕ) → Line E A
   fields fs = cond (eqb (length fs) (texts + numbers)) (formed (read fs) (readInts (drop texts fs))) (bad form)
@@ -45,13 +45,13 @@ module _ {B A E : Type 0} (texts numbers : ℕ) (read : List (List ℕ) → Opti
   abbrev pub lineOf : List ℕ → List ℕ → Line E A
   lineOf word line = keyed word fields (λ fs. bad form) (split 9 line)
 
-abbrev pub at : List ℤ → ℕ → ℤ
-at zs k = getD zs k (pos 0)
+abbrev pub intAt : List ℤ → ℕ → ℤ
+intAt zs k = getD zs k (pos 0)
 
 -- ---- `group` NAME UNIT Q NP ramps grids
 
-abbrev pub groupWord : List ℕ
-groupWord = 103 ∷ 114 ∷ 111 ∷ 117 ∷ 112 ∷ []
+abbrev pub groupKeyword : List ℕ
+groupKeyword = 103 ∷ 114 ∷ 111 ∷ 117 ∷ 112 ∷ []
 
 abbrev pub paired : Option Name → Option U.Unit → Option (Name × U.Unit)
 paired none u = none
@@ -62,87 +62,87 @@ abbrev pub headTexts : List (List ℕ) → Option (Name × U.Unit)
 headTexts fs = paired (readName (getD fs 0 [])) (readUnit (getD fs 1 []))
 
 abbrev pub headFit : List ℤ → Bool
-headFit zs = headNumbersFit (at zs 0) (at zs 1) (at zs 2) (at zs 3)
+headFit zs = headNumbersFit (intAt zs 0) (intAt zs 1) (intAt zs 2) (intAt zs 3)
 
 abbrev pub headOf : Name × U.Unit → List ℤ → Head
 headOf t zs =
     record {
       name = t .0;
       unit = t .1;
-      quantum = natAbs (at zs 0);
-      parameters = natAbs (at zs 1);
-      ramps = natAbs (at zs 2);
-      grids = natAbs (at zs 3);
+      quantum = natAbs (intAt zs 0);
+      parameters = natAbs (intAt zs 1);
+      ramps = natAbs (intAt zs 2);
+      grids = natAbs (intAt zs 3);
     }
 
 abbrev pub headLine : ℕ → List ℕ → Line Refusal Head
-headLine n = lineOf 2 4 headTexts headFit headOf (refusal 1 n) (refusal 2 n) groupWord
+headLine n = lineOf 2 4 headTexts headFit headOf (refusal 1 n) (refusal 2 n) groupKeyword
 
 abbrev pub headInts : Head → List ℤ
 headInts h = pos (h .quantum) ∷ pos (h .parameters) ∷ pos (h .ramps) ∷ pos (h .grids) ∷ []
 
 -- a group line, without the line feed
 abbrev pub headText : Head → List ℕ
-headText h = join 9 (groupWord ∷ nameText (h .name) ∷ unitText (h .unit) ∷ map intText (headInts h))
+headText h = join 9 (groupKeyword ∷ nameText (h .name) ∷ unitText (h .unit) ∷ map intText (headInts h))
 
 -- ---- `ramp` A S0 B S1
 
-abbrev pub rampWord : List ℕ
-rampWord = 114 ∷ 97 ∷ 109 ∷ 112 ∷ []
+abbrev pub rampKeyword : List ℕ
+rampKeyword = 114 ∷ 97 ∷ 109 ∷ 112 ∷ []
 
 abbrev pub rampTexts : List (List ℕ) → Option (Unit {0})
 rampTexts fs = some tt
 
 abbrev pub rampFit : List ℤ → Bool
-rampFit zs = rampNumbersFit (at zs 0) (at zs 1) (at zs 2) (at zs 3)
+rampFit zs = rampNumbersFit (intAt zs 0) (intAt zs 1) (intAt zs 2) (intAt zs 3)
 
 abbrev pub rampOf : Unit {0} → List ℤ → Ramp
-rampOf t zs = record { a = at zs 0; s0 = at zs 1; b = at zs 2; s1 = at zs 3 }
+rampOf t zs = record { a = intAt zs 0; s0 = intAt zs 1; b = intAt zs 2; s1 = intAt zs 3 }
 
 abbrev pub rampLine : ℕ → List ℕ → Line Refusal Ramp
-rampLine n = lineOf 0 4 rampTexts rampFit rampOf (refusal 1 n) (refusal 2 n) rampWord
+rampLine n = lineOf 0 4 rampTexts rampFit rampOf (refusal 1 n) (refusal 2 n) rampKeyword
 
 abbrev pub rampInts : Ramp → List ℤ
 rampInts r = r .a ∷ r .s0 ∷ r .b ∷ r .s1 ∷ []
 
 -- a ramp line, without the line feed
 abbrev pub rampText : Ramp → List ℕ
-rampText r = join 9 (rampWord ∷ map intText (rampInts r))
+rampText r = join 9 (rampKeyword ∷ map intText (rampInts r))
 
 -- ---- `grid` NAME LON LAT DLON DLAT NI NJ RANK START
 
-abbrev pub gridWord : List ℕ
-gridWord = 103 ∷ 114 ∷ 105 ∷ 100 ∷ []
+abbrev pub gridKeyword : List ℕ
+gridKeyword = 103 ∷ 114 ∷ 105 ∷ 100 ∷ []
 
 abbrev pub gridTexts : List (List ℕ) → Option Name
 gridTexts fs = readName (getD fs 0 [])
 
 abbrev pub gridFit : List ℤ → Bool
-gridFit zs = originFits (at zs 0) (at zs 1) (at zs 2) (at zs 3) && countsFit (at zs 4) (at zs 5) (at zs 6) (at zs 7)
+gridFit zs = originFits (intAt zs 0) (intAt zs 1) (intAt zs 2) (intAt zs 3) && countsFit (intAt zs 4) (intAt zs 5) (intAt zs 6) (intAt zs 7)
 
 abbrev pub gridOf : Name → List ℤ → Grid
 gridOf n zs =
     record {
       name = n;
-      lon = record { 0 = at zs 0 };
-      lat = record { 0 = at zs 1 };
-      dlon = at zs 2;
-      dlat = at zs 3;
-      ni = natAbs (at zs 4);
-      nj = natAbs (at zs 5);
-      rank = natAbs (at zs 6);
-      start = natAbs (at zs 7);
+      lon = record { 0 = intAt zs 0 };
+      lat = record { 0 = intAt zs 1 };
+      dlon = intAt zs 2;
+      dlat = intAt zs 3;
+      ni = natAbs (intAt zs 4);
+      nj = natAbs (intAt zs 5);
+      rank = natAbs (intAt zs 6);
+      start = natAbs (intAt zs 7);
     }
 
 abbrev pub gridLine : ℕ → List ℕ → Line Refusal Grid
-gridLine n = lineOf 1 8 gridTexts gridFit gridOf (refusal 1 n) (refusal 2 n) gridWord
+gridLine n = lineOf 1 8 gridTexts gridFit gridOf (refusal 1 n) (refusal 2 n) gridKeyword
 
 abbrev pub gridInts : Grid → List ℤ
 gridInts g = g .lon .0 ∷ g .lat .0 ∷ g .dlon ∷ g .dlat ∷ pos (g .ni) ∷ pos (g .nj) ∷ pos (g .rank) ∷ pos (g .start) ∷ []
 
 -- a grid line, without the line feed
 abbrev pub gridText : Grid → List ℕ
-gridText g = join 9 (gridWord ∷ nameText (g .name) ∷ map intText (gridInts g))
+gridText g = join 9 (gridKeyword ∷ nameText (g .name) ∷ map intText (gridInts g))
 
 -- ---- as a record's unsigned number, a number below zero is beyond every limit
 

@@ -12,13 +12,13 @@ use Rattle.group.specs.declared.Name.{Name}
 use Rattle.group.specs.declared.Unit as U
 use Rattle.group.specs.declared.Unit.the-variants.{ArcSecond, Metre}
 
-abbrev pub nameBytes : List ℕ → Bool
-nameBytes [] = true
-nameBytes (x ∷ xs) = nameByte x && nameBytes xs
+abbrev pub allNameBytes : List ℕ → Bool
+allNameBytes [] = true
+allNameBytes (x ∷ xs) = nameByte x && allNameBytes xs
 
 -- 1 to nameMost bytes that may stand in a name
 unfoldable pub isName : List ℕ → Bool
-isName f = leb 1 (length f) && leb (length f) nameMost && nameBytes f
+isName f = leb 1 (length f) && leb (length f) nameMost && allNameBytes f
 
 -- the name with zeros behind it
 abbrev pub nameOf : List ℕ → Name

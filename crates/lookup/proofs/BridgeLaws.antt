@@ -19,26 +19,26 @@ use Rattle.judge.proofs.Accepted.{accepted-head}
 use Rattle.numbers.specs.Lists.{at}
 use Rattle.choice.proofs.ChoiceLaws.{chosen≤}
 use Rattle.ingroup.proofs.InGroupLaws.{chosen-most, flat-holds, flat-chosen}
-use Rattle.fix.specs.declared.Place.{Place}
-use Rattle.fix.specs.Fix.{Placed, Listed, fixIn}
+use Rattle.fix.specs.declared.Offset.{Offset}
+use Rattle.fix.specs.Fix.{InsideGrid, RangeListed, fixIn}
 use Rattle.ingroup.specs.InGroup.{chosenIn}
 use Rattle.flat.specs.declared.Frame.{Frame}
-use Rattle.lookup.specs.Lookup.{endsEarly, placeOf, fixAt, Ready}
+use Rattle.lookup.specs.Lookup.{endsEarly, offsetOf, fixAt, LookupReady}
 use Rattle.flat.specs.Frames.{frameAt}
 use Rattle.flat.specs.Lists.{Framed}
 use Rattle.flat.specs.Order.{RankedRows}
-use Rattle.lookup.specs.Flat.{placeIn, fixFlat, Laid, fixRanked, LaidRows}
+use Rattle.lookup.specs.Flat.{offsetIn, fixFlat, Laid, fixRanked, LaidRows}
 use Rattle.ingroup.proofs.RankLaws.{ranked-chosen, row-owner}
-use Rattle.lookup.proofs.PlaceLaws.{place-placed, place-seen}
+use Rattle.lookup.proofs.OffsetLaws.{offset-inside, offset-seen}
 
--- places that agree in each grid that can be chosen
-pub fix-at-same : (c n : ℕ) (place seat : ℕ → Place) (nodes : List ℤ) (f : ℤ) → c ≤ n → ((k : ℕ) → k < n → place k ≡ seat k)
-    → fixAt c place nodes f ≡ fixAt c seat nodes f
+-- offsets that agree in each grid that can be chosen
+pub fix-at-same : (c n : ℕ) (offset seat : ℕ → Offset) (nodes : List ℤ) (f : ℤ) → c ≤ n → ((k : ℕ) → k < n → offset k ≡ seat k)
+    → fixAt c offset nodes f ≡ fixAt c seat nodes f
 unfolding fixAt
-fix-at-same zero n place seat nodes f h e = refl
-fix-at-same (suc k) n place seat nodes f h e = ap (λ (l : Place). fixIn l nodes f (suc k)) (e k (omega arith))
+fix-at-same zero n offset seat nodes f h e = refl
+fix-at-same (suc k) n offset seat nodes f h e = ap (λ (l : Offset). fixIn l nodes f (suc k)) (e k (omega arith))
 
-module _ (g : Group) (nodes : List ℤ) (p : Point) (t : ℤ) (r : Ready g (length nodes) p t) (sides ranks frames : List ℕ)
+module _ (g : Group) (nodes : List ℤ) (p : Point) (t : ℤ) (r : LookupReady g (length nodes) p t) (sides ranks frames : List ℕ)
     (sd : Sided g (g .grids) sides ranks) (fr : Framed g (g .grids) frames) where
   x : ℕ
   x = lonFromLeast (p .lon .0)
@@ -52,13 +52,13 @@ module _ (g : Group) (nodes : List ℤ) (p : Point) (t : ℤ) (r : Ready g (leng
   lat-small : natAbs (p .lat .0) ≤ latZero
   lat-small = omega (arith, within-size latMost (p .lat .0) (and-right (lonAdmitted (p .lon .0)) (latAdmitted (p .lat .0)) (r .point)))
 
-  seen : (k : ℕ) → k < g .grids → placeIn (frameAt frames k) (g .parameters) x y ≡ placeOf (gridAt g k) (g .parameters) p
+  seen : (k : ℕ) → k < g .grids → offsetIn (frameAt frames k) (g .parameters) x y ≡ offsetOf (gridAt g k) (g .parameters) p
   unfolding x y
   seen k l =
-      ap (λ (f : Frame). placeIn f (g .parameters) x y) (fr k l) ∙ place-seen g (r .accepted) p k l (r .point)
+      ap (λ (f : Frame). offsetIn f (g .parameters) x y) (fr k l) ∙ offset-seen g (r .accepted) p k l (r .point)
 
-  listed : (k : ℕ) → k < g .grids → Listed (placeOf (gridAt g k) (g .parameters) p) (length nodes)
-  unfolding placeOf
+  listed : (k : ℕ) → k < g .grids → RangeListed (offsetOf (gridAt g k) (g .parameters) p) (length nodes)
+  unfolding offsetOf
   listed k l = ltb-false _ _ (none-at (endsEarly g (length nodes)) (g .grids) k (ltb-false _ _ (r .ends)) l)
 
   laid-here : g .grids * 4 ≤ length sides → g .grids ≤ length ranks → g .grids * 7 ≤ length frames
@@ -68,20 +68,20 @@ module _ (g : Group) (nodes : List ℤ) (p : Point) (t : ℤ) (r : Ready g (leng
       record {
         room = record { few = accepted-head g (r .accepted) .grids; sides-room = a; ranks-room = b };
         frames-room = c;
-        placed = λ k l h.
-            subst Placed (sym (seen k l))
-            (place-placed g (r .accepted) p k l
+        inside = λ k l h.
+            subst InsideGrid (sym (seen k l))
+            (offset-inside g (r .accepted) p k l
             (sym (flat-holds g (r .accepted) sides ranks sd (p .lon .0) (p .lat .0) lon-small lat-small k l) ∙ h));
-        listed = λ k l. subst (λ (s : Place). Listed s (length nodes)) (sym (seen k l)) (listed k l);
+        listed = λ k l. subst (λ (s : Offset). RangeListed s (length nodes)) (sym (seen k l)) (listed k l);
       }
 
   fix-here : (f : ℤ) → fixFlat sides ranks frames (g .grids) (g .parameters) nodes f x y
-      ≡ fixAt (chosenIn g (p .lon .0) (p .lat .0)) (λ k. placeOf (gridAt g k) (g .parameters) p) nodes f
+      ≡ fixAt (chosenIn g (p .lon .0) (p .lat .0)) (λ k. offsetOf (gridAt g k) (g .parameters) p) nodes f
   unfolding x y
   fix-here f =
-      fix-at-same _ (g .grids) (λ k. placeIn (frameAt frames k) (g .parameters) x y) (λ k. placeOf (gridAt g k) (g .parameters) p) nodes f
+      fix-at-same _ (g .grids) (λ k. offsetIn (frameAt frames k) (g .parameters) x y) (λ k. offsetOf (gridAt g k) (g .parameters) p) nodes f
       (chosen≤ _ _ (g .grids)) seen
-      ∙ ap (λ (c : ℕ). fixAt c (λ k. placeOf (gridAt g k) (g .parameters) p) nodes f)
+      ∙ ap (λ (c : ℕ). fixAt c (λ k. offsetOf (gridAt g k) (g .parameters) p) nodes f)
       (flat-chosen g (r .accepted) sides ranks sd (p .lon .0) (p .lat .0) lon-small lat-small)
 
   -- the same over rows in the order of ranks
@@ -98,18 +98,18 @@ module _ (g : Group) (nodes : List ℤ) (p : Point) (t : ℤ) (r : Ready g (leng
               record {
                 number = omega (arith, l .room .few);
                 room = omega arith;
-                placed = λ z. l .placed (at owners q - 1) (omega arith) (w .2 x y h);
+                inside = λ z. l .inside (at owners q - 1) (omega arith) (w .2 x y h);
                 listed = λ z. l .listed (at owners q - 1) (omega arith);
               };
         }
 
     ranked-fix-here : (f : ℤ) → fixRanked rows owners frames count (g .parameters) nodes f x y
-        ≡ fixAt (chosenIn g (p .lon .0) (p .lat .0)) (λ k. placeOf (gridAt g k) (g .parameters) p) nodes f
+        ≡ fixAt (chosenIn g (p .lon .0) (p .lat .0)) (λ k. offsetOf (gridAt g k) (g .parameters) p) nodes f
     unfolding x y
     ranked-fix-here f =
-        ap (λ (c : ℕ). fixAt c (λ k. placeIn (frameAt frames k) (g .parameters) x y) nodes f)
+        ap (λ (c : ℕ). fixAt c (λ k. offsetIn (frameAt frames k) (g .parameters) x y) nodes f)
         (ranked-chosen g (r .accepted) sides ranks sd rows owners count o (p .lon .0) (p .lat .0) lon-small lat-small)
-        ∙ fix-at-same _ (g .grids) (λ k. placeIn (frameAt frames k) (g .parameters) x y) (λ k. placeOf (gridAt g k) (g .parameters) p) nodes f
+        ∙ fix-at-same _ (g .grids) (λ k. offsetIn (frameAt frames k) (g .parameters) x y) (λ k. offsetOf (gridAt g k) (g .parameters) p) nodes f
         (chosen-most g (p .lon .0) (p .lat .0)) seen
 
     module _ {a b : ℕ} (ea : a ≡ lonFromLeast (p .lon .0)) (eb : b ≡ latFromLeast (p .lat .0)) where
@@ -119,7 +119,7 @@ module _ (g : Group) (nodes : List ℤ) (p : Point) (t : ℤ) (r : Ready g (leng
       ranked-laid h k u v m = rw (ea, eb) (ranked-here h k u v m)
 
       pub ranked-fix : {f h : ℤ} → f ≡ h → fixRanked rows owners frames count (g .parameters) nodes f a b
-          ≡ fixAt (chosenIn g (p .lon .0) (p .lat .0)) (λ k. placeOf (gridAt g k) (g .parameters) p) nodes h
+          ≡ fixAt (chosenIn g (p .lon .0) (p .lat .0)) (λ k. offsetOf (gridAt g k) (g .parameters) p) nodes h
       unfolding x y
       ranked-fix {f} {h} e = (λ i. fixRanked rows owners frames count (g .parameters) nodes (e i) (ea i) (eb i)) ∙ ranked-fix-here h
 
@@ -131,6 +131,6 @@ module _ (g : Group) (nodes : List ℤ) (p : Point) (t : ℤ) (r : Ready g (leng
     laid h k m = rw (ea, eb) (laid-here h k m)
 
     pub flat-fix : {f h : ℤ} → f ≡ h → fixFlat sides ranks frames (g .grids) (g .parameters) nodes f a b
-        ≡ fixAt (chosenIn g (p .lon .0) (p .lat .0)) (λ k. placeOf (gridAt g k) (g .parameters) p) nodes h
+        ≡ fixAt (chosenIn g (p .lon .0) (p .lat .0)) (λ k. offsetOf (gridAt g k) (g .parameters) p) nodes h
     unfolding x y
     flat-fix {f} {h} e = (λ i. fixFlat sides ranks frames (g .grids) (g .parameters) nodes (e i) (ea i) (eb i)) ∙ fix-here h

@@ -7,7 +7,7 @@ use native.Mathlib.Decide.{decLt}
 use Rattle.numbers.specs.First.{first}
 use Rattle.numbers.proofs.FirstLaws.{first-hit}
 use Rattle.numbers.specs.Lists.{at}
-use Rattle.choice.specs.Rect.{holds}
+use Rattle.choice.specs.Rect.{rectHolds}
 use Rattle.choice.specs.Choice.{chosen}
 use Rattle.choice.specs.Holder.{holder}
 use Rattle.choice.proofs.ChoiceLaws.{Best, chosen-best, chosen≤}
@@ -15,29 +15,29 @@ use Rattle.choice.proofs.HolderLaws.{holder-at, holder-none}
 use Rattle.lookup.specs.Flat.{Laid, Chosen, LaidRows}
 
 module _ (sides ranks frames : List ℕ) (grids np count x y : ℕ) (l : Laid sides ranks frames grids np count x y) where
-  pub laid-chosen : (c : ℕ) → c ≡ chosen (λ i. holds sides i x y) (at ranks) grids → Chosen frames c np count x y
+  pub laid-chosen : (c : ℕ) → c ≡ chosen (λ i. rectHolds sides i x y) (at ranks) grids → Chosen frames c np count x y
   laid-chosen c e =
-      let m = chosen≤ (λ i. holds sides i x y) (at ranks) grids in
+      let m = chosen≤ (λ i. rectHolds sides i x y) (at ranks) grids in
       record {
         number = omega (arith, l .room .few);
         room = omega (arith, l .frames-room);
-        placed = λ h. let b = best h in l .placed (c - 1) (b .among) (b .inside);
+        inside = λ h. let b = best h in l .inside (c - 1) (b .among) (b .inside);
         listed = λ h. l .listed (c - 1) (best h .among);
       }
     where
-      best : 0 < c → Best (λ i. holds sides i x y) (at ranks) grids (c - 1)
-      best h = chosen-best (λ i. holds sides i x y) (at ranks) grids (c - 1) (sym e ∙ omega arith)
+      best : 0 < c → Best (λ i. rectHolds sides i x y) (at ranks) grids (c - 1)
+      best h = chosen-best (λ i. rectHolds sides i x y) (at ranks) grids (c - 1) (sym e ∙ omega arith)
 
 module _ (rows owners frames : List ℕ) (count np nodes x y : ℕ) (l : LaidRows rows owners frames count np nodes x y) where
   none : (c : ℕ) → c ≡ 0 → Chosen frames c np nodes x y
-  none c e = record { number = omega arith; room = omega arith; placed = λ h. absurd (omega arith); listed = λ h. absurd (omega arith) }
+  none c e = record { number = omega arith; room = omega arith; inside = λ h. absurd (omega arith); listed = λ h. absurd (omega arith) }
 
-  pub rows-chosen : (c : ℕ) → c ≡ holder (λ i. holds rows i x y) (at owners) count → Chosen frames c np nodes x y
+  pub rows-chosen : (c : ℕ) → c ≡ holder (λ i. rectHolds rows i x y) (at owners) count → Chosen frames c np nodes x y
   rows-chosen c e =
-      elim (decLt (first (λ i. holds rows i x y) count) count) [
+      elim (decLt (first (λ i. rectHolds rows i x y) count) count) [
         | yes lt ↦
-            let r = first (λ i. holds rows i x y) count in
-            subst (λ (k : ℕ). Chosen frames k np nodes x y) (holder-at (λ i. holds rows i x y) (at owners) count r refl lt ∙ sym e)
-            (l .chosen r lt (first-hit (λ i. holds rows i x y) count lt))
-        | no ge ↦ none c (e ∙ sym (holder-none (λ i. holds rows i x y) (at owners) count (first (λ i. holds rows i x y) count) refl (omega arith)))
+            let r = first (λ i. rectHolds rows i x y) count in
+            subst (λ (k : ℕ). Chosen frames k np nodes x y) (holder-at (λ i. rectHolds rows i x y) (at owners) count r refl lt ∙ sym e)
+            (l .chosen r lt (first-hit (λ i. rectHolds rows i x y) count lt))
+        | no ge ↦ none c (e ∙ sym (holder-none (λ i. rectHolds rows i x y) (at owners) count (first (λ i. rectHolds rows i x y) count) refl (omega arith)))
       ]

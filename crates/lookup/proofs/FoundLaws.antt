@@ -17,32 +17,32 @@ use Rattle.ingroup.specs.InGroup.{chosenIn}
 use Rattle.group.specs.Numbers.{isMark, dayFits}
 use Rattle.cell.specs.Cell.{isBeyond}
 use Rattle.day.specs.Day.{factorOf}
-use Rattle.fix.specs.declared.Place.{Place}
+use Rattle.fix.specs.declared.Offset.{Offset}
 use Rattle.fix.specs.declared.Fix.{Fix}
 use Rattle.fix.specs.declared.Lookup.the-variants as L
 use Rattle.fix.specs.Answers.{resultIn}
 use Rattle.fix.specs.Fix.{cornerSome, resultAt, fixIn}
-use Rattle.lookup.specs.Lookup.{pointFits, endsEarly, placeOf, fixAt, lookedIn, looked, Ready}
+use Rattle.lookup.specs.Lookup.{pointFits, endsEarly, offsetOf, fixAt, lookedIn, looked, LookupReady}
 
 -- a refusal is no fix
 no-fix : (f : Fix) (r : Refusal) → L.Refused r ≡ L.Fix f → ⊥
 no-fix f r e = let z : _≡_ {A = ℕ} 0 1 = cc in omega arith
 
-choice-stage : (c : ℕ) (place : ℕ → Place) (nodes : List ℤ) (factor : ℤ) (f : Fix) → fixAt c place nodes factor ≡ L.Fix f
-    → (k : ℕ) × ((c ≡ suc k) × (fixIn (place k) nodes factor (suc k) ≡ L.Fix f))
+choice-stage : (c : ℕ) (offset : ℕ → Offset) (nodes : List ℤ) (factor : ℤ) (f : Fix) → fixAt c offset nodes factor ≡ L.Fix f
+    → (k : ℕ) × ((c ≡ suc k) × (fixIn (offset k) nodes factor (suc k) ≡ L.Fix f))
 unfolding fixAt
-choice-stage zero place nodes factor f e = absurd (no-fix f _ e)
-choice-stage (suc k) place nodes factor f e = (k, (refl, e))
+choice-stage zero offset nodes factor f e = absurd (no-fix f _ e)
+choice-stage (suc k) offset nodes factor f e = (k, (refl, e))
 
 -- what is known of an accepted lookup: grid k, from 0, is chosen, and no used corner is the mark or beyond the limits
 pub record Found (g : Group) (nodes : List ℤ) (p : Point) (t : ℤ) (f : Fix) : Type 0 where
   pub k : ℕ
-  pub ready : Ready g (length nodes) p t
+  pub ready : LookupReady g (length nodes) p t
   pub chosen : chosenIn g (p .lon .0) (p .lat .0) ≡ suc k
-  pub no-mark : cornerSome isMark (placeOf (gridAt g k) (g .parameters) p) nodes ≡ false
-  pub no-beyond : cornerSome isBeyond (placeOf (gridAt g k) (g .parameters) p) nodes ≡ false
+  pub no-mark : cornerSome isMark (offsetOf (gridAt g k) (g .parameters) p) nodes ≡ false
+  pub no-beyond : cornerSome isBeyond (offsetOf (gridAt g k) (g .parameters) p) nodes ≡ false
   pub number : f .grid ≡ suc k
-  pub results : (q : ℕ) → q < 3 → resultIn f q ≡ resultAt (placeOf (gridAt g k) (g .parameters) p) nodes (factorOf (g .ramp) (g .ramps) t) q
+  pub results : (q : ℕ) → q < 3 → resultIn f q ≡ resultAt (offsetOf (gridAt g k) (g .parameters) p) nodes (factorOf (g .ramp) (g .ramps) t) q
 
 same-fix : (e f : Fix) → L.Fix e ≡ L.Fix f → e ≡ f
 same-fix e f h = cc
@@ -60,8 +60,8 @@ found g nodes p t f e =
     let b = passed-if L.Refused (L.Fix f) (no-fix f) (not (pointFits p)) 6 0 _ (a .1) in
     let c = passed-if L.Refused (L.Fix f) (no-fix f) (not (dayFits t)) 9 0 _ (b .1) in
     let d = passed-first L.Refused (L.Fix f) (no-fix f) (endsEarly g (length nodes)) (g .grids) 13 1 _ (c .1) in
-    let s = choice-stage (chosenIn g (p .lon .0) (p .lat .0)) (λ k. placeOf (gridAt g k) (g .parameters) p) nodes (factorOf (g .ramp) (g .ramps) t) f (d .1) in
-    let k = s .0 in let l = placeOf (gridAt g k) (g .parameters) p in
+    let s = choice-stage (chosenIn g (p .lon .0) (p .lat .0)) (λ k. offsetOf (gridAt g k) (g .parameters) p) nodes (factorOf (g .ramp) (g .ramps) t) f (d .1) in
+    let k = s .0 in let l = offsetOf (gridAt g k) (g .parameters) p in
     let m = passed-if L.Refused (L.Fix f) (no-fix f) (cornerSome isMark l nodes) 8 0 _ (s .1 .1) in
     let n = passed-if L.Refused (L.Fix f) (no-fix f) (cornerSome isBeyond l nodes) 11 0 _ (m .1) in
     let w = same-fix _ f (n .1) in

@@ -1,5 +1,5 @@
--- The laws of the lookup: choice, places, stages and promises.
-pub mod PlaceLaws
+-- The laws of the lookup: choice, offsets, stages and promises.
+pub mod OffsetLaws
 pub mod FixAtLaws
 pub mod ChosenLaws
 pub mod BridgeLaws

@@ -32,8 +32,8 @@ use Rattle.fix.specs.declared.Lookup.the-variants as L
 use Rattle.fix.specs.Answers.{lookupRefusal}
 use Rattle.fix.specs.Fix.{cornerSome, resultAt, fixIn}
 use Rattle.fix.proofs.FixLaws.{corner-some, some-corner}
-use Rattle.lookup.specs.Lookup.{pointFits, endsEarly, placeOf, fixAt, fixOf, lookedIn, looked}
-use Rattle.lookup.specs.Demand2.{seenFrom, BestGrid, PointOutside, NoneHolds, UsedCorner, DayOutside, EndsBefore, Judged, Row, ShortList, Nothing, _then_, Refuses}
+use Rattle.lookup.specs.Lookup.{pointFits, endsEarly, offsetOf, fixAt, fixOf, lookedIn, looked}
+use Rattle.lookup.specs.Demand2.{seenFrom, BestGrid, PointOutside, NoneHolds, UsedCorner, DayOutside, EndsBefore, Judged, TableRow, ShortList, NothingRefused, _then_, Refuses}
 use Rattle.lookup.proofs.BestLaws.{chosen-is-best, none-chosen-holds, one-best}
 
 -- ---- rows in their order refuse in one way
@@ -47,7 +47,7 @@ single-then First Next a b r s (inl h) (inr k) = absurd (k .0 r h)
 single-then First Next a b r s (inr h) (inl k) = absurd (h .0 s k)
 single-then First Next a b r s (inr h) (inr k) = b r s (h .1) (k .1)
 
-single-row : (n : ℕ) (When : Type 0) → Single (Row n When)
+single-row : (n : ℕ) (When : Type 0) → Single (TableRow n When)
 single-row n When r s h k = h .0 ∙ sym (k .0)
 
 -- a stage of the definition and the row that it stands for
@@ -58,8 +58,8 @@ stage Now Next true n q next yea nay on = inl (yea refl)
 stage Now Next false n q next yea nay on = inr (nay refl, on refl)
 
 row-stage : (When : Type 0) (Next : Refusal → Type 0) (b : Bool) (n : ℕ) (next : Lookup) → (b ≡ true → When) → (b ≡ false → When → ⊥)
-    → (b ≡ false → Next (lookupRefusal next)) → (Row n When then Next) (lookupRefusal (refuseIf L.Refused b n 0 next))
-row-stage When Next b n next yea nay on = stage (Row n When) Next b n 0 next (λ e. (refl, yea e)) (λ e r h. nay e (h .1)) on
+    → (b ≡ false → Next (lookupRefusal next)) → (TableRow n When then Next) (lookupRefusal (refuseIf L.Refused b n 0 next))
+row-stage When Next b n next yea nay on = stage (TableRow n When) Next b n 0 next (λ e. (refl, yea e)) (λ e r h. nay e (h .1)) on
 
 -- ---- what each test says
 
@@ -107,13 +107,13 @@ module _ (g : Group) (nodes : List ℤ) where
 
   module _ (p : Point) (test : ℤ → Bool) (P : ℤ → Type 0) (tests : (z : ℤ) → (test z ≡ true) ↔ P z) (k : ℕ) (b : BestGrid g p k) where
     corner-used : cornerSome test (seenFrom g p k) nodes ≡ true → UsedCorner P g nodes p
-    unfolding placeOf
+    unfolding offsetOf
     corner-used e =
         let s = corner-some test P tests (seenFrom g p k) nodes e in
         record { k = k; grid = b; q = s .0; parameter = s .1; corner = s .2 }
 
     corner-unused : cornerSome test (seenFrom g p k) nodes ≡ false → UsedCorner P g nodes p → ⊥
-    unfolding placeOf
+    unfolding offsetOf
     corner-unused e u =
         true-false
         (some-corner test P tests (seenFrom g p (u .k)) nodes (u .q) (u .parameter) (u .corner))
@@ -123,19 +123,19 @@ module _ (g : Group) (nodes : List ℤ) where
 
 module _ (g : Group) (nodes : List ℤ) (p : Point) (t : ℤ) where
   abbrev From11 : Refusal → Type 0
-  From11 = Row 11 (UsedCorner (λ v. valueMost < natAbs v) g nodes p) then Nothing
+  From11 = TableRow 11 (UsedCorner (λ v. valueMost < natAbs v) g nodes p) then NothingRefused
 
   abbrev From8 : Refusal → Type 0
-  From8 = Row 8 (UsedCorner (λ v. v ≡ mark) g nodes p) then From11
+  From8 = TableRow 8 (UsedCorner (λ v. v ≡ mark) g nodes p) then From11
 
   abbrev From7 : Refusal → Type 0
-  From7 = Row 7 (NoneHolds g p) then From8
+  From7 = TableRow 7 (NoneHolds g p) then From8
 
   abbrev From13 : Refusal → Type 0
   From13 = ShortList g nodes then From7
 
   abbrev From9 : Refusal → Type 0
-  From9 = Row 9 (DayOutside t) then From13
+  From9 = TableRow 9 (DayOutside t) then From13
 
   in-grid : (k : ℕ) (factor : ℤ) → BestGrid g p k → From8 (lookupRefusal (fixIn (seenFrom g p k) nodes factor (suc k)))
   unfolding fixIn
@@ -144,7 +144,7 @@ module _ (g : Group) (nodes : List ℤ) (p : Point) (t : ℤ) where
       (corner-used g nodes p isMark (λ v. v ≡ mark) is-mark k b)
       (corner-unused g nodes p isMark (λ v. v ≡ mark) is-mark k b)
       (λ e.
-      row-stage _ Nothing (cornerSome isBeyond (seenFrom g p k) nodes) 11
+      row-stage _ NothingRefused (cornerSome isBeyond (seenFrom g p k) nodes) 11
       (L.Fix
       (record {
         grid = suc k;
@@ -171,7 +171,7 @@ module _ (g : Group) (nodes : List ℤ) (p : Point) (t : ℤ) where
   stands : Refuses g nodes p t (lookupRefusal (looked g nodes p t))
   unfolding Refuses looked lookedIn refuseFirst
   stands =
-      judge-stage (Row 6 (PointOutside p) then From9) (judged g) (lookedIn g nodes p t) refl
+      judge-stage (TableRow 6 (PointOutside p) then From9) (judged g) (lookedIn g nodes p t) refl
       (λ a.
       row-stage _ From9 (not (pointFits p)) 6 _ (λ e. point-outside p (not-true _ e)) (λ e. point-inside p (not-false _ e))
       (λ b.

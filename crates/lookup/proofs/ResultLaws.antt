@@ -15,16 +15,16 @@ use Rattle.judge.proofs.Accepted.{accepted, accepted-head}
 use Rattle.cell.proofs.ValueLaws.{value-half-step, value-least, value-most}
 use Rattle.day.specs.Day.{factorOf, resultOf}
 use Rattle.day.proofs.DayLaws.{factor-none, factor-bound, result-plain, result-bound}
-use Rattle.fix.specs.declared.Place.{Place}
+use Rattle.fix.specs.declared.Offset.{Offset}
 use Rattle.fix.specs.declared.Fix.{Fix}
 use Rattle.fix.specs.declared.Lookup.the-variants as L
 use Rattle.fix.specs.Answers.{resultIn}
-use Rattle.fix.specs.Fix.{Placed, nodeAt, cornersOf, valueIn, resultAt}
-use Rattle.fix.proofs.PlaceLaws as P
+use Rattle.fix.specs.Fix.{InsideGrid, nodeAt, cornersOf, valueIn, resultAt}
+use Rattle.fix.proofs.OffsetLaws as P
 use Rattle.fix.proofs.NodeLaws.{value-node}
-use Rattle.lookup.specs.Lookup.{placeOf, looked}
+use Rattle.lookup.specs.Lookup.{offsetOf, looked}
 use Rattle.lookup.specs.Demand2.{seenFrom, BestGrid, Answered}
-use Rattle.lookup.proofs.PlaceLaws.{place-placed}
+use Rattle.lookup.proofs.OffsetLaws.{offset-inside}
 use Rattle.lookup.proofs.BestLaws.{chosen-is-best}
 use Rattle.lookup.proofs.FoundLaws.{Found, found}
 
@@ -37,28 +37,28 @@ module _ (g : Group) (nodes : List ℤ) (p : Point) (t : ℤ) (f : Fix) (e : loo
   abbrev w : Found g nodes p t f
   w = found g nodes p t f e
 
-  abbrev l : Place
+  abbrev l : Offset
   l = seenFrom g p (w .k)
 
   pub best : BestGrid g p (w .k)
   best = chosen-is-best g p (w .ready .accepted) (w .k) (w .chosen)
 
-  placed : Placed l
-  placed = place-placed g (w .ready .accepted) p (w .k) (best .among) (best .held)
+  inside : InsideGrid l
+  inside = offset-inside g (w .ready .accepted) p (w .k) (best .among) (best .held)
 
-  in-place : (q : ℕ) → q < g .parameters → q < l .np
-  unfolding placeOf
-  in-place q h = h
+  in-offset : (q : ℕ) → q < g .parameters → q < l .np
+  unfolding offsetOf
+  in-offset q h = h
 
   result-is : (q : ℕ) → q < g .parameters → q < 3 → resultIn f q ≡ resultOf (valueIn l nodes q) (factorOf (g .ramp) (g .ramps) t)
   unfolding resultAt
-  result-is q h m = w .results q m ∙ rw (lt-ltb q (l .np) (in-place q h)) refl
+  result-is q h m = w .results q m ∙ rw (lt-ltb q (l .np) (in-offset q h)) refl
 
   pub answered : (q : ℕ) → q < g .parameters → Answered g nodes p t l q (resultIn f q)
   unfolding valueIn
   answered q h =
       let a = w .ready .accepted in let n = accepted-head g a .parameters in
-      let r = result-is q h (omega arith) in let c = P.spot-weighed placed in let v = cornersOf l nodes q in
+      let r = result-is q h (omega arith) in let c = P.cell-weighed inside in let v = cornersOf l nodes q in
       record {
         result = r;
         near = value-half-step c v;
@@ -67,7 +67,7 @@ module _ (g : Group) (nodes : List ℤ) (p : Point) (t : ℤ) (f : Fix) (e : loo
         plain = λ none. r ∙ ap (resultOf (valueIn l nodes q)) (factor-none (g .ramp) t (g .ramps) none) ∙ result-plain (valueIn l nodes q);
         small =
             subst (λ (z : ℤ). natAbs z ≤ resultMost) (sym r)
-            (result-bound (valueIn l nodes q) _ (P.value-most placed nodes (w .no-beyond) q (in-place q h))
+            (result-bound (valueIn l nodes q) _ (P.value-most inside nodes (w .no-beyond) q (in-offset q h))
             (factor-bound (g .ramp) t (g .ramps) (accepted-head g a .ramps) (accepted g a .ramp)));
       }
 
@@ -76,16 +76,16 @@ module _ (g : Group) (nodes : List ℤ) (p : Point) (t : ℤ) (f : Fix) (e : loo
       → p .lon .0 ≡ gridAt g (w .k) .lon .0 +ℤ pos i *ℤ gridAt g (w .k) .dlon
       → p .lat .0 ≡ gridAt g (w .k) .lat .0 +ℤ pos j *ℤ gridAt g (w .k) .dlat
       → resultIn f q ≡ resultOf (nodeAt l nodes i j q) (factorOf (g .ramp) (g .ramps) t)
-  unfolding placeOf
+  unfolding offsetOf
   at-node i j q hi hj hq ex ey =
       let c = gridAt g (w .k) in
       answered q hq .result
       ∙ ap (λ (z : ℤ). resultOf z (factorOf (g .ramp) (g .ramps) t))
-      (value-node placed nodes q i j hi hj (node-distance (p .lon .0) (c .lon .0) (c .dlon) i ex) (node-distance (p .lat .0) (c .lat .0) (c .dlat) j ey))
+      (value-node inside nodes q i j hi hj (node-distance (p .lon .0) (c .lon .0) (c .dlon) i ex) (node-distance (p .lat .0) (c .lat .0) (c .dlat) j ey))
 
   -- the results behind NP are 0
   pub rest-zero : (q : ℕ) → g .parameters ≤ q → resultIn f q ≡ pos 0
-  unfolding resultAt placeOf
+  unfolding resultAt offsetOf
   rest-zero q h = elim (decLt q 3) [ yes lt ↦ w .results q lt ∙ rw (le-ltb q (g .parameters) h) refl | no ge ↦ past q (omega arith) ]
     where
       past : (q : ℕ) → 3 ≤ q → resultIn f q ≡ pos 0

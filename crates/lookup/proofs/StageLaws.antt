@@ -14,7 +14,7 @@ use Rattle.judge.specs.Judge.{judged}
 use Rattle.fix.specs.declared.Lookup.the-variants as L
 use Rattle.group.specs.Numbers.{dayFits}
 use Rattle.group.proofs.RefusalLaws.{if-here, if-past, first-here, first-past}
-use Rattle.lookup.specs.Lookup.{pointFits, endsEarly, fixOf, lookedIn, looked, Ready}
+use Rattle.lookup.specs.Lookup.{pointFits, endsEarly, fixOf, lookedIn, looked, LookupReady}
 
 module _ (g : Group) (nodes : List ℤ) (p : Point) (t : ℤ) where
   pub looked-group : (r : Refusal) → judged g ≡ Refused r → looked g nodes p t ≡ L.Refused r
@@ -41,7 +41,7 @@ module _ (g : Group) (nodes : List ℤ) (p : Point) (t : ℤ) where
       ∙ if-past L.Refused (not (dayFits t)) 9 0 _ (ap not f)
       ∙ first-here L.Refused (endsEarly g (length nodes)) (g .grids) 13 1 _ h
 
-  pub looked-on : Ready g (length nodes) p t
+  pub looked-on : LookupReady g (length nodes) p t
       → lookedIn g nodes p t ≡ fixOf g nodes p t
   unfolding lookedIn
   looked-on r =

@@ -13,7 +13,7 @@ use Rattle.group.proofs.RefusalLaws.{Answers, told-accepted, told-by, told-if, 
 use Rattle.judge.specs.Judge.{judged}
 use Rattle.judge.proofs.TableLaws.{judged-told}
 use Rattle.fix.specs.declared.Fix.{Fix}
-use Rattle.fix.specs.declared.Place.{Place}
+use Rattle.fix.specs.declared.Offset.{Offset}
 use Rattle.fix.specs.declared.Lookup.{Lookup}
 use Rattle.fix.specs.declared.Lookup.the-variants as L
 use Rattle.fix.specs.Answers.{lookupRefusal}
@@ -23,11 +23,11 @@ use Rattle.lookup.specs.Lookup.{fixAt, lookedIn, looked}
 lookups : Answers (λ (x : Lookup). (f : Fix) × (x ≡ L.Fix f)) lookupRefusal L.Refused
 lookups = record { back = λ r. refl; never = λ r e. let f = e .1 in let z : _≡_ {A = ℕ} 0 1 = cc in omega arith }
 
-in-choice : (c : ℕ) (place : ℕ → Place) (nodes : List ℤ) (factor : ℤ)
-    → Told ((f : Fix) × (fixAt c place nodes factor ≡ L.Fix f)) (lookupRefusal (fixAt c place nodes factor))
+in-choice : (c : ℕ) (offset : ℕ → Offset) (nodes : List ℤ) (factor : ℤ)
+    → Told ((f : Fix) × (fixAt c offset nodes factor ≡ L.Fix f)) (lookupRefusal (fixAt c offset nodes factor))
 unfolding fixAt fixIn
-in-choice zero place nodes factor = told-by lookups (refusal 7 0) refl
-in-choice (suc k) place nodes factor = told-if lookups _ 8 0 refl (told-if lookups _ 11 0 refl (told-accepted (_, refl)))
+in-choice zero offset nodes factor = told-by lookups (refusal 7 0) refl
+in-choice (suc k) offset nodes factor = told-if lookups _ 8 0 refl (told-if lookups _ 11 0 refl (told-accepted (_, refl)))
 
 module _ (g : Group) (nodes : List ℤ) (p : Point) (t : ℤ) where
   pub looked-told : Told ((f : Fix) × (looked g nodes p t ≡ L.Fix f)) (lookupRefusal (looked g nodes p t))

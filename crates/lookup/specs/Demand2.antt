@@ -20,17 +20,17 @@ use Rattle.judge.specs.Judge.{judged}
 use Rattle.cell.specs.Cell.{weightedSum}
 use Rattle.cell.specs.Used.{EachUsed, SomeUsed}
 use Rattle.day.specs.Day.{factorOf, resultOf}
-use Rattle.fix.specs.declared.Place.{Place}
+use Rattle.fix.specs.declared.Offset.{Offset}
 use Rattle.fix.specs.declared.Fix.{Fix}
 use Rattle.fix.specs.declared.Lookup.{Lookup}
 use Rattle.fix.specs.declared.Lookup.the-variants as L
-use Rattle.fix.specs.Answers.{lookupRefusal, gridOf, resultsOf}
-use Rattle.fix.specs.Fix.{spotOf, nodeAt, cornersOf, valueIn, SameNodes}
-use Rattle.lookup.specs.Lookup.{placeOf, looked}
+use Rattle.fix.specs.Answers.{lookupRefusal, lookupGrid, resultsOf}
+use Rattle.fix.specs.Fix.{cellOf, nodeAt, cornersOf, valueIn, SameNodes}
+use Rattle.lookup.specs.Lookup.{offsetOf, looked}
 
 -- the point seen from grid k, from 0
-abbrev pub seenFrom : Group → Point → ℕ → Place
-seenFrom g p k = placeOf (gridAt g k) (g .parameters) p
+abbrev pub seenFrom : Group → Point → ℕ → Offset
+seenFrom g p k = offsetOf (gridAt g k) (g .parameters) p
 
 -- grid k holds the point, and every other grid that holds it has a greater rank number
 pub record BestGrid (g : Group) (p : Point) (k : ℕ) : Type 0 where
@@ -55,7 +55,7 @@ pub record UsedCorner (P : ℤ → Type 0) (g : Group) (nodes : List ℤ) (p : P
   pub grid : BestGrid g p k
   pub q : ℕ
   pub parameter : q < g .parameters
-  pub corner : SomeUsed P (spotOf (seenFrom g p k) .weights) (cornersOf (seenFrom g p k) nodes q)
+  pub corner : SomeUsed P (cellOf (seenFrom g p k) .weights) (cornersOf (seenFrom g p k) nodes q)
 
 -- 9: the day is outside the limit
 abbrev pub DayOutside : ℤ → Type 0
@@ -74,16 +74,16 @@ abbrev pub Judged : Group → Refusal → Type 0
 Judged g r = judged g ≡ Refused r
 
 -- a row whose place is 0
-abbrev pub Row : ℕ → Type 0 → Refusal → Type 0
-Row number When r = (r ≡ refusal number 0) × When
+abbrev pub TableRow : ℕ → Type 0 → Refusal → Type 0
+TableRow number When r = (r ≡ refusal number 0) × When
 
 -- 13, with the grid as its place
 abbrev pub ShortList : Group → List ℤ → Refusal → Type 0
 ShortList g nodes r = (k : ℕ) × (r ≡ refusal 13 (suc k)) × EndsBefore g nodes k
 
 -- nothing is refused
-abbrev pub Nothing : Refusal → Type 0
-Nothing r = r ≡ noRefusal
+abbrev pub NothingRefused : Refusal → Type 0
+NothingRefused r = r ≡ noRefusal
 
 -- the first, or where it doesn't apply the next
 infixr 1 _then_
@@ -94,26 +94,26 @@ _then_ First Next r = First r ⊎ (((s : Refusal) → First s → ⊥) × Next r
 unfoldable pub Refuses : Group → List ℤ → Point → ℤ → Refusal → Type 0
 Refuses g nodes p t =
     Judged g
-    then Row 6 (PointOutside p)
-    then Row 9 (DayOutside t)
+    then TableRow 6 (PointOutside p)
+    then TableRow 9 (DayOutside t)
     then ShortList g nodes
-    then Row 7 (NoneHolds g p)
-    then Row 8 (UsedCorner (λ v. v ≡ mark) g nodes p)
-    then Row 11 (UsedCorner (λ v. valueMost < natAbs v) g nodes p)
-    then Nothing
+    then TableRow 7 (NoneHolds g p)
+    then TableRow 8 (UsedCorner (λ v. v ≡ mark) g nodes p)
+    then TableRow 11 (UsedCorner (λ v. valueMost < natAbs v) g nodes p)
+    then NothingRefused
 
 -- ---- an accepted lookup
 
 -- of parameter q: the value of the cell in steps, and the result
-pub record Answered (g : Group) (nodes : List ℤ) (p : Point) (t : ℤ) (l : Place) (q : ℕ) (r : ℤ) : Type 0 where
+pub record Answered (g : Group) (nodes : List ℤ) (p : Point) (t : ℤ) (l : Offset) (q : ℕ) (r : ℤ) : Type 0 where
   pub result : r ≡ resultOf (valueIn l nodes q) (factorOf (g .ramp) (g .ramps) t)
   -- at most half a step from the exact fraction
   pub near :
-      2 * natAbs ((pos (spotOf l .weights .area) *ℤ valueIn l nodes q) -ℤ weightedSum (spotOf l .weights) (cornersOf l nodes q))
-      ≤ spotOf l .weights .area
+      2 * natAbs ((pos (cellOf l .weights .total) *ℤ valueIn l nodes q) -ℤ weightedSum (cellOf l .weights) (cornersOf l nodes q))
+      ≤ cellOf l .weights .total
   -- never outside the range of the used corners
-  pub least : (z : ℤ) → EachUsed (λ v. z ≤ℤ v) (spotOf l .weights) (cornersOf l nodes q) → z ≤ℤ valueIn l nodes q
-  pub most : (z : ℤ) → EachUsed (λ v. v ≤ℤ z) (spotOf l .weights) (cornersOf l nodes q) → valueIn l nodes q ≤ℤ z
+  pub least : (z : ℤ) → EachUsed (λ v. z ≤ℤ v) (cellOf l .weights) (cornersOf l nodes q) → z ≤ℤ valueIn l nodes q
+  pub most : (z : ℤ) → EachUsed (λ v. v ≤ℤ z) (cellOf l .weights) (cornersOf l nodes q) → valueIn l nodes q ≤ℤ z
   -- with no ramps the result is the value
   pub plain : g .ramps ≡ 0 → r ≡ valueIn l nodes q
   -- 64 bits suffice
@@ -122,7 +122,7 @@ pub record Answered (g : Group) (nodes : List ℤ) (p : Point) (t : ℤ) (l : Pl
 -- r answers the lookup: the best grid that holds the point, NP results in it, the rest 0
 pub record LookedUp (g : Group) (nodes : List ℤ) (p : Point) (t : ℤ) (r : Lookup) : Type 0 where
   pub k : ℕ
-  pub number : gridOf r ≡ suc k
+  pub number : lookupGrid r ≡ suc k
   pub grid : BestGrid g p k
   pub results : (q : ℕ) → q < g .parameters → Answered g nodes p t (seenFrom g p k) q (resultsOf r q)
   pub rest : (q : ℕ) → g .parameters ≤ q → resultsOf r q ≡ pos 0
@@ -138,8 +138,8 @@ pub record SameChoice (g other : Group) (nodes others : List ℤ) (p : Point) (t
   pub k : ℕ
   pub accepted : lookupRefusal (looked g nodes p t) .number ≡ 0
   pub accepted-too : lookupRefusal (looked other others p t) .number ≡ 0
-  pub choice : gridOf (looked g nodes p t) ≡ suc k
-  pub stays : gridOf (looked other others p t) ≡ suc k
+  pub choice : lookupGrid (looked g nodes p t) ≡ suc k
+  pub stays : lookupGrid (looked other others p t) ≡ suc k
   pub grid : gridAt g k ≡ gridAt other k
   pub parameters : g .parameters ≡ other .parameters
   pub factor : factorOf (g .ramp) (g .ramps) t ≡ factorOf (other .ramp) (other .ramps) t

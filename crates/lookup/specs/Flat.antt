@@ -10,24 +10,24 @@ use Rattle.flat.specs.declared.Frame.{Frame}
 use Rattle.flat.specs.Frames.{frameAt}
 use Rattle.flat.specs.Lists.{Room}
 use Rattle.numbers.specs.Lists.{at}
-use Rattle.choice.specs.Rect.{holds}
+use Rattle.choice.specs.Rect.{rectHolds}
 use Rattle.choice.specs.Choice.{chosen}
 use Rattle.choice.specs.Holder.{holder}
-use Rattle.fix.specs.declared.Place.{Place}
+use Rattle.fix.specs.declared.Offset.{Offset}
 use Rattle.fix.specs.declared.Lookup.{Lookup}
-use Rattle.fix.specs.Fix.{Placed, Listed}
+use Rattle.fix.specs.Fix.{InsideGrid, RangeListed}
 use Rattle.lookup.specs.Lookup.{fixAt}
 
 -- the distance of two numbers
-abbrev pub apart : ℕ → ℕ → ℕ
-apart a b = (a - b) + (b - a)
+abbrev pub distance : ℕ → ℕ → ℕ
+distance a b = (a - b) + (b - a)
 
 -- a point (x, y), as distances from the least longitude and latitude, seen from a grid
-abbrev pub placeIn : Frame → (np x y : ℕ) → Place
-placeIn f np x y =
+abbrev pub offsetIn : Frame → (np x y : ℕ) → Offset
+offsetIn f np x y =
     record {
-      dx = apart x (f .lon);
-      dy = apart y (f .lat);
+      dx = distance x (f .lon);
+      dy = distance y (f .lat);
       sx = f .dlon;
       sy = f .dlat;
       ni = f .ni;
@@ -39,30 +39,30 @@ placeIn f np x y =
 -- 7, 8 or 11, or the fix, from the flat lists
 abbrev pub fixFlat : (sides ranks frames : List ℕ) (grids np : ℕ) → List ℤ → ℤ → (x y : ℕ) → Lookup
 fixFlat sides ranks frames grids np nodes factor x y =
-    fixAt (chosen (λ i. holds sides i x y) (at ranks) grids) (λ k. placeIn (frameAt frames k) np x y) nodes factor
+    fixAt (chosen (λ i. rectHolds sides i x y) (at ranks) grids) (λ k. offsetIn (frameAt frames k) np x y) nodes factor
 
 -- what the lookup of a point may rely on: lists long enough for all grids, and a point within each grid that holds it, with the
 -- grid's node range within a list of so many nodes
 pub record Laid (sides ranks frames : List ℕ) (grids np count x y : ℕ) : Type 0 where
   pub room : Room sides ranks grids
   pub frames-room : grids * 7 ≤ length frames
-  pub placed : (k : ℕ) → k < grids → holds sides k x y ≡ true → Placed (placeIn (frameAt frames k) np x y)
-  pub listed : (k : ℕ) → k < grids → Listed (placeIn (frameAt frames k) np x y) count
+  pub inside : (k : ℕ) → k < grids → rectHolds sides k x y ≡ true → InsideGrid (offsetIn (frameAt frames k) np x y)
+  pub listed : (k : ℕ) → k < grids → RangeListed (offsetIn (frameAt frames k) np x y) count
 
 -- the grid numbered c, from 1, holds the point, its frame stands in the list and its node range ends within so many nodes; c is 0 for none
 pub record Chosen (frames : List ℕ) (c np count x y : ℕ) : Type 0 where
   pub number : c ≤ gridsMost
   pub room : c * 7 ≤ length frames
-  pub placed : 0 < c → Placed (placeIn (frameAt frames (c - 1)) np x y)
-  pub listed : 0 < c → Listed (placeIn (frameAt frames (c - 1)) np x y) count
+  pub inside : 0 < c → InsideGrid (offsetIn (frameAt frames (c - 1)) np x y)
+  pub listed : 0 < c → RangeListed (offsetIn (frameAt frames (c - 1)) np x y) count
 
 -- 7, 8 or 11, or the fix, from rectangles in the order of their owners' ranks
 abbrev pub fixRanked : (rows owners frames : List ℕ) (count np : ℕ) → List ℤ → ℤ → (x y : ℕ) → Lookup
 fixRanked rows owners frames count np nodes factor x y =
-    fixAt (holder (λ i. holds rows i x y) (at owners) count) (λ k. placeIn (frameAt frames k) np x y) nodes factor
+    fixAt (holder (λ i. rectHolds rows i x y) (at owners) count) (λ k. offsetIn (frameAt frames k) np x y) nodes factor
 
 -- what that lookup may rely on
 pub record LaidRows (rows owners frames : List ℕ) (count np nodes x y : ℕ) : Type 0 where
   pub rows-room : count * 4 ≤ length rows
   pub owners-room : count ≤ length owners
-  pub chosen : (r : ℕ) → r < count → holds rows r x y ≡ true → Chosen frames (at owners r) np nodes x y
+  pub chosen : (r : ℕ) → r < count → rectHolds rows r x y ≡ true → Chosen frames (at owners r) np nodes x y

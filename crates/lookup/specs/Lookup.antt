@@ -18,7 +18,7 @@ use Rattle.extent.specs.Extent.{nodeEnd}
 use Rattle.judge.specs.Judge.{judged}
 use Rattle.ingroup.specs.InGroup.{chosenIn}
 use Rattle.day.specs.Day.{factorOf}
-use Rattle.fix.specs.declared.Place.{Place}
+use Rattle.fix.specs.declared.Offset.{Offset}
 use Rattle.fix.specs.declared.Lookup.{Lookup}
 use Rattle.fix.specs.declared.Lookup.the-variants as L
 use Rattle.fix.specs.Fix.{fixIn}
@@ -32,8 +32,8 @@ abbrev pub endsEarly : Group → (count k : ℕ) → Bool
 endsEarly g count k = ltb count (nodeEnd (g .parameters) (gridAt g k))
 
 -- the point seen from a grid
-unfoldable pub placeOf : Grid → ℕ → Point → Place
-placeOf g np p =
+unfoldable pub offsetOf : Grid → ℕ → Point → Offset
+offsetOf g np p =
     record {
       dx = natAbs (p .lon .0 -ℤ g .lon .0);
       dy = natAbs (p .lat .0 -ℤ g .lat .0);
@@ -46,13 +46,13 @@ placeOf g np p =
     }
 
 -- 7 where no grid is chosen (its number is 0), else 8 or 11, or the fix, in the chosen one
-unfoldable pub fixAt : ℕ → (ℕ → Place) → List ℤ → ℤ → Lookup
-fixAt zero place nodes factor = L.Refused (refusal 7 0)
-fixAt (suc k) place nodes factor = fixIn (place k) nodes factor (suc k)
+unfoldable pub fixAt : ℕ → (ℕ → Offset) → List ℤ → ℤ → Lookup
+fixAt zero offset nodes factor = L.Refused (refusal 7 0)
+fixAt (suc k) offset nodes factor = fixIn (offset k) nodes factor (suc k)
 
 -- 7, 8 or 11, or the fix
 abbrev pub fixOf : Group → List ℤ → Point → ℤ → Lookup
-fixOf g nodes p t = fixAt (chosenIn g (p .lon .0) (p .lat .0)) (λ k. placeOf (gridAt g k) (g .parameters) p) nodes (factorOf (g .ramp) (g .ramps) t)
+fixOf g nodes p t = fixAt (chosenIn g (p .lon .0) (p .lat .0)) (λ k. offsetOf (gridAt g k) (g .parameters) p) nodes (factorOf (g .ramp) (g .ramps) t)
 
 -- in an accepted group: 6, 9, 13, then 7, 8, 11
 unfoldable pub lookedIn : Group → List ℤ → Point → ℤ → Lookup
@@ -67,7 +67,7 @@ unfoldable pub looked : Group → List ℤ → Point → ℤ → Lookup
 looked g nodes p t = unlessRefused L.Refused (judged g) (lookedIn g nodes p t)
 
 -- what 7, 8 and 11 may rely on: an accepted group, a point and a day within the limits, and each node range within the list
-pub record Ready (g : Group) (count : ℕ) (p : Point) (t : ℤ) : Type 0 where
+pub record LookupReady (g : Group) (count : ℕ) (p : Point) (t : ℤ) : Type 0 where
   pub accepted : judged g ≡ Accepted
   pub point : pointFits p ≡ true
   pub day : dayFits t ≡ true

@@ -1,6 +1,6 @@
 // The lookup: what a group of grids says of a point on a day.
 use fix::Lookup;
-use fix::Place;
+use fix::Offset;
 use flat::Frame;
 use group::Group;
 use group::Point;
@@ -15,12 +15,12 @@ ghost use Rattle.numbers.specs.First.{first};
 ghost use Rattle.group.specs.Numbers.{dayFits, factorMost};
 ghost use Rattle.flat.specs.Frames.{frameAt};
 ghost use Rattle.judge.specs.Judge.{judged};
-ghost use Rattle.lookup.specs.Lookup.{pointFits, fixAt, fixOf, lookedIn, looked, Ready};
-ghost use Rattle.lookup.specs.Flat.{apart, placeIn, fixFlat, Laid, Chosen, fixRanked, LaidRows};
+ghost use Rattle.lookup.specs.Lookup.{pointFits, fixAt, fixOf, lookedIn, looked, LookupReady};
+ghost use Rattle.lookup.specs.Flat.{distance, offsetIn, fixFlat, Laid, Chosen, fixRanked, LaidRows};
 
 // The distance of two numbers.
 fn distance(a: u64, b: u64) -> u64
-    ensures { λ r. ⌜ r ≡ apart a b ⌝ }
+    ensures { λ r. ⌜ r ≡ distance a b ⌝ }
 {
     if a <= b {
         return b - a;
@@ -29,10 +29,10 @@ fn distance(a: u64, b: u64) -> u64
 }
 
 // A point, as distances in mas from the least longitude and latitude, seen from a grid.
-fn place_in(f: Frame, np: u64, x: u64, y: u64) -> Place
-    ensures { λ r. ⌜ r ≡ placeIn f np x y ⌝ }
+fn offset_in(f: Frame, np: u64, x: u64, y: u64) -> Offset
+    ensures { λ r. ⌜ r ≡ offsetIn f np x y ⌝ }
 {
-    Place {
+    Offset {
         dx: distance(x, f.lon),
         dy: distance(y, f.lat),
         sx: f.dlon,
@@ -47,7 +47,7 @@ fn place_in(f: Frame, np: u64, x: u64, y: u64) -> Place
 // The fix of a point (x, y) in the grid numbered c, from 1; refusal 7 where c is 0, for none.
 fn fix_chosen(frames: &[u64], c: u64, np: u64, nodes: &[i32], factor: i64, x: u64, y: u64) -> Lookup
     requires { ⌜ Chosen (now frames) c np (length (now nodes)) x y × (natAbs factor ≤ factorMost) ⌝ }
-    ensures { λ r. ⌜ r ≡ fixAt c (λ k. placeIn (frameAt (now (frames .entry)) k) np x y) (now (nodes .entry)) factor ⌝ }
+    ensures { λ r. ⌜ r ≡ fixAt c (λ k. offsetIn (frameAt (now (frames .entry)) k) np x y) (now (nodes .entry)) factor ⌝ }
 {
     if c == 0 {
         return Lookup::Refused(Refusal {
@@ -56,7 +56,7 @@ fn fix_chosen(frames: &[u64], c: u64, np: u64, nodes: &[i32], factor: i64, x: u6
         });
     }
     let k = (c - 1) as usize;
-    let l = place_in(flat::frame_at(frames, k), np, x, y);
+    let l = offset_in(flat::frame_at(frames, k), np, x, y);
     fix::fix_in(l, nodes, factor, c)
 }
 
@@ -135,7 +135,7 @@ fn day_fits(day: i64) -> bool
 // The lookup in an accepted group of a point and a day within the limits, with every node range within the list: refusal 7, 8 or
 // 11, or the fix.
 fn look_in(group: Group, nodes: &[i32], point: Point, day: i64) -> Lookup
-    requires { ⌜ Ready group (length (now nodes)) point day ⌝ }
+    requires { ⌜ LookupReady group (length (now nodes)) point day ⌝ }
     ensures { λ r. ⌜ r ≡ fixOf group (now (nodes .entry)) point day ⌝ }
 {
     let mut sides = [0u64; flat::SIDES];

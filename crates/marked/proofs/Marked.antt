@@ -11,18 +11,18 @@ use Rattle.ingroup.specs.InGroup.{chosenIn}
 use Rattle.cell.specs.Cell.{cellIndex, cellAlong, weightsOf, usedSome, valueOf}
 use Rattle.day.specs.Day.{rampFactor, sumOf, factorOf, resultOf}
 use Rattle.fix.specs.Fix as F
-use Rattle.lookup.specs.Lookup.{placeOf, fixAt, lookedIn, looked}
+use Rattle.lookup.specs.Lookup.{offsetOf, fixAt, lookedIn, looked}
 use Rattle.region.specs.First.{firstInRow, firstInRows, firstIn}
 use Rattle.flat.specs.Order.{ofRank, byRank}
 use Rattle.coverage.specs.InForce.{entriesOf}
 use Rattle.inforce.specs.Area.{areaFits}
 use Rattle.inforce.specs.InForce.{inForceOf}
-use Rattle.marked.specs.Marked.{Holds, AllHold, table}
+use Rattle.marked.specs.Marked.{CaseHolds, AllHold, table}
 
 pub all-marked : AllHold table
-unfolding AllHold Holds table first gain nearest roundZ byteFits nameFits nameBlank headFits gridFits gridBlank
+unfolding AllHold CaseHolds table first gain nearest roundZ byteFits nameFits nameBlank headFits gridFits gridBlank
     farEdge spanOf lonSpan latSpan holds meet inside sameName sameRank refuseIf refuseFirst judgedLines judgedLimits judgedGrids judgedRanks judged
     betterOf chosen cellIndex cellAlong weightsOf usedSome valueOf rampFactor sumOf factorOf resultOf
-    F.spotOf F.cornersAt F.cornersOf F.cornerSome F.valueIn F.resultAt F.fixIn
-    chosenIn placeOf fixAt lookedIn looked firstInRow firstInRows firstIn ofRank byRank entriesOf areaFits inForceOf
+    F.cellOf F.cornersAt F.cornersOf F.cornerSome F.valueIn F.resultAt F.fixIn
+    chosenIn offsetOf fixAt lookedIn looked firstInRow firstInRows firstIn ofRank byRank entriesOf areaFits inForceOf
 all-marked = (refl, (refl, (refl, (refl, (refl, (refl, (refl, (refl, (refl, (refl, (refl, (refl, (refl, (refl, tt))))))))))))))

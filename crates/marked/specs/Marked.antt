@@ -16,12 +16,12 @@ use Rattle.group.specs.Blank.{blankRamp, blankGrid}
 use Rattle.group.specs.Numbers.{mark}
 use Rattle.day.specs.Day.{factorOf}
 use Rattle.fix.specs.declared.Lookup.{Lookup}
-use Rattle.fix.specs.Answers.{lookupRefusal, gridOf, resultsOf}
+use Rattle.fix.specs.Answers.{lookupRefusal, lookupGrid, resultsOf}
 use Rattle.lookup.specs.Lookup.{looked}
 use Rattle.inforce.specs.declared.Area.{Area}
 use Rattle.inforce.specs.declared.GridInForce.{GridInForce}
 use Rattle.inforce.specs.declared.InForce.{InForce}
-use Rattle.inforce.specs.InForce.{noGrid, inForceOf}
+use Rattle.inforce.specs.InForce.{blankEntry, inForceOf}
 
 -- ---- the groups
 
@@ -73,35 +73,35 @@ three x = dock [] (grid (name (71 ∷ 49 ∷ [])) 0 3 3 ∷ grid (name (71 ∷ 5
 -- ---- what is answered, in document 01's numbers
 
 -- of a lookup: the refusal's number and place, the grid and the results
-pub record Answer : Type 0 where
+pub record CaseAnswer : Type 0 where
   pub refused : Refusal
   pub grid : ℕ
   pub results : List ℤ
 
-abbrev pub answerOf : Lookup → Answer
-answerOf l = record { refused = lookupRefusal l; grid = gridOf l; results = resultsOf l 0 ∷ resultsOf l 1 ∷ resultsOf l 2 ∷ [] }
+abbrev pub caseAnswerOf : Lookup → CaseAnswer
+caseAnswerOf l = record { refused = lookupRefusal l; grid = lookupGrid l; results = resultsOf l 0 ∷ resultsOf l 1 ∷ resultsOf l 2 ∷ [] }
 
 -- a result in grid 1; a refusal with no place
-abbrev pub result : ℤ → Answer
+abbrev pub result : ℤ → CaseAnswer
 result z = record { refused = noRefusal; grid = 1; results = z ∷ pos 0 ∷ pos 0 ∷ [] }
 
-abbrev pub refused : ℕ → Answer
-refused number = record { refused = refusal number 0; grid = 0; results = pos 0 ∷ pos 0 ∷ pos 0 ∷ [] }
+abbrev pub refusedWith : ℕ → CaseAnswer
+refusedWith number = record { refused = refusal number 0; grid = 0; results = pos 0 ∷ pos 0 ∷ pos 0 ∷ [] }
 
 -- of the grids in force: the refusal's number and place, the count and 64 entries
-pub record Listed : Type 0 where
+pub record CaseList : Type 0 where
   pub refused : Refusal
   pub count : ℕ
   pub entries : List GridInForce
 
-abbrev pub listOf : InForce → Listed
-listOf r = record { refused = verdictRefusal (r .verdict); count = r .count; entries = r .entries }
+abbrev pub caseListOf : InForce → CaseList
+caseListOf r = record { refused = verdictRefusal (r .verdict); count = r .count; entries = r .entries }
 
 abbrev pub entry : (grid lon lat : ℕ) → GridInForce
 entry k x y = record { grid = k; lon = record { 0 = pos x }; lat = record { 0 = pos y } }
 
-abbrev pub listed : List GridInForce → Listed
-listed es = record { refused = noRefusal; count = length es; entries = es ++ replicate (64 - length es) noGrid }
+abbrev pub inOrder : List GridInForce → CaseList
+inOrder es = record { refused = noRefusal; count = length es; entries = es ++ replicate (64 - length es) blankEntry }
 
 -- ---- the statement
 
@@ -118,20 +118,20 @@ area w e s n =
 -- a marked case: what is handed over, and what is answered
 pub data Case : Type 0 where
   -- a lookup in `basin` with these nodes, and no ramps
-  lookup : List ℤ → Point → Answer → Case
+  lookup : List ℤ → Point → CaseAnswer → Case
   -- the day factor with its one ramp
   factor : (day : ℕ) → (factor : ℤ) → Case
   -- the grids in force
-  inForce : Group → Area → Listed → Case
+  inForce : Group → Area → CaseList → Case
 
-unfoldable pub Holds : Case → Type 0
-Holds (lookup nodes p answer) = answerOf (looked (basin []) nodes p (pos 0)) ≡ answer
-Holds (factor day f) = factorOf (basin (ramp ∷ []) .ramp) (basin (ramp ∷ []) .ramps) (pos day) ≡ f
-Holds (inForce g a answer) = listOf (inForceOf g a) ≡ answer
+unfoldable pub CaseHolds : Case → Type 0
+CaseHolds (lookup nodes p answer) = caseAnswerOf (looked (basin []) nodes p (pos 0)) ≡ answer
+CaseHolds (factor day f) = factorOf (basin (ramp ∷ []) .ramp) (basin (ramp ∷ []) .ramps) (pos day) ≡ f
+CaseHolds (inForce g a answer) = caseListOf (inForceOf g a) ≡ answer
 
 unfoldable pub AllHold : List Case → Type 0
 AllHold [] = Unit {0}
-AllHold (c ∷ cs) = Holds c × AllHold cs
+AllHold (c ∷ cs) = CaseHolds c × AllHold cs
 
 -- ---- the table
 
@@ -139,12 +139,12 @@ AllHold (c ∷ cs) = Holds c × AllHold cs
 abbrev pub nodes : (a b c d e f : ℤ) → List ℤ
 nodes a b c d e f = a ∷ b ∷ c ∷ d ∷ e ∷ f ∷ []
 
-abbrev pub plain : List ℤ
-plain = nodes (pos 0) (pos 10) (pos 20) (pos 100) (pos 110) (pos 120)
+abbrev pub plainNodes : List ℤ
+plainNodes = nodes (pos 0) (pos 10) (pos 20) (pos 100) (pos 110) (pos 120)
 
 -- the same with the mark at node (1, 0)
-abbrev pub marked : List ℤ
-marked = nodes (pos 0) mark (pos 20) (pos 100) (pos 110) (pos 120)
+abbrev pub markedNodes : List ℤ
+markedNodes = nodes (pos 0) mark (pos 20) (pos 100) (pos 110) (pos 120)
 
 -- the four corners of the first cell
 abbrev pub corners : (a b c d : ℤ) → List ℤ
@@ -156,22 +156,22 @@ minus n = negℤ (pos n)
 unfoldable pub table : List Case
 table =
     -- M1, M2, M3
-    lookup plain (point 5 5) (result (pos 55))
-    ∷ lookup plain (point 20 10) (result (pos 120))
-    ∷ lookup plain (point 21 10) (refused 7)
+    lookup plainNodes (point 5 5) (result (pos 55))
+    ∷ lookup plainNodes (point 20 10) (result (pos 120))
+    ∷ lookup plainNodes (point 21 10) (refusedWith 7)
     -- M4, M5, M6, M7
     ∷ lookup (corners (pos 0) (pos 1) (pos 0) (pos 1)) (point 5 5) (result (pos 0))
     ∷ lookup (corners (pos 1) (pos 2) (pos 1) (pos 2)) (point 5 5) (result (pos 2))
     ∷ lookup (corners (pos 0) (minus 1) (pos 0) (minus 1)) (point 5 5) (result (pos 0))
     ∷ lookup (corners (minus 1) (minus 2) (minus 1) (minus 2)) (point 5 5) (result (minus 2))
     -- M8, M9
-    ∷ lookup marked (point 0 5) (result (pos 50))
-    ∷ lookup marked (point 1 5) (refused 8)
+    ∷ lookup markedNodes (point 0 5) (result (pos 50))
+    ∷ lookup markedNodes (point 1 5) (refusedWith 8)
     -- M10
     ∷ factor 99 (pos 0)
     ∷ factor 133 (pos 330000)
     ∷ factor 200 (pos 1000000)
     -- M11, M12
-    ∷ inForce (three 10) (area 0 20 0 10) (listed (entry 2 0 0 ∷ entry 3 11 0 ∷ []))
-    ∷ inForce (three 12) (area 0 20 0 10) (listed (entry 2 0 0 ∷ entry 3 12 0 ∷ entry 1 11 0 ∷ []))
+    ∷ inForce (three 10) (area 0 20 0 10) (inOrder (entry 2 0 0 ∷ entry 3 11 0 ∷ []))
+    ∷ inForce (three 12) (area 0 20 0 10) (inOrder (entry 2 0 0 ∷ entry 3 12 0 ∷ entry 1 11 0 ∷ []))
     ∷ []

@@ -12,7 +12,7 @@ use lib.Ieee.{Float, nan}
 use lib.ListN.{length, take, set, getD, length-set}
 use lib.Seq.{take-suc, take-suc-set, take-all}
 use Rattle.numbers.proofs.FirstLaws.{Passed, none-at}
-use Rattle.nodes.specs.Load.{refused, nodeOf, firstRefused}
+use Rattle.nodes.specs.Load.{refusedFloat, nodeOf, firstRefused}
 use Rattle.nodes.specs.Plain.{Filled}
 
 -- one block further
@@ -20,9 +20,9 @@ pub passed-to : (p : ℕ → Bool) (n a e : ℕ) → Passed p n a → e ≤ n �
 passed-to p n a e s h f = record { bound = h; clear = λ k l. elim (decLt k a) [ yes m ↦ s .clear k m | no m ↦ f k (omega arith) l ] }
 
 -- where none is refused, this one isn't
-pub none-refused : (q : ℕ) (flag : Float) (l : List Float) (k : ℕ) → firstRefused q flag l ≡ length l → k < length l → refused q flag (getD l k nan) ≡ false
+pub none-refused : (q : ℕ) (flag : Float) (l : List Float) (k : ℕ) → firstRefused q flag l ≡ length l → k < length l → refusedFloat q flag (getD l k nan) ≡ false
 unfolding firstRefused
-none-refused q flag l k e h = none-at (λ i. refused q flag (getD l i nan)) (length l) k (le-of-eq (sym e)) h
+none-refused q flag l k e h = none-at (λ i. refusedFloat q flag (getD l i nan)) (length l) k (le-of-eq (sym e)) h
 
 module _ (q : ℕ) (flag : Float) (l : List Float) where
   pub filled-none : (d : List ℤ) → length l ≡ length d → Filled q flag l 0 d

@@ -14,7 +14,7 @@ use Rattle.numbers.proofs.Lists.{map-at}
 use Rattle.group.specs.Numbers.{quantumMost, valueMost}
 use Rattle.group.proofs.RefusalLaws.{passed-if, passed-first, lent-new, lent-kept}
 use Rattle.nodes.specs.declared.Loaded.the-variants.{Done, Refused}
-use Rattle.nodes.specs.Load.{marks, steps, refused, nodeOf, loaded, loadedRefusal, nodesAfter}
+use Rattle.nodes.specs.Load.{marks, steps, refusedFloat, nodeOf, loaded, loadedRefusal, nodesAfter}
 use Rattle.nodes.specs.Size.{sizeOf}
 use Rattle.nodes.specs.Demand2.{IsNode, NodesLoaded}
 use Rattle.nodes.proofs.Fields.{sign}
@@ -27,7 +27,7 @@ stepped : (q : ℕ) (flag x : Float) → marks flag x ≡ false → nodeOf q fla
 unfolding nodeOf
 stepped q flag x h = rw h refl
 
-pub is-node : (q : ℕ) (flag x : Float) → refused q flag x ≡ false → IsNode q flag x (nodeOf q flag x)
+pub is-node : (q : ℕ) (flag x : Float) → refusedFloat q flag x ≡ false → IsNode q flag x (nodeOf q flag x)
 is-node q flag x r =
     record {
       marked = marked-node q flag x;
@@ -41,12 +41,12 @@ is-node q flag x r =
 module _ (q : ℕ) (flag : Float) (floats : List Float) (nodes : List ℤ) where
   -- an accepted loading: equal lengths, and no float is refused
   passed : loaded q flag floats (length nodes) ≡ Done
-      → (length floats ≡ length nodes) × (some (λ i. refused q flag (getD floats i nan)) (length floats) ≡ false)
+      → (length floats ≡ length nodes) × (some (λ i. refusedFloat q flag (getD floats i nan)) (length floats) ≡ false)
   unfolding loaded
   passed e =
       let a = passed-if Refused Done not-done (ltb quantumMost q) 2 0 _ e in
       let b = passed-if Refused Done not-done (not (eqb (length floats) (length nodes))) 12 0 _ (a .1) in
-      let c = passed-first Refused Done not-done (λ i. refused q flag (getD floats i nan)) (length floats) 11 1 Done (b .1) in
+      let c = passed-first Refused Done not-done (λ i. refusedFloat q flag (getD floats i nan)) (length floats) 11 1 Done (b .1) in
       (eqb-true (length floats) (length nodes) (not-false _ (b .0)), c .0)
 
   module _ (z : loadedRefusal (loaded q flag floats (length nodes)) .number ≡ 0) where
@@ -62,7 +62,7 @@ module _ (q : ℕ) (flag : Float) (floats : List Float) (nodes : List ℤ) where
         subst (IsNode q flag (getD floats i nan))
         (sym (ap (λ (ns : List ℤ). getD ns i (pos 0)) mapped ∙ map-at (nodeOf q flag) nan (pos 0) floats i l))
         (is-node q flag (getD floats i nan)
-        (none-at (λ k. refused q flag (getD floats k nan)) (length floats) i (ltb-false _ (length floats) (passed done .1)) l))
+        (none-at (λ k. refusedFloat q flag (getD floats k nan)) (length floats) i (ltb-false _ (length floats) (passed done .1)) l))
 
 pub nodes-loaded : (q : ℕ) (flag : Float) (floats : List Float) (nodes : List ℤ)
     → NodesLoaded q flag floats nodes (loaded q flag floats (length nodes)) (nodesAfter q flag floats nodes)

@@ -11,7 +11,7 @@ use lib.Ieee.{Float, binary32, isNan, fits, ofFields, ofBits, toBits}
 use Rattle.numbers.specs.Round.{gain, nearest}
 use Rattle.numbers.proofs.Nearest.{gain-0, gain-1, gain-tie, nearest-parts, nearest-same, nearest-small, three-ways}
 use Rattle.group.specs.Numbers.{quantumMost, valueMost}
-use Rattle.nodes.specs.Load.{signed, marks, refused, nodeOf}
+use Rattle.nodes.specs.Load.{signed, marks, refusedFloat, nodeOf}
 use Rattle.nodes.specs.Size.{sizeOf}
 use Rattle.nodes.proofs.Marks.{Read, unmarked}
 use Rattle.nodes.proofs.ScaledLaws.{large, quotient, small}
@@ -113,7 +113,7 @@ pub record ByBits (q : ℕ) (flag x : Float) : Type 0 where
   pub small : sizeOf q (ofBits binary32 (toBits binary32 x)) ≤ valueMost
   pub node : signed (leb 2147483648 (toBits binary32 x)) (sizeOf q (ofBits binary32 (toBits binary32 x))) ≡ nodeOf q flag x
 
-pub by-bits : (q : ℕ) (flag x : Float) → fits binary32 x ≡ true → marks flag x ≡ false → refused q flag x ≡ false → ByBits q flag x
+pub by-bits : (q : ℕ) (flag x : Float) → fits binary32 x ≡ true → marks flag x ≡ false → refusedFloat q flag x ≡ false → ByBits q flag x
 by-bits q flag x f m r =
     let d = unmarked flag x f m in
     let b = toBits binary32 x in

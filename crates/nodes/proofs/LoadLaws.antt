@@ -19,7 +19,7 @@ use Rattle.group.specs.Numbers.{mark}
 use Rattle.nodes.specs.declared.Loaded.{Loaded}
 use Rattle.nodes.specs.declared.Loaded.the-variants.{Done, Refused}
 use Rattle.group.specs.Refusals.{refusal, refuseIf, refuseFirst, lentAfter}
-use Rattle.nodes.specs.Load.{signed, marks, steps, refused, nodeOf, loaded, nodesAfter}
+use Rattle.nodes.specs.Load.{signed, marks, steps, refusedFloat, nodeOf, loaded, nodesAfter}
 use Rattle.nodes.specs.Size.{sizeOf}
 use Rattle.nodes.proofs.Fields.{value-nearest, sign}
 use Rattle.nodes.proofs.Signed.{round-signed, size-signed}
@@ -38,7 +38,7 @@ pub marked-node : (q : ℕ) (flag x : Float) → marks flag x ≡ true → nodeO
 unfolding nodeOf
 marked-node q flag x h = rw h
 
-pub only-marked : (q : ℕ) (flag x : Float) → refused q flag x ≡ false → nodeOf q flag x ≡ mark → marks flag x ≡ true
+pub only-marked : (q : ℕ) (flag x : Float) → refusedFloat q flag x ≡ false → nodeOf q flag x ≡ mark → marks flag x ≡ true
 only-marked q flag x r e = go (marks flag x) refl
   where
     go : (b : Bool) → marks flag x ≡ b → marks flag x ≡ true
@@ -101,5 +101,5 @@ worked c =
     record { quantum = c .quantum; flag = c .flag; bits = c .bits; answer = loaded (c .quantum) flag floats 1; node = getD (nodesAfter (c .quantum) flag floats (pos 7 ∷ [])) 0 (pos 0) }
 
 pub cases : map worked table ≡ table
-unfolding table loaded nodesAfter refuseIf refuseFirst lentAfter first refused nodeOf steps marks roundZ nearest gain ofBits toBits isNan
+unfolding table loaded nodesAfter refuseIf refuseFirst lentAfter first refusedFloat nodeOf steps marks roundZ nearest gain ofBits toBits isNan
 cases = refl

@@ -18,7 +18,7 @@ use Rattle.numbers.proofs.Bools.{and-left, and-right, or-none, true-false, untr
 use Rattle.numbers.proofs.Nearest.{nearest-near, three-ways}
 use Rattle.numbers.proofs.OrderLaws.{within-test}
 use Rattle.group.specs.Numbers.{quantumMost, valueMost}
-use Rattle.nodes.specs.Load.{infinite, marks, steps, refused}
+use Rattle.nodes.specs.Load.{infinite, marks, steps, refusedFloat}
 use Rattle.nodes.specs.Plain.{greatestBits, greatest, plainFloat}
 use Rattle.nodes.proofs.Signed.{size-rounded}
 use Rattle.nodes.proofs.Marks.{ne-nan}
@@ -114,12 +114,12 @@ plain-bounded q flag x h p =
     under q (16000002 * 2 ^ (147 - q)) (2 ^ 149) (pow-pos 149) (greatest-half q h) (greatest q) x (greatest-value q h) (and-left _ (ne x flag) p)
 
 -- a plain float is not refused, marked or not
-pub plain-passes : (q : ℕ) (flag x : Float) → q ≤ quantumMost → plainFloat (greatest q) flag x ≡ true → refused q flag x ≡ false
-unfolding refused
+pub plain-passes : (q : ℕ) (flag x : Float) → q ≤ quantumMost → plainFloat (greatest q) flag x ≡ true → refusedFloat q flag x ≡ false
+unfolding refusedFloat
 plain-passes q flag x h p =
     let b = plain-bounded q flag x h p in
     let v = within-test valueMost (steps q x) ∙ le-leb (natAbs (steps q x)) valueMost (b .size) in
-    untrue (refused q flag x) (λ t. true-false (and-right (not (marks flag x)) _ t) (or-none (b .finite) (ap not v)))
+    untrue (refusedFloat q flag x) (λ t. true-false (and-right (not (marks flag x)) _ t) (or-none (b .finite) (ap not v)))
 
 -- and not marked
 pub plain-unmarked : (q : ℕ) (flag x : Float) → q ≤ quantumMost → fits binary32 x ≡ true → fits binary32 flag ≡ true → plainFloat (greatest q) flag x ≡ true → marks flag x ≡ false

@@ -11,7 +11,7 @@ use borrow.Author.Tests.{lt-ltb, le-ltb, le-leb, lt-leb, ltb-false}
 use Rattle.numbers.proofs.Nearest.{three-ways}
 use Rattle.numbers.proofs.OrderLaws.{within-test}
 use Rattle.group.specs.Numbers.{valueMost}
-use Rattle.nodes.specs.Load.{signed, marks, steps, refused, nodeOf}
+use Rattle.nodes.specs.Load.{signed, marks, steps, refusedFloat, nodeOf}
 use Rattle.nodes.specs.Size.{sizeOf}
 use Rattle.nodes.proofs.Signed.{round-signed, size-rounded}
 use Rattle.nodes.proofs.Fields.{sign}
@@ -31,17 +31,17 @@ uncut n l = three-ways n (2 ^ 31) (λ h. min-eq-left (omega arith)) (λ h. min-e
     (λ h. let m : 2 ^ 31 ≤ min n (2 ^ 31) = le-min (omega arith) (omega arith) in absurd (omega arith))
 
 -- what is not marked is refused by its size
-pub refused-size : (q : ℕ) (flag x : Float) → marks flag x ≡ false → ltb valueMost (sizeOf q x) ≡ refused q flag x
-unfolding refused sizeOf marks isNan
+pub refused-size : (q : ℕ) (flag x : Float) → marks flag x ≡ false → ltb valueMost (sizeOf q x) ≡ refusedFloat q flag x
+unfolding refusedFloat sizeOf marks isNan
 refused-size q flag nan h = absurd (subst T h tt)
 refused-size q flag (inf s) h = rw h
 refused-size q flag (fin s m e) h = cut (natAbs (steps q (fin s m e))) ∙ rw (h, within-test valueMost)
 
-pub size-limit : (q : ℕ) (flag x : Float) → marks flag x ≡ false → refused q flag x ≡ false → sizeOf q x ≤ valueMost
+pub size-limit : (q : ℕ) (flag x : Float) → marks flag x ≡ false → refusedFloat q flag x ≡ false → sizeOf q x ≤ valueMost
 size-limit q flag x h r = ltb-false valueMost (sizeOf q x) (refused-size q flag x h ∙ r)
 
 -- and otherwise loads as its sign and its size
-pub node-size : (q : ℕ) (flag x : Float) → marks flag x ≡ false → refused q flag x ≡ false → signed (sign x) (sizeOf q x) ≡ nodeOf q flag x
+pub node-size : (q : ℕ) (flag x : Float) → marks flag x ≡ false → refusedFloat q flag x ≡ false → signed (sign x) (sizeOf q x) ≡ nodeOf q flag x
 unfolding nodeOf steps sizeOf marks isNan
 node-size q flag x h r = go x h (size-limit q flag x h r)
   where

@@ -35,8 +35,8 @@ infinite (inf s) = true
 infinite (fin s m e) = false
 
 -- refusal 11: not loaded as the mark, and infinite or rounded beyond the limit of node values
-unfoldable pub refused : ℕ → Float → Float → Bool
-refused q flag x = not (marks flag x) && (infinite x || not (valueFits (steps q x)))
+unfoldable pub refusedFloat : ℕ → Float → Float → Bool
+refusedFloat q flag x = not (marks flag x) && (infinite x || not (valueFits (steps q x)))
 
 -- the node of a float that is not refused
 unfoldable pub nodeOf : ℕ → Float → Float → ℤ
@@ -44,14 +44,14 @@ nodeOf q flag x = cond (marks flag x) mark (steps q x)
 
 -- the index of the first float that is refused, and the count where none is
 unfoldable pub firstRefused : ℕ → Float → List Float → ℕ
-firstRefused q flag floats = first (λ i. refused q flag (getD floats i nan)) (length floats)
+firstRefused q flag floats = first (λ i. refusedFloat q flag (getD floats i nan)) (length floats)
 
 -- what loading answers where n nodes are lent: Q by 2, then 12, then 11 at the first position, from 1
 unfoldable pub loaded : ℕ → Float → List Float → ℕ → Loaded
 loaded q flag floats n =
     refuseIf Refused (ltb quantumMost q) 2 0
     (refuseIf Refused (not (eqb (length floats) n)) 12 0
-    (refuseFirst Refused (λ i. refused q flag (getD floats i nan)) (length floats) 11 1
+    (refuseFirst Refused (λ i. refusedFloat q flag (getD floats i nan)) (length floats) 11 1
     Done))
 
 -- what loading refuses

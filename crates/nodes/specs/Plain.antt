@@ -6,7 +6,7 @@ use mathlib.Core.List.{List, map}
 use lib.IntN.{ℤ}
 use lib.ListN.{length, take, getD}
 use lib.Ieee.{Float, nan, binary32, ofBits, le, ne, neg}
-use Rattle.nodes.specs.Load.{refused, nodeOf}
+use Rattle.nodes.specs.Load.{refusedFloat, nodeOf}
 
 -- the bits of the greatest float that is no more than the limit of node values when rounded: 4,000,000.5
 abbrev pub greatestBits : ℕ
@@ -28,8 +28,8 @@ AllPlain hi flag floats a e = (k : ℕ) → a ≤ k → k < e → plainFloat hi 
 pub record FirstFrom (q : ℕ) (flag : Float) (floats : List Float) (a e k : ℕ) : Type 0 where
   pub from : a ≤ k
   pub to : k ≤ e
-  pub clear : (j : ℕ) → a ≤ j → j < k → refused q flag (getD floats j nan) ≡ false
-  pub found : k < e → refused q flag (getD floats k nan) ≡ true
+  pub clear : (j : ℕ) → a ≤ j → j < k → refusedFloat q flag (getD floats j nan) ≡ false
+  pub found : k < e → refusedFloat q flag (getD floats k nan) ≡ true
 
 -- there are as many nodes as floats, and the first k are those of the first k floats
 pub record Filled (q : ℕ) (flag : Float) (floats : List Float) (k : ℕ) (nodes : List ℤ) : Type 0 where

@@ -8,7 +8,7 @@ ghost use lib.Ieee.{binary32, ofBits, isNan};
 ghost use lib.ListN.{length};
 ghost use Rattle.numbers.specs.Round.{nearest};
 ghost use Rattle.group.specs.Numbers.{quantumMost, valueMost};
-ghost use Rattle.nodes.specs.Load.{signed, marks, refused, nodeOf, firstRefused, loaded, nodesAfter};
+ghost use Rattle.nodes.specs.Load.{signed, marks, refusedFloat, nodeOf, firstRefused, loaded, nodesAfter};
 ghost use Rattle.nodes.specs.Size.{sizeOf};
 ghost use Rattle.nodes.specs.Plain.{greatest, AllPlain, FirstFrom, Filled};
 
@@ -16,7 +16,7 @@ ghost use Rattle.nodes.specs.Plain.{greatest, AllPlain, FirstFrom, Fille
 const LIMIT: u64 = group::VALUE_MOST as u64;
 
 // The size of an infinity, and of all from 2^31 on.
-const BEYOND: u64 = 2147483648;
+const SIZE_MOST: u64 = 2147483648;
 
 // The bit of a float's sign.
 const SIGN: u64 = 2147483648;
@@ -46,13 +46,13 @@ fn marked(x: f32, flag: f32) -> bool
     f32::to_bits(x) == f32::to_bits(flag)
 }
 
-// digits · 2^up / 2^149 to the nearest whole number, a tie to the even one, but no more than BEYOND.
+// digits · 2^up / 2^149 to the nearest whole number, a tie to the even one, but no more than SIZE_MOST.
 fn scaled(digits: u64, up: u64) -> u64
     requires { ⌜ (digits < 2 ^ 24) × (149 ≤ up → 2 ^ 23 ≤ digits) ⌝ }
     ensures { λ r. ⌜ r ≡ min (nearest (digits * 2 ^ up) (2 ^ 149)) (2 ^ 31) ⌝ }
 {
     if 157 <= up {
-        return BEYOND;
+        return SIZE_MOST;
     }
     if 149 <= up {
         return digits << (up - 149);
@@ -64,7 +64,7 @@ fn scaled(digits: u64, up: u64) -> u64
     numbers::nearest_shifted(digits, down)
 }
 
-// The size, in steps of 2^-q, of the float with the bits b, rounded, but no more than BEYOND.
+// The size, in steps of 2^-q, of the float with the bits b, rounded, but no more than SIZE_MOST.
 fn size(b: u64, q: u64) -> u64
     requires { ⌜ (q ≤ quantumMost) × T (not (isNan (ofBits binary32 b))) ⌝ }
     ensures { λ r. ⌜ r ≡ sizeOf q (ofBits binary32 b) ⌝ }
@@ -72,7 +72,7 @@ fn size(b: u64, q: u64) -> u64
     let field = b % SIGN / 8388608;
     let digits = b % 8388608;
     if field == 255 {
-        return BEYOND;
+        return SIZE_MOST;
     }
     if field == 0 {
         return scaled(digits, q);
@@ -91,7 +91,7 @@ fn with_sign(below: bool, n: u64) -> i32
 // Whether x is refused: no mark, and infinite or rounded beyond the limit.
 fn refuses(x: f32, flag: f32, q: u64) -> bool
     requires { ⌜ q ≤ quantumMost ⌝ }
-    ensures { λ r. ⌜ r ≡ refused q flag x ⌝ }
+    ensures { λ r. ⌜ r ≡ refusedFloat q flag x ⌝ }
 {
     if marked(x, flag) {
         return false;
@@ -129,7 +129,7 @@ fn bits_node(b: u32, q: u32) -> i32
 
 // The node of a float that isn't refused, in steps.
 fn node(x: f32, flag: f32, q: u32) -> i32
-    requires { ⌜ (q ≤ quantumMost) × (refused q flag x ≡ false) ⌝ }
+    requires { ⌜ (q ≤ quantumMost) × (refusedFloat q flag x ≡ false) ⌝ }
     ensures { λ r. ⌜ r ≡ nodeOf q flag x ⌝ }
 {
     if marked(x, flag) {

@@ -12,19 +12,19 @@ use lib.Dec.{leb}
 use Rattle.numbers.specs.First.{some}
 use Rattle.numbers.proofs.FirstLaws.{some-by, by-some}
 use Rattle.numbers.proofs.Bools.{and-left, and-right, both, true-false, untrue}
-use Rattle.choice.specs.Rect.{westOf, eastOf, southOf, northOf, holds}
-use Rattle.choice.proofs.RectLaws.{Holds, holds-true, true-holds}
+use Rattle.choice.specs.Rect.{westOf, eastOf, southOf, northOf, rectHolds}
+use Rattle.choice.proofs.RectLaws.{RectHolds, rect-holds-true, true-rect-holds}
 use Rattle.region.specs.Free.{rectCount, free, reaches}
 
 module _ (rs : List ℕ) (x y : ℕ) where
-  pub free-is : ((i : ℕ) → i < rectCount rs → holds rs i x y ≡ false) → free rs x y ≡ true
+  pub free-is : ((i : ℕ) → i < rectCount rs → rectHolds rs i x y ≡ false) → free rs x y ≡ true
   unfolding free
   free-is h =
-      rw (untrue (some (λ i. holds rs i x y) (rectCount rs)) (λ e. let r = by-some (λ i. holds rs i x y) (rectCount rs) e in true-false (r .2) (h (r .0) (r .1)))) refl
+      rw (untrue (some (λ i. rectHolds rs i x y) (rectCount rs)) (λ e. let r = by-some (λ i. rectHolds rs i x y) (rectCount rs) e in true-false (r .2) (h (r .0) (r .1)))) refl
 
-  pub unfree-by : (i : ℕ) → i < rectCount rs → Holds rs i x y → free rs x y ≡ false
+  pub unfree-by : (i : ℕ) → i < rectCount rs → RectHolds rs i x y → free rs x y ≡ false
   unfolding free
-  unfree-by i l h = rw (some-by (λ i. holds rs i x y) (rectCount rs) i l (holds-true rs i x y h)) refl
+  unfree-by i l h = rw (some-by (λ i. rectHolds rs i x y) (rectCount rs) i l (rect-holds-true rs i x y h)) refl
 
 -- blockers hold all of the rows from y to top, from west up to below x
 abbrev pub Shut-to : List ℕ → ℕ → ℕ → ℕ → ℕ → Type 0
@@ -32,7 +32,7 @@ Shut-to rs west y x top = (k j : ℕ) → west ≤ k → k < x → y ≤ j → j
 
 module _ (rs : List ℕ) (i x y : ℕ) where
   -- a rectangle that reaches x in row y holds it unless it begins farther east
-  reaching : reaches rs i x y ≡ true → westOf rs i ≤ x → Holds rs i x y
+  reaching : reaches rs i x y ≡ true → westOf rs i ≤ x → RectHolds rs i x y
   unfolding reaches
   reaching e w =
       let lats = leb (southOf rs i) y && leb y (northOf rs i) in
@@ -44,11 +44,11 @@ module _ (rs : List ℕ) (i x y : ℕ) where
         ≤north = leb-true _ _ (and-right (leb (southOf rs i) y) (leb y (northOf rs i)) b);
       }
 
-  unreached : reaches rs i x y ≡ false → holds rs i x y ≡ false
+  unreached : reaches rs i x y ≡ false → rectHolds rs i x y ≡ false
   unfolding reaches
   unreached e =
-      untrue (holds rs i x y)
-      (λ t. let h = true-holds rs i x y t in true-false (both (le-leb _ _ (h .≤east)) (both (le-leb _ _ (h .south≤)) (le-leb _ _ (h .≤north)))) e)
+      untrue (rectHolds rs i x y)
+      (λ t. let h = true-rect-holds rs i x y t in true-false (both (le-leb _ _ (h .≤east)) (both (le-leb _ _ (h .south≤)) (le-leb _ _ (h .≤north)))) e)
 
   -- and so farther east
   unreached-on : (u : ℕ) → x ≤ u → reaches rs i x y ≡ false → reaches rs i u y ≡ false
@@ -81,7 +81,7 @@ module _ (rs : List ℕ) (i x y : ℕ) where
 
 -- none of the first i rectangles holds (x, y), and unless one lies ahead none reaches it
 pub record Walked (rs : List ℕ) (x y i : ℕ) (ahead : Bool) : Type 0 where
-  pub past : (k : ℕ) → k < i → holds rs k x y ≡ false
+  pub past : (k : ℕ) → k < i → rectHolds rs k x y ≡ false
   pub clear : ahead ≡ false → (k : ℕ) → k < i → reaches rs k x y ≡ false
 
 pub walked-none : (rs : List ℕ) (x y : ℕ) (ahead : Bool) → Walked rs x y 0 ahead
@@ -92,14 +92,14 @@ module _ (rs : List ℕ) (x y i : ℕ) (ahead : Bool) (w : Walked rs x y i ahead
   pub walked-by : reaches rs i x y ≡ false → Walked rs x y (i + 1) ahead
   walked-by e =
       record {
-        past = below-more (λ k. holds rs k x y ≡ false) i (w .past) (unreached rs i x y e);
+        past = below-more (λ k. rectHolds rs k x y ≡ false) i (w .past) (unreached rs i x y e);
         clear = λ f. below-more (λ k. reaches rs k x y ≡ false) i (w .clear f) e;
       }
 
   pub walked-ahead : x < westOf rs i → Walked rs x y (i + 1) true
   walked-ahead l =
       record {
-        past = below-more (λ k. holds rs k x y ≡ false) i (w .past) (untrue (holds rs i x y) (λ t. let h = true-holds rs i x y t .west≤ in omega arith));
+        past = below-more (λ k. rectHolds rs k x y ≡ false) i (w .past) (untrue (rectHolds rs i x y) (λ t. let h = true-rect-holds rs i x y t .west≤ in omega arith));
         clear = λ e. absurd (true-false refl e);
       }
 

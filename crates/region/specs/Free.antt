@@ -6,7 +6,7 @@ use Prim.Native.Nat.{ℕ, _/_, _≤_, _<_}
 use lib.Dec.{leb}
 use lib.ListN.{length}
 use Rattle.numbers.specs.First.{some}
-use Rattle.choice.specs.Rect.{eastOf, southOf, northOf, holds}
+use Rattle.choice.specs.Rect.{eastOf, southOf, northOf, rectHolds}
 use Rattle.region.specs.declared.Row.{Row}
 use Rattle.region.specs.declared.Row.the-variants.{Open, Shut}
 
@@ -16,7 +16,7 @@ rectCount rs = length rs / 4
 
 -- no rectangle holds the point
 unfoldable pub free : List ℕ → ℕ → ℕ → Bool
-free rs x y = not (some (λ i. holds rs i x y) (rectCount rs))
+free rs x y = not (some (λ i. rectHolds rs i x y) (rectCount rs))
 
 -- rectangle i lies in row y and does not end west of x
 unfoldable pub reaches : List ℕ → ℕ → ℕ → ℕ → Bool

@@ -12,8 +12,8 @@ pub enum Spot {
     Nothing,
 }
 
-// An area: its sides, included.
-pub struct Area {
+// The bounds of a search, included.
+pub struct Bounds {
     pub west: u64,
     pub east: u64,
     pub south: u64,

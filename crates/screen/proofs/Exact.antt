@@ -16,7 +16,7 @@ use lib.Ieee.Scale.{round-same}
 use borrow.Author.Tests.{ne-eqb}
 use Rattle.group.specs.Numbers.{quantumMost}
 use Rattle.screen.specs.Screen.{plusZero, negPower, shiftOf}
-use Rattle.screen.specs.Shown.{below, Times}
+use Rattle.screen.specs.Shown.{belowZero, Times}
 
 -- a product and a quotient, by any fractions that the operands equal
 mul-at : (f : Format) (x y : Float) (s t : Bool) (a c b d : ℕ) → 0 < c → 0 < d → HasValue x s a c → HasValue y t b d → mul f x y ≡ round f (unlike s t) (a * b) (c * d)
@@ -94,12 +94,12 @@ like false = refl
 pub shift-exact : (n : ℤ) (q : ℕ) → natAbs n ≤ 2 ^ 53 → q ≤ quantumMost → Times (shiftOf q n) (2 ^ q) n
 unfolding shiftOf
 shift-exact n q h k =
-    subst (λ (x : Float). HasValue x (below n) (natAbs n) (2 ^ q))
-    (sym (mul-at binary64 (ofInt binary64 n) (negPower q) (below n) false (natAbs n) 1 1 (2 ^ q) (lit< tt) (pow-pos q) (cast-exact n h) (power-value q (omega arith))
-    ∙ ap (λ (s : Bool). round binary64 s (natAbs n * 1) (1 * 2 ^ q)) (like (below n))
-    ∙ ap (λ (a : ℕ). round binary64 (below n) a (1 * 2 ^ q)) (mul-one (natAbs n))
-    ∙ ap (round binary64 (below n) (natAbs n)) (one-mul (2 ^ q))))
-    (over (below n) (natAbs n) q h (omega arith))
+    subst (λ (x : Float). HasValue x (belowZero n) (natAbs n) (2 ^ q))
+    (sym (mul-at binary64 (ofInt binary64 n) (negPower q) (belowZero n) false (natAbs n) 1 1 (2 ^ q) (lit< tt) (pow-pos q) (cast-exact n h) (power-value q (omega arith))
+    ∙ ap (λ (s : Bool). round binary64 s (natAbs n * 1) (1 * 2 ^ q)) (like (belowZero n))
+    ∙ ap (λ (a : ℕ). round binary64 (belowZero n) a (1 * 2 ^ q)) (mul-one (natAbs n))
+    ∙ ap (round binary64 (belowZero n) (natAbs n)) (one-mul (2 ^ q))))
+    (over (belowZero n) (natAbs n) q h (omega arith))
 
 -- 0 is 0 over any divisor
 zero-over : (x : Float) (c : ℕ) → 0 < c → HasValue x false 0 c → HasValue x false 0 1

@@ -18,7 +18,7 @@ use Rattle.fix.specs.Answers.{resultIn}
 use Rattle.screen.specs.declared.ScreenAnswer.{ScreenAnswer}
 use Rattle.screen.specs.declared.ScreenAnswer.the-variants as S
 use Rattle.screen.specs.Screen.{plusZero, shownShift, degreesOf, admitted, shown, answerOf, screenRefusal, recordOf}
-use Rattle.screen.specs.Shown.{below, Times, nearestTo, shiftAt, ShowsResults, ShowsPoint}
+use Rattle.screen.specs.Shown.{belowZero, Times, nearestTo, shiftAt, ShowsResults, ShowsPoint}
 use Rattle.screen.proofs.Exact.{div-at, cast-exact, like, shift-exact}
 use Rattle.screen.proofs.TableLaws.{answer-told}
 
@@ -65,10 +65,10 @@ shown-exactly f q np k l m h =
 pub degrees-rounded : (mas : ℤ) → natAbs mas ≤ 2 ^ 53 → degreesOf mas ≡ nearestTo mas 3600000
 unfolding degreesOf
 degrees-rounded mas h =
-    div-at binary64 (ofInt binary64 mas) (ofInt binary64 (pos 3600000)) (below mas) false (natAbs mas) 1 3600000 1 (lit< tt) (lit< tt) (lit< tt)
+    div-at binary64 (ofInt binary64 mas) (ofInt binary64 (pos 3600000)) (belowZero mas) false (natAbs mas) 1 3600000 1 (lit< tt) (lit< tt) (lit< tt)
     (cast-exact mas h) (cast-exact (pos 3600000) (lit≤ tt))
-    ∙ ap (λ (s : Bool). round binary64 s (natAbs mas * 1) 3600000) (like (below mas))
-    ∙ ap (λ (a : ℕ). round binary64 (below mas) a 3600000) (mul-one (natAbs mas))
+    ∙ ap (λ (s : Bool). round binary64 s (natAbs mas * 1) 3600000) (like (belowZero mas))
+    ∙ ap (λ (a : ℕ). round binary64 (belowZero mas) a 3600000) (mul-one (natAbs mas))
 
 -- the record of an answer that is no refusal
 pub record-shown : (point : Point) (found : Lookup) (q np : ℕ) → screenRefusal (answerOf found q np) .number ≡ 0

@@ -14,17 +14,17 @@ use Rattle.screen.specs.declared.ScreenRecord.{ScreenRecord}
 use Rattle.screen.specs.Screen.{plusZero, screenRefusal, shiftsOf}
 
 -- whether a number is below zero
-abbrev pub below : ℤ → Bool
-below (pos n) = false
-below (negsuc n) = true
+abbrev pub belowZero : ℤ → Bool
+belowZero (pos n) = false
+belowZero (negsuc n) = true
 
 -- x, as an exact number, times d is the whole number n: it has n's sign, +0 for 0
 abbrev pub Times : Float → ℕ → ℤ → Type 0
-Times x d n = HasValue x (below n) (natAbs n) d
+Times x d n = HasValue x (belowZero n) (natAbs n) d
 
 -- the 64-bit float nearest to the exact quotient n / d, a tie to the even one: one rounding
 abbrev pub nearestTo : ℤ → ℕ → Float
-nearestTo n d = round binary64 (below n) (natAbs n) d
+nearestTo n d = round binary64 (belowZero n) (natAbs n) d
 
 -- shift p, from 0, of a screen answer
 abbrev pub shiftAt : ScreenAnswer → ℕ → Float

@@ -14,7 +14,7 @@ use borrow.Author.Tests.{eqb-true, eq-eqb, ne-eqb}
 use Rattle.numbers.proofs.Bools.{and-left, and-right, untrue}
 use Rattle.text.specs.Parts.{split, fieldOf}
 use Rattle.text.specs.Decimal.{readInt, intText}
-use Rattle.text.specs.Number.{most, clamp, numberOf}
+use Rattle.text.specs.Number.{numberMost, clamp, numberOf}
 use Rattle.text.specs.Fields.{same, both, readInts}
 use Rattle.text.specs.declared.Number.{Number}
 use Rattle.text.specs.declared.Number.the-variants.{Malformed, Whole}
@@ -88,7 +88,7 @@ pub whole : (o : Option ℤ) (y : ℤ) → numberOf o ≡ Whole y → (z : ℤ) 
 whole none y e = let q : _≡_ {A = ℕ} 0 1 = cc in absurd (omega arith)
 whole (some z) y e = (z, (refl, cc))
 
-pub clamp-id : (z : ℤ) → natAbs z ≤ most → clamp z ≡ z
+pub clamp-id : (z : ℤ) → natAbs z ≤ numberMost → clamp z ≡ z
 clamp-id (pos n) h = ap pos (omega arith)
 clamp-id (negsuc n) h = ap negsuc (omega arith)
 

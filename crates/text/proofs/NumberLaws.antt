@@ -12,20 +12,20 @@ use lib.Seq.{drop-cons}
 use borrow.Author.Tests.{eq-eqb, ne-eqb, le-leb, lt-leb}
 use Rattle.text.specs.Decimal.{isDigit, digitsFrom, readNat, readInt, above, below}
 use Rattle.text.specs.declared.Number.the-variants.{Malformed, Whole}
-use Rattle.text.specs.Number.{most, naturalOf, numberOf}
+use Rattle.text.specs.Number.{numberMost, naturalOf, numberOf}
 use Rattle.text.specs.declared.Natural.the-variants.{Bad, Value}
 use Rattle.text.proofs.DecimalLaws.{digit-yes}
 
 -- a number that is capped on the way is capped alike at the end
-pub capped : (t : List ℕ) (m : ℕ) → naturalOf (digitsFrom (min m most) t) ≡ naturalOf (digitsFrom m t)
+pub capped : (t : List ℕ) (m : ℕ) → naturalOf (digitsFrom (min m numberMost) t) ≡ naturalOf (digitsFrom m t)
 capped [] m = ap Value (omega arith)
-capped (d ∷ ds) m = go (isDigit d) (sym (capped ds (min m most * 10 + (d - 48))) ∙ ap (λ (k : ℕ). naturalOf (digitsFrom k ds)) e ∙ capped ds (m * 10 + (d - 48)))
+capped (d ∷ ds) m = go (isDigit d) (sym (capped ds (min m numberMost * 10 + (d - 48))) ∙ ap (λ (k : ℕ). naturalOf (digitsFrom k ds)) e ∙ capped ds (m * 10 + (d - 48)))
   where
-    e : min (min m most * 10 + (d - 48)) most ≡ min (m * 10 + (d - 48)) most
+    e : min (min m numberMost * 10 + (d - 48)) numberMost ≡ min (m * 10 + (d - 48)) numberMost
     e = omega arith
 
-    go : (b : Bool) → naturalOf (digitsFrom (min m most * 10 + (d - 48)) ds) ≡ naturalOf (digitsFrom (m * 10 + (d - 48)) ds)
-        → naturalOf (cond b (digitsFrom (min m most * 10 + (d - 48)) ds) none) ≡ naturalOf (cond b (digitsFrom (m * 10 + (d - 48)) ds) none)
+    go : (b : Bool) → naturalOf (digitsFrom (min m numberMost * 10 + (d - 48)) ds) ≡ naturalOf (digitsFrom (m * 10 + (d - 48)) ds)
+        → naturalOf (cond b (digitsFrom (min m numberMost * 10 + (d - 48)) ds) none) ≡ naturalOf (cond b (digitsFrom (m * 10 + (d - 48)) ds) none)
     go true h = h
     go false h = refl
 
@@ -36,12 +36,12 @@ module _ (s : List ℕ) (i : ℕ) where
   pub digits-high : (m : ℕ) → i < length s → 48 ≤ getD s i 0 → 57 < getD s i 0 → naturalOf (digitsFrom m (drop i s)) ≡ Bad
   digits-high m h l k = rw (drop-cons s i 0 h, le-leb 48 (getD s i 0) l, lt-leb (getD s i 0) 57 k)
 
-  pub digits-step : (m : ℕ) → i < length s → 48 ≤ getD s i 0 → getD s i 0 ≤ 57 → naturalOf (digitsFrom m (drop i s)) ≡ naturalOf (digitsFrom (min (m * 10 + (getD s i 0 - 48)) most) (drop (i + 1) s))
+  pub digits-step : (m : ℕ) → i < length s → 48 ≤ getD s i 0 → getD s i 0 ≤ 57 → naturalOf (digitsFrom m (drop i s)) ≡ naturalOf (digitsFrom (min (m * 10 + (getD s i 0 - 48)) numberMost) (drop (i + 1) s))
   digits-step m h l k =
       rw (drop-cons s i 0 h, digit-yes (getD s i 0) l k, add-one)
       (sym (capped (drop (suc i) s) (m * 10 + (getD s i 0 - 48))))
 
-  pub digits-end : (m : ℕ) → length s ≤ i → m ≤ most → naturalOf (digitsFrom m (drop i s)) ≡ Value m
+  pub digits-end : (m : ℕ) → length s ≤ i → m ≤ numberMost → naturalOf (digitsFrom m (drop i s)) ≡ Value m
   digits-end m h l = rw (drop-of-length-le s h) (ap Value (omega arith))
 
   pub nat-empty : length s ≤ i → readNat (drop i s) ≡ none
@@ -85,19 +85,19 @@ below-bad (some n) e = let z : _≡_ {A = ℕ} 0 1 = cc in absurd (omega arith)
 pub below-zero : (o : Option ℕ) (m : ℕ) → naturalOf o ≡ Value m → m ≡ 0 → numberOf (below o) ≡ Malformed
 below-zero none m e z = refl
 below-zero (some zero) m e z = refl
-below-zero (some (suc n)) m e z = let q : min (suc n) most ≡ m = cc in absurd (omega arith)
+below-zero (some (suc n)) m e z = let q : min (suc n) numberMost ≡ m = cc in absurd (omega arith)
 
-pub value-le : (o : Option ℕ) (m : ℕ) → naturalOf o ≡ Value m → m ≤ most
+pub value-le : (o : Option ℕ) (m : ℕ) → naturalOf o ≡ Value m → m ≤ numberMost
 value-le none m e = let q : _≡_ {A = ℕ} 0 1 = cc in absurd (omega arith)
-value-le (some n) m e = let q : min n most ≡ m = cc in omega arith
+value-le (some n) m e = let q : min n numberMost ≡ m = cc in omega arith
 
-neg-min : (n : ℕ) → negℤ (pos (min (suc n) most)) ≡ negsuc (min n (most - 1))
-neg-min n = let e : min (suc n) most ≡ suc (min n (most - 1)) = omega arith in rw e
+neg-min : (n : ℕ) → negℤ (pos (min (suc n) numberMost)) ≡ negsuc (min n (numberMost - 1))
+neg-min n = let e : min (suc n) numberMost ≡ suc (min n (numberMost - 1)) = omega arith in rw e
 
 pub below-some : (o : Option ℕ) (m : ℕ) → naturalOf o ≡ Value m → (m ≡ 0 → ⊥) → numberOf (below o) ≡ Whole (negℤ (pos m))
 below-some none m e z = let q : _≡_ {A = ℕ} 0 1 = cc in absurd (omega arith)
-below-some (some zero) m e z = let q : min 0 most ≡ m = cc in absurd (z (omega arith))
-below-some (some (suc n)) m e z = let q : min (suc n) most ≡ m = cc in ap Whole (sym (neg-min n) ∙ ap (λ (k : ℕ). negℤ (pos k)) q)
+below-some (some zero) m e z = let q : min 0 numberMost ≡ m = cc in absurd (z (omega arith))
+below-some (some (suc n)) m e z = let q : min (suc n) numberMost ≡ m = cc in ap Whole (sym (neg-min n) ∙ ap (λ (k : ℕ). negℤ (pos k)) q)
 
 pub above-bad : (o : Option ℕ) → naturalOf o ≡ Bad → numberOf (above o) ≡ Malformed
 above-bad none e = refl
@@ -105,4 +105,4 @@ above-bad (some n) e = let z : _≡_ {A = ℕ} 0 1 = cc in absurd (omega arith)
 
 pub above-some : (o : Option ℕ) (m : ℕ) → naturalOf o ≡ Value m → numberOf (above o) ≡ Whole (pos m)
 above-some none m e = let q : _≡_ {A = ℕ} 0 1 = cc in absurd (omega arith)
-above-some (some n) m e = let q : min n most ≡ m = cc in ap (λ (k : ℕ). Whole (pos k)) q
+above-some (some n) m e = let q : min n numberMost ≡ m = cc in ap (λ (k : ℕ). Whole (pos k)) q

@@ -7,7 +7,7 @@ ghost use lib.IntN.{pos, negℤ};
 ghost use lib.ListN.{length, drop};
 ghost use Rattle.text.specs.Parts.{behind, split, upTo, startOf, Lacks, fieldOf};
 ghost use Rattle.text.specs.Decimal.{digitsFrom, readNat, readInt, decimal, intText};
-ghost use Rattle.text.specs.Number.{most, naturalOf, numberOf};
+ghost use Rattle.text.specs.Number.{numberMost, naturalOf, numberOf};
 ghost use Rattle.text.specs.Fields.{same};
 ghost use Rattle.text.specs.Put.{Wrote};
 
@@ -149,27 +149,27 @@ pub fn field(line: &[u8], number: usize) -> &[u8]
 }
 
 // Sizes are told apart up to here, which is beyond every limit.
-const MOST: u64 = 1000000000000000000;
+const NUMBER_MOST: u64 = 1000000000000000000;
 
-// A field as a number; MOST and -MOST stand for all that is beyond them.
+// A field as a number; NUMBER_MOST and -NUMBER_MOST stand for all that is beyond them.
 pub enum Number {
     Malformed,
     Whole(i64),
 }
 
-// Digits as a number; MOST stands for all that is beyond it.
+// Digits as a number; NUMBER_MOST stands for all that is beyond it.
 enum Natural {
     Bad,
     Value(u64),
 }
 
-// The number m with the digit b behind it, or MOST.
+// The number m with the digit b behind it, or NUMBER_MOST.
 fn push_digit(m: u64, b: u8) -> u64
-    requires { ⌜ (m ≤ most) × ((48 ≤ b) × (b ≤ 57)) ⌝ }
-    ensures { λ r. ⌜ r ≡ min (m * 10 + (b - 48)) most ⌝ }
+    requires { ⌜ (m ≤ numberMost) × ((48 ≤ b) × (b ≤ 57)) ⌝ }
+    ensures { λ r. ⌜ r ≡ min (m * 10 + (b - 48)) numberMost ⌝ }
 {
     let n = m * 10 + (b - 48) as u64;
-    if n < MOST { n } else { MOST }
+    if n < NUMBER_MOST { n } else { NUMBER_MOST }
 }
 
 // The digits from a to the end.
@@ -212,7 +212,7 @@ fn read_natural(s: &[u8], a: usize) -> Natural
 
 // m as a signed number.
 fn plus(m: u64) -> i64
-    requires { ⌜ m ≤ most ⌝ }
+    requires { ⌜ m ≤ numberMost ⌝ }
     ensures { λ r. ⌜ r ≡ pos m ⌝ }
 {
     m as i64
@@ -220,7 +220,7 @@ fn plus(m: u64) -> i64
 
 // -m.
 fn minus(m: u64) -> i64
-    requires { ⌜ m ≤ most ⌝ }
+    requires { ⌜ m ≤ numberMost ⌝ }
     ensures { λ r. ⌜ r ≡ negℤ (pos m) ⌝ }
 {
     let z = plus(m);

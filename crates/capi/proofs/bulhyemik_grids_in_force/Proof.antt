@@ -5,8 +5,8 @@ use borrow.Author.Needs.{needs}
 use Rattle.capi.proofs.bulhyemik_grids_in_force.Statement.{statement}
 use Rattle.capi.proofs.bulhyemik_grids_in_force.Tie as tie
 
-group-of-requires : tie.Need-group-of-requires
-group-of-requires c κs = search needs
+group-of-words-requires : tie.Need-group-of-words-requires
+group-of-words-requires c κs = search needs
 
 grids-in-force-requires : tie.Need-grids-in-force-requires
 grids-in-force-requires c κs = search needs
@@ -21,13 +21,13 @@ returns : tie.Need-returns
 returns c =
     let start = c .before .before .before .before in
     let s = start .args in
-    in-force-told (s .group .now) _ (c .before .before .before .group-of .ensures) (s .west) (s .east) (s .south) (s .north) _ _ _ _ _ _ _ (toZ-ofZ (start .fits .west)) (toZ-ofZ (start .fits .east)) (toZ-ofZ (start .fits .south)) (toZ-ofZ (start .fits .north)) (c .before .before .grids-in-force .ensures) (c .verdict-refusal .ensures) (c .before .list-numbers .ensures)
+    in-force-told (s .group .now) _ (c .before .before .before .group-of-words .ensures) (s .west) (s .east) (s .south) (s .north) _ _ _ _ _ _ _ (toZ-ofZ (start .fits .west)) (toZ-ofZ (start .fits .east)) (toZ-ofZ (start .fits .south)) (toZ-ofZ (start .fits .north)) (c .before .before .grids-in-force .ensures) (c .verdict-refusal .ensures) (c .before .list-numbers .ensures)
 
 pub bulhyemik-grids-in-force-spec : {M : Type 1} → statement M
 bulhyemik-grids-in-force-spec =
     tie.close
     (tie.spec
-    group-of-requires
+    group-of-words-requires
     grids-in-force-requires
     list-numbers-requires
     verdict-refusal-requires

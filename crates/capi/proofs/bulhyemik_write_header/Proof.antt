@@ -4,8 +4,8 @@ use borrow.Author.Needs.{needs}
 use Rattle.capi.proofs.bulhyemik_write_header.Statement.{statement}
 use Rattle.capi.proofs.bulhyemik_write_header.Tie as tie
 
-group-of-requires : tie.Need-group-of-requires
-group-of-requires c κs = search needs
+group-of-words-requires : tie.Need-group-of-words-requires
+group-of-words-requires c κs = search needs
 
 write-header-requires : tie.Need-write-header-requires
 write-header-requires c κs = search needs
@@ -23,13 +23,13 @@ returns : tie.Need-returns
 returns c =
     let s = c .before .before .before .before .before .before .before .before .args in
     let w = c .before .before .before .before .write-header .ensures in
-    write-told (s .group .now) _ (c .before .before .before .before .before .before .group-of .ensures) (s .out .now) _ _ _ _ (w .0) (w .1) (c .before .written-refusal .ensures) (c .written-count .ensures)
+    write-told (s .group .now) _ (c .before .before .before .before .before .before .group-of-words .ensures) (s .out .now) _ _ _ _ (w .0) (w .1) (c .before .written-refusal .ensures) (c .written-count .ensures)
 
 pub bulhyemik-write-header-spec : {M : Type 1} → statement M
 bulhyemik-write-header-spec =
     tie.close
     (tie.spec
-    group-of-requires
+    group-of-words-requires
     write-header-requires
     written-refusal-requires
     written-count-requires

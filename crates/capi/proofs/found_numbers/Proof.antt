@@ -1,7 +1,7 @@
 -- `found_numbers` meets its contract.
 use mathlib.Core.Path.{refl, sym, ap, _∙_}
 use mathlib.Core.List.{[], _∷_}
-use Rattle.layout.proofs.NumberLaws.{told}
+use Rattle.abi.proofs.NumberLaws.{told}
 use Rattle.capi.specs.Answers.{storedFound}
 use borrow.Author.Needs.{needs}
 use Rattle.capi.proofs.found_numbers.Statement.{statement}

@@ -1,5 +1,5 @@
 -- `lookup_of` meets its contract.
-use Rattle.layout.proofs.NumberLaws.{told}
+use Rattle.abi.proofs.NumberLaws.{told}
 use Rattle.capi.proofs.AnswerLaws.{lookup-fix, lookup-refused}
 use borrow.Author.Needs.{needs}
 use Rattle.capi.proofs.lookup_of.Statement.{statement}

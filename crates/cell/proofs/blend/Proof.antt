@@ -1,4 +1,4 @@
--- `blend` meets its contract: the sum is at most the greatest shifted value times the area.
+-- `blend` meets its contract: the sum is at most the greatest shifted value times the total.
 use borrow.Author.Needs.{needs}
 use native.Mathlib.Omega.{arith}
 use Rattle.cell.specs.Unsigned.{blended}

@@ -1,4 +1,4 @@
--- `weights_at` meets its contract: each weight is at most the area.
+-- `weights_at` meets its contract: each weight is at most the total.
 use borrow.Author.Needs.{needs}
 use native.Mathlib.Omega.{arith}
 use Rattle.cell.specs.Cell.{weightsOf, Weighed}

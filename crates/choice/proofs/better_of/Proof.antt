@@ -2,19 +2,19 @@
 use mathlib.Core.Path.{_∙_, sym}
 use borrow.Author.Tests.{not-true, not-false}
 use Rattle.numbers.specs.Lists.{at}
-use Rattle.choice.specs.Rect.{holds}
+use Rattle.choice.specs.Rect.{rectHolds}
 use Rattle.choice.proofs.Turn.{grid-out, grid-first, grid-better, grid-worse}
 use borrow.Author.Needs.{needs}
 use Rattle.choice.proofs.better_of.Statement.{statement}
 use Rattle.choice.proofs.better_of.Tie as tie
 
-holds-requires : tie.Need-holds-requires
-holds-requires c κs = search needs
+rect-holds-requires : tie.Need-rect-holds-requires
+rect-holds-requires c κs = search needs
 
 returns : tie.Need-returns
 returns c =
     let a = c .before .before .before .before .args in
-    grid-out (holds (a .sides .now) (a .i) (a .x) (a .y)) (at (a .ranks .now)) (a .i) (a .c) (sym (c .before .holds .ensures) ∙ not-true (c .before .holds .result) (c .if1 .taken))
+    grid-out (rectHolds (a .sides .now) (a .i) (a .x) (a .y)) (at (a .ranks .now)) (a .i) (a .c) (sym (c .before .rect-holds .ensures) ∙ not-true (c .before .rect-holds .result) (c .if1 .taken))
 
 add-result : tie.Need-add-result
 add-result c = search needs
@@ -22,7 +22,7 @@ add-result c = search needs
 returns-2 : tie.Need-returns-2
 returns-2 c =
     let a = c .before .before .before .before .before .args in
-    grid-first (holds (a .sides .now) (a .i) (a .x) (a .y)) (at (a .ranks .now)) (a .i) (a .c) (sym (c .before .before .holds .ensures) ∙ not-false (c .before .before .holds .result) (c .before .if1 .left)) (c .if2 .taken)
+    grid-first (rectHolds (a .sides .now) (a .i) (a .x) (a .y)) (at (a .ranks .now)) (a .i) (a .c) (sym (c .before .before .rect-holds .ensures) ∙ not-false (c .before .before .rect-holds .result) (c .before .if1 .left)) (c .if2 .taken)
 
 sub-b : tie.Need-sub-b
 sub-b c = search needs
@@ -45,18 +45,18 @@ add-result-2 c = search needs
 returns-3 : tie.Need-returns-3
 returns-3 c =
     let a = c .before .before .before .before .before .before .before .before .args in
-    grid-better (holds (a .sides .now) (a .i) (a .x) (a .y)) (at (a .ranks .now)) (a .i) (a .c) (sym (c .before .before .before .before .before .holds .ensures) ∙ not-false (c .before .before .before .before .before .holds .result) (c .before .before .before .before .if1 .left)) (c .before .before .before .if2 .left) (c .if3 .taken)
+    grid-better (rectHolds (a .sides .now) (a .i) (a .x) (a .y)) (at (a .ranks .now)) (a .i) (a .c) (sym (c .before .before .before .before .before .rect-holds .ensures) ∙ not-false (c .before .before .before .before .before .rect-holds .result) (c .before .before .before .before .if1 .left)) (c .before .before .before .if2 .left) (c .if3 .taken)
 
 returns-4 : tie.Need-returns-4
 returns-4 c =
     let a = c .before .before .before .before .before .before .before .before .args in
-    grid-worse (holds (a .sides .now) (a .i) (a .x) (a .y)) (at (a .ranks .now)) (a .i) (a .c) (sym (c .before .before .before .before .before .holds .ensures) ∙ not-false (c .before .before .before .before .before .holds .result) (c .before .before .before .before .if1 .left)) (c .before .before .before .if2 .left) (c .if3 .left)
+    grid-worse (rectHolds (a .sides .now) (a .i) (a .x) (a .y)) (at (a .ranks .now)) (a .i) (a .c) (sym (c .before .before .before .before .before .rect-holds .ensures) ∙ not-false (c .before .before .before .before .before .rect-holds .result) (c .before .before .before .before .if1 .left)) (c .before .before .before .if2 .left) (c .if3 .left)
 
 pub better-of-spec : {M : Type 1} → statement M
 better-of-spec =
     tie.close
     (tie.spec
-    holds-requires
+    rect-holds-requires
     returns
     add-result
     returns-2

@@ -3,7 +3,7 @@ use Prim.Native.Nat.{_≤_, _-_}
 use mathlib.Core.Path.{_≡_, refl}
 use native.Mathlib.Omega.{arith}
 use Rattle.numbers.specs.Lists.{at}
-use Rattle.choice.specs.Rect.{holds, size}
+use Rattle.choice.specs.Rect.{rectHolds, pairCount}
 use Rattle.choice.specs.Choice.{chosen}
 use Rattle.choice.proofs.ChoiceLaws.{chosen≤}
 use Rattle.choice.proofs.Turn.{chosen-more}
@@ -13,14 +13,14 @@ use Rattle.choice.proofs.chosen_at.Tie as tie
 
 abbrev Inv-loop : tie.InvT-loop
 Inv-loop sides ranks x y n c₀ i₀ c i =
-    (n ≡ size sides ranks) × (i ≤ n) × (c ≡ chosen (λ i. holds sides i x y) (at ranks) i)
+    (n ≡ pairCount sides ranks) × (i ≤ n) × (c ≡ chosen (λ i. rectHolds sides i x y) (at ranks) i)
 
 abbrev μ-loop : tie.MeasureT-loop
 μ-loop sides ranks x y n c₀ i₀ c i =
     n - i
 
-size-of-requires : tie.Need-size-of-requires Inv-loop μ-loop
-size-of-requires c κs = search needs
+pair-count-requires : tie.Need-pair-count-requires Inv-loop μ-loop
+pair-count-requires c κs = search needs
 
 loop-holds : tie.Need-loop-holds Inv-loop μ-loop
 unfolding chosen
@@ -30,7 +30,7 @@ better-of-requires : tie.Need-better-of-requires Inv-loop μ-loop
 better-of-requires c κs =
     let a = c .before .before .before .before .before .args in
     let l = c .before .loop in
-    (omega arith, omega (arith, l .inv .2, chosen≤ (λ i. holds (a .sides .now) i (a .x) (a .y)) (at (a .ranks .now)) (l .i)))
+    (omega arith, omega (arith, l .inv .2, chosen≤ (λ i. rectHolds (a .sides .now) i (a .x) (a .y)) (at (a .ranks .now)) (l .i)))
 
 add-i : tie.Need-add-i Inv-loop μ-loop
 add-i c = search needs
@@ -44,14 +44,14 @@ loop-again c =
     let l = c .before .before .loop in (
       search needs,
       search needs,
-      chosen-more (λ i. holds (a .sides .now) i (a .x) (a .y)) (at (a .ranks .now)) (l .i) (l .c) (c .better-of .result) (l .inv .2) (c .better-of .ensures),
+      chosen-more (λ i. rectHolds (a .sides .now) i (a .x) (a .y)) (at (a .ranks .now)) (l .i) (l .c) (c .better-of .result) (l .inv .2) (c .better-of .ensures),
     )
 
 returns : tie.Need-returns Inv-loop μ-loop
 returns c =
     let a = c .before .before .before .before .before .args in
     let l = c .before .loop in
-    let e : l .i ≡ size (a .sides .now) (a .ranks .now) = omega arith in
+    let e : l .i ≡ pairCount (a .sides .now) (a .ranks .now) = omega arith in
     rw (← e) (l .inv .2)
 
 pub chosen-at-spec : {M : Type 1} → statement M
@@ -60,7 +60,7 @@ chosen-at-spec =
     (tie.spec
     Inv-loop
     μ-loop
-    size-of-requires
+    pair-count-requires
     loop-holds
     better-of-requires
     add-i

@@ -4,13 +4,13 @@ use mathlib.Core.Path.{sym, _∙_}
 use native.Mathlib.Omega.{arith}
 use Rattle.numbers.proofs.FirstLaws.{Passed, passed-none, passed-more, passed-end, passed-found}
 use Rattle.numbers.specs.Lists.{at}
-use Rattle.choice.specs.Rect.{holds}
+use Rattle.choice.specs.Rect.{rectHolds}
 use Rattle.choice.proofs.HolderLaws.{holder-at, holder-none}
 use Rattle.choice.proofs.first_holder.Statement.{statement}
 use Rattle.choice.proofs.first_holder.Tie as tie
 
 abbrev Inv-loop : tie.InvT-loop
-Inv-loop sides owners rows x y i₀ i = Passed (λ k. holds sides k x y) rows i
+Inv-loop sides owners rows x y i₀ i = Passed (λ k. rectHolds sides k x y) rows i
 
 abbrev μ-loop : tie.MeasureT-loop
 μ-loop sides owners rows x y i₀ i = rows - i
@@ -18,8 +18,8 @@ abbrev μ-loop : tie.MeasureT-loop
 loop-holds : tie.Need-loop-holds Inv-loop μ-loop
 loop-holds c = passed-none _ _
 
-holds-requires : tie.Need-holds-requires Inv-loop μ-loop
-holds-requires c κs = omega arith
+rect-holds-requires : tie.Need-rect-holds-requires Inv-loop μ-loop
+rect-holds-requires c κs = omega arith
 
 mul-result : tie.Need-mul-result Inv-loop μ-loop
 mul-result c = omega arith
@@ -30,8 +30,8 @@ shared-slice-read-result c = omega arith
 returns : tie.Need-returns Inv-loop μ-loop
 returns c =
     let a = c .before .before .before .before .before .before .before .args in let l = c .before .before .before .before .loop in
-    holder-at (λ k. holds (a .sides .now) k (a .x) (a .y)) (at (a .owners .now)) (a .rows) (l .i)
-    (passed-found (λ k. holds (a .sides .now) k (a .x) (a .y)) (a .rows) (l .i) (l .inv) (c .before .before .before .loop-test .taken) (sym (c .before .before .holds .ensures) ∙ c .before .if1 .taken))
+    holder-at (λ k. rectHolds (a .sides .now) k (a .x) (a .y)) (at (a .owners .now)) (a .rows) (l .i)
+    (passed-found (λ k. rectHolds (a .sides .now) k (a .x) (a .y)) (a .rows) (l .i) (l .inv) (c .before .before .before .loop-test .taken) (sym (c .before .before .rect-holds .ensures) ∙ c .before .if1 .taken))
     (c .before .before .before .loop-test .taken)
 
 add-i : tie.Need-add-i Inv-loop μ-loop
@@ -42,13 +42,13 @@ loop-less c = omega arith
 
 loop-again : tie.Need-loop-again Inv-loop μ-loop
 loop-again c =
-    passed-more _ _ _ (c .before .before .before .loop .inv) (c .before .before .loop-test .taken) (sym (c .before .holds .ensures) ∙ c .if1 .left)
+    passed-more _ _ _ (c .before .before .before .loop .inv) (c .before .before .loop-test .taken) (sym (c .before .rect-holds .ensures) ∙ c .if1 .left)
 
 returns-2 : tie.Need-returns-2 Inv-loop μ-loop
 returns-2 c =
     let a = c .before .before .before .before .args in let l = c .before .loop in
-    holder-none (λ k. holds (a .sides .now) k (a .x) (a .y)) (at (a .owners .now)) (a .rows) (l .i)
-    (passed-end (λ k. holds (a .sides .now) k (a .x) (a .y)) (a .rows) (l .i) (l .inv) (c .loop-test .left))
+    holder-none (λ k. rectHolds (a .sides .now) k (a .x) (a .y)) (at (a .owners .now)) (a .rows) (l .i)
+    (passed-end (λ k. rectHolds (a .sides .now) k (a .x) (a .y)) (a .rows) (l .i) (l .inv) (c .loop-test .left))
     (c .loop-test .left)
 
 pub first-holder-spec : {M : Type 1} → statement M
@@ -58,7 +58,7 @@ first-holder-spec =
     Inv-loop
     μ-loop
     loop-holds
-    holds-requires
+    rect-holds-requires
     mul-result
     shared-slice-read-result
     returns

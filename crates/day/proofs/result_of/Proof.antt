@@ -20,8 +20,8 @@ returns c =
     toZ-ofZ w64 (s .args .value) (s .fits .value)
     ∙ sym (ap (resultOf (s .args .value)) e ∙ result-plain (s .args .value))
 
-scaled-requires : tie.Need-scaled-requires
-scaled-requires c κs =
+times-factor-requires : tie.Need-times-factor-requires
+times-factor-requires c κs =
     let s = c .before in (
       subst (λ (z : ℤ). natAbs z ≤ valueMost) (sym (toZ-ofZ w64 (s .args .value) (s .fits .value))) (s .pre .0),
       subst (λ (z : ℤ). natAbs z ≤ factorMost) (sym (toZ-ofZ w64 (s .args .factor) (s .fits .factor))) (s .pre .1),
@@ -30,9 +30,9 @@ scaled-requires c κs =
 returns-2 : tie.Need-returns-2
 returns-2 c =
     let s = c .before .before in
-    toZ-ofZ w64 (c .scaled .result) (record { sfits = c .scaled .ok })
-    ∙ c .scaled .ensures
+    toZ-ofZ w64 (c .times-factor .result) (record { sfits = c .times-factor .ok })
+    ∙ c .times-factor .ensures
     ∙ ap₂ resultOf (toZ-ofZ w64 (s .args .value) (s .fits .value)) (toZ-ofZ w64 (s .args .factor) (s .fits .factor))
 
 pub result-of-spec : {M : Type 1} → statement M
-result-of-spec = tie.close (tie.spec returns scaled-requires returns-2)
+result-of-spec = tie.close (tie.spec returns times-factor-requires returns-2)

@@ -8,14 +8,14 @@ use lib.ListN.{getD}
 use mir.Syntax.{w32}
 use mir.Val.{SFits, toZ, ofZ}
 use mir.ValLaws.{toZ-ofZ}
-use Rattle.fix.specs.Fix.{position, spotOf, cornersAt, cornersOf}
-use Rattle.fix.proofs.PlaceLaws.{spot-i, spot-j, Around, around}
+use Rattle.fix.specs.Fix.{position, cellOf, cornersAt, cornersOf}
+use Rattle.fix.proofs.OffsetLaws.{cell-i, cell-j, Around, around}
 use Rattle.fix.proofs.corners_at.Statement.{statement}
 use Rattle.fix.proofs.corners_at.Tie as tie
 
 -- where the corners stand
-known : (c : tie.Start) → Around (c .pre .0) (spotOf (c .args .l) .i) (spotOf (c .args .l) .j) (c .args .p)
-known c = around (c .pre .0) (spotOf (c .args .l) .i) (spotOf (c .args .l) .j) (c .args .p) (spot-i (c .pre .0)) (spot-j (c .pre .0)) (c .pre .3)
+known : (c : tie.Start) → Around (c .pre .0) (cellOf (c .args .l) .i) (cellOf (c .args .l) .j) (c .args .p)
+known c = around (c .pre .0) (cellOf (c .args .l) .i) (cellOf (c .args .l) .j) (c .args .p) (cell-i (c .pre .0)) (cell-j (c .pre .0)) (c .pre .3)
 
 add-low : tie.Need-add-low
 add-low c = omega (arith, known c)
@@ -64,7 +64,7 @@ returns : tie.Need-returns
 unfolding cornersAt cornersOf
 returns c =
     let b = c .before .before .before .before .before in let nodes = b .args .nodes .now in let k = known b in
-    let l = b .args .l in let i = spotOf l .i in let j = spotOf l .j in let p = b .args .p in
+    let l = b .args .l in let i = cellOf l .i in let j = cellOf l .j in let p = b .args .p in
     let e00 = read nodes (position l i j p) (record { sfits = c .before .before .before .t15 .given }) (omega (arith, k)) in
     let e10 = read nodes (position l (i + 1) j p) (record { sfits = c .before .before .t18 .given }) (omega (arith, k)) in
     let e01 = read nodes (position l i (j + 1) p) (record { sfits = c .before .t21 .given }) (omega (arith, k)) in

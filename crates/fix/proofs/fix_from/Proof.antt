@@ -16,10 +16,10 @@ abbrev s1 : tie.After-used-beyond → tie.Start
 s1 u = u .before .before
 
 test1 : (u : tie.After-used-beyond) (b : Bool) → u .used-beyond .result ≡ b → faultAt (s1 u .args .l) (s1 u .args .nodes .now) 0 ≡ b
-test1 u b e = let s = s1 u in let a = s .args in tested (a .l) (a .nodes .now) 0 (s .pre .0 .placed) (s .pre .0 .weights) (u .before .corners-at .ensures) (s .pre .1) b (u .used-beyond .ensures) e
+test1 u b e = let s = s1 u in let a = s .args in tested (a .l) (a .nodes .now) 0 (s .pre .0 .inside) (s .pre .0 .weights) (u .before .corners-at .ensures) (s .pre .1) b (u .used-beyond .ensures) e
 
 corners-at-requires : tie.Need-corners-at-requires
-corners-at-requires c κs = let s = c in (s .pre .0 .placed, s .pre .0 .listed, s .pre .0 .low, s .pre .1)
+corners-at-requires c κs = let s = c in (s .pre .0 .inside, s .pre .0 .listed, s .pre .0 .low, s .pre .1)
 
 used-beyond-requires : tie.Need-used-beyond-requires
 used-beyond-requires c κs = search needs
@@ -35,19 +35,19 @@ returns c =
 value-at-requires : tie.Need-value-at-requires
 value-at-requires c κs =
     let u = c .before in let s = s1 u in let a = s .args in
-    weighed (a .l) (a .nodes .now) 0 (s .pre .0 .placed) (s .pre .0 .weights) (u .before .corners-at .ensures) (s .pre .1) (u .used-beyond .ensures) (c .if1 .left)
+    weighed (a .l) (a .nodes .now) 0 (s .pre .0 .inside) (s .pre .0 .weights) (u .before .corners-at .ensures) (s .pre .1) (u .used-beyond .ensures) (c .if1 .left)
 
 result-of-requires : tie.Need-result-of-requires
 result-of-requires c κs =
     let u = c .before .before in let s = s1 u in let a = s .args in
-    sized (a .l) (a .nodes .now) 0 (s .pre .0 .placed) (s .pre .0 .weights) (u .before .corners-at .ensures) (s .pre .1)
+    sized (a .l) (a .nodes .now) 0 (s .pre .0 .inside) (s .pre .0 .weights) (u .before .corners-at .ensures) (s .pre .1)
     (a .factor) (s .fits .factor) (s .pre .2) (u .used-beyond .ensures) (c .before .if1 .left) (record { sfits = c .value-at .ok }) (c .value-at .ensures)
 
 result1 : (c : tie.After-result-of)
     → toZ w64 (ofZ w64 (c .result-of .result)) ≡ resultAt (s1 (c .before .before .before) .args .l) (s1 (c .before .before .before) .args .nodes .now) (s1 (c .before .before .before) .args .factor) 0
 result1 c =
     let u = c .before .before .before in let s = s1 u in let a = s .args in
-    result (a .l) (a .nodes .now) 0 (s .pre .0 .placed) (s .pre .0 .weights) (u .before .corners-at .ensures) (s .pre .1)
+    result (a .l) (a .nodes .now) 0 (s .pre .0 .inside) (s .pre .0 .weights) (u .before .corners-at .ensures) (s .pre .1)
     (a .factor) (s .fits .factor) (record { sfits = c .before .value-at .ok }) (c .before .value-at .ensures) (record { sfits = c .result-of .ok }) (c .result-of .ensures)
 
 sound1 : (c : tie.After-result-of) → faultAt (s1 (c .before .before .before) .args .l) (s1 (c .before .before .before) .args .nodes .now) 0 ≡ false
@@ -56,17 +56,17 @@ sound1 c = test1 (c .before .before .before) false (c .before .before .if1 .left
 returns-2 : tie.Need-returns-2
 returns-2 c =
     let q1 = c .before .before in let s = s1 (q1 .before .before .before) in let a = s .args in
-    fix-results (a .l) (a .nodes .now) (a .factor) (a .grid) (s .pre .0 .placed .np-most) (sound1 q1) (missing (a .l) (a .nodes .now) 1 (omega arith)) (missing (a .l) (a .nodes .now) 2 (omega arith)) (result1 q1) (none (a .l) (a .nodes .now) 1 (a .factor) (omega arith)) (none (a .l) (a .nodes .now) 2 (a .factor) (omega arith))
+    fix-results (a .l) (a .nodes .now) (a .factor) (a .grid) (s .pre .0 .inside .np-most) (sound1 q1) (missing (a .l) (a .nodes .now) 1 (omega arith)) (missing (a .l) (a .nodes .now) 2 (omega arith)) (result1 q1) (none (a .l) (a .nodes .now) 1 (a .factor) (omega arith)) (none (a .l) (a .nodes .now) 2 (a .factor) (omega arith))
 
 -- ---- parameter 1: the function's entry, what the test told, and the result
 abbrev s2 : tie.After-used-beyond2 → tie.Start
 s2 u = s1 (u .before .before .before .before .before .before .before)
 
 test2 : (u : tie.After-used-beyond2) (b : Bool) → u .used-beyond2 .result ≡ b → faultAt (s2 u .args .l) (s2 u .args .nodes .now) 1 ≡ b
-test2 u b e = let s = s2 u in let a = s .args in tested (a .l) (a .nodes .now) 1 (s .pre .0 .placed) (s .pre .0 .weights) (u .before .corners-at2 .ensures) (u .before .before .if2 .left) b (u .used-beyond2 .ensures) e
+test2 u b e = let s = s2 u in let a = s .args in tested (a .l) (a .nodes .now) 1 (s .pre .0 .inside) (s .pre .0 .weights) (u .before .corners-at2 .ensures) (u .before .before .if2 .left) b (u .used-beyond2 .ensures) e
 
 corners-at-requires-2 : tie.Need-corners-at-requires-2
-corners-at-requires-2 c κs = let s = s1 (c .before .before .before .before .before) in (s .pre .0 .placed, s .pre .0 .listed, s .pre .0 .low, c .if2 .left)
+corners-at-requires-2 c κs = let s = s1 (c .before .before .before .before .before) in (s .pre .0 .inside, s .pre .0 .listed, s .pre .0 .low, c .if2 .left)
 
 used-beyond-requires-2 : tie.Need-used-beyond-requires-2
 used-beyond-requires-2 c κs = search needs
@@ -82,19 +82,19 @@ returns-3 c =
 value-at-requires-2 : tie.Need-value-at-requires-2
 value-at-requires-2 c κs =
     let u = c .before in let s = s2 u in let a = s .args in
-    weighed (a .l) (a .nodes .now) 1 (s .pre .0 .placed) (s .pre .0 .weights) (u .before .corners-at2 .ensures) (u .before .before .if2 .left) (u .used-beyond2 .ensures) (c .if3 .left)
+    weighed (a .l) (a .nodes .now) 1 (s .pre .0 .inside) (s .pre .0 .weights) (u .before .corners-at2 .ensures) (u .before .before .if2 .left) (u .used-beyond2 .ensures) (c .if3 .left)
 
 result-of-requires-2 : tie.Need-result-of-requires-2
 result-of-requires-2 c κs =
     let u = c .before .before in let s = s2 u in let a = s .args in
-    sized (a .l) (a .nodes .now) 1 (s .pre .0 .placed) (s .pre .0 .weights) (u .before .corners-at2 .ensures) (u .before .before .if2 .left)
+    sized (a .l) (a .nodes .now) 1 (s .pre .0 .inside) (s .pre .0 .weights) (u .before .corners-at2 .ensures) (u .before .before .if2 .left)
     (a .factor) (s .fits .factor) (s .pre .2) (u .used-beyond2 .ensures) (c .before .if3 .left) (record { sfits = c .value-at2 .ok }) (c .value-at2 .ensures)
 
 result2 : (c : tie.After-result-of2)
     → toZ w64 (ofZ w64 (c .result-of2 .result)) ≡ resultAt (s2 (c .before .before .before) .args .l) (s2 (c .before .before .before) .args .nodes .now) (s2 (c .before .before .before) .args .factor) 1
 result2 c =
     let u = c .before .before .before in let s = s2 u in let a = s .args in
-    result (a .l) (a .nodes .now) 1 (s .pre .0 .placed) (s .pre .0 .weights) (u .before .corners-at2 .ensures) (u .before .before .if2 .left)
+    result (a .l) (a .nodes .now) 1 (s .pre .0 .inside) (s .pre .0 .weights) (u .before .corners-at2 .ensures) (u .before .before .if2 .left)
     (a .factor) (s .fits .factor) (record { sfits = c .before .value-at2 .ok }) (c .before .value-at2 .ensures) (record { sfits = c .result-of2 .ok }) (c .result-of2 .ensures)
 
 sound2 : (c : tie.After-result-of2) → faultAt (s2 (c .before .before .before) .args .l) (s2 (c .before .before .before) .args .nodes .now) 1 ≡ false
@@ -103,17 +103,17 @@ sound2 c = test2 (c .before .before .before) false (c .before .before .if3 .left
 returns-4 : tie.Need-returns-4
 returns-4 c =
     let q2 = c .before .before in let q1 = q2 .before .before .before .before .before .before .before in let s = s2 (q2 .before .before .before) in let a = s .args in
-    fix-results (a .l) (a .nodes .now) (a .factor) (a .grid) (s .pre .0 .placed .np-most) (sound1 q1) (sound2 q2) (missing (a .l) (a .nodes .now) 2 (omega arith)) (result1 q1) (result2 q2) (none (a .l) (a .nodes .now) 2 (a .factor) (omega arith))
+    fix-results (a .l) (a .nodes .now) (a .factor) (a .grid) (s .pre .0 .inside .np-most) (sound1 q1) (sound2 q2) (missing (a .l) (a .nodes .now) 2 (omega arith)) (result1 q1) (result2 q2) (none (a .l) (a .nodes .now) 2 (a .factor) (omega arith))
 
 -- ---- parameter 2: the function's entry, what the test told, and the result
 abbrev s3 : tie.After-used-beyond3 → tie.Start
 s3 u = s2 (u .before .before .before .before .before .before .before)
 
 test3 : (u : tie.After-used-beyond3) (b : Bool) → u .used-beyond3 .result ≡ b → faultAt (s3 u .args .l) (s3 u .args .nodes .now) 2 ≡ b
-test3 u b e = let s = s3 u in let a = s .args in tested (a .l) (a .nodes .now) 2 (s .pre .0 .placed) (s .pre .0 .weights) (u .before .corners-at3 .ensures) (u .before .before .if4 .left) b (u .used-beyond3 .ensures) e
+test3 u b e = let s = s3 u in let a = s .args in tested (a .l) (a .nodes .now) 2 (s .pre .0 .inside) (s .pre .0 .weights) (u .before .corners-at3 .ensures) (u .before .before .if4 .left) b (u .used-beyond3 .ensures) e
 
 corners-at-requires-3 : tie.Need-corners-at-requires-3
-corners-at-requires-3 c κs = let s = s2 (c .before .before .before .before .before) in (s .pre .0 .placed, s .pre .0 .listed, s .pre .0 .low, c .if4 .left)
+corners-at-requires-3 c κs = let s = s2 (c .before .before .before .before .before) in (s .pre .0 .inside, s .pre .0 .listed, s .pre .0 .low, c .if4 .left)
 
 used-beyond-requires-3 : tie.Need-used-beyond-requires-3
 used-beyond-requires-3 c κs = search needs
@@ -129,19 +129,19 @@ returns-5 c =
 value-at-requires-3 : tie.Need-value-at-requires-3
 value-at-requires-3 c κs =
     let u = c .before in let s = s3 u in let a = s .args in
-    weighed (a .l) (a .nodes .now) 2 (s .pre .0 .placed) (s .pre .0 .weights) (u .before .corners-at3 .ensures) (u .before .before .if4 .left) (u .used-beyond3 .ensures) (c .if5 .left)
+    weighed (a .l) (a .nodes .now) 2 (s .pre .0 .inside) (s .pre .0 .weights) (u .before .corners-at3 .ensures) (u .before .before .if4 .left) (u .used-beyond3 .ensures) (c .if5 .left)
 
 result-of-requires-3 : tie.Need-result-of-requires-3
 result-of-requires-3 c κs =
     let u = c .before .before in let s = s3 u in let a = s .args in
-    sized (a .l) (a .nodes .now) 2 (s .pre .0 .placed) (s .pre .0 .weights) (u .before .corners-at3 .ensures) (u .before .before .if4 .left)
+    sized (a .l) (a .nodes .now) 2 (s .pre .0 .inside) (s .pre .0 .weights) (u .before .corners-at3 .ensures) (u .before .before .if4 .left)
     (a .factor) (s .fits .factor) (s .pre .2) (u .used-beyond3 .ensures) (c .before .if5 .left) (record { sfits = c .value-at3 .ok }) (c .value-at3 .ensures)
 
 result3 : (c : tie.After-result-of3)
     → toZ w64 (ofZ w64 (c .result-of3 .result)) ≡ resultAt (s3 (c .before .before .before) .args .l) (s3 (c .before .before .before) .args .nodes .now) (s3 (c .before .before .before) .args .factor) 2
 result3 c =
     let u = c .before .before .before in let s = s3 u in let a = s .args in
-    result (a .l) (a .nodes .now) 2 (s .pre .0 .placed) (s .pre .0 .weights) (u .before .corners-at3 .ensures) (u .before .before .if4 .left)
+    result (a .l) (a .nodes .now) 2 (s .pre .0 .inside) (s .pre .0 .weights) (u .before .corners-at3 .ensures) (u .before .before .if4 .left)
     (a .factor) (s .fits .factor) (record { sfits = c .before .value-at3 .ok }) (c .before .value-at3 .ensures) (record { sfits = c .result-of3 .ok }) (c .result-of3 .ensures)
 
 sound3 : (c : tie.After-result-of3) → faultAt (s3 (c .before .before .before) .args .l) (s3 (c .before .before .before) .args .nodes .now) 2 ≡ false
@@ -150,7 +150,7 @@ sound3 c = test3 (c .before .before .before) false (c .before .before .if5 .left
 returns-6 : tie.Need-returns-6
 returns-6 c =
     let q3 = c in let q2 = q3 .before .before .before .before .before .before .before in let q1 = q2 .before .before .before .before .before .before .before in let s = s3 (q3 .before .before .before) in let a = s .args in
-    fix-results (a .l) (a .nodes .now) (a .factor) (a .grid) (s .pre .0 .placed .np-most) (sound1 q1) (sound2 q2) (sound3 q3) (result1 q1) (result2 q2) (result3 q3)
+    fix-results (a .l) (a .nodes .now) (a .factor) (a .grid) (s .pre .0 .inside .np-most) (sound1 q1) (sound2 q2) (sound3 q3) (result1 q1) (result2 q2) (result3 q3)
 
 pub fix-from-spec : {M : Type 1} → statement M
 fix-from-spec =

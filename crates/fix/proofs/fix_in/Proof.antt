@@ -6,9 +6,9 @@ use lib.IntN.{ℤ, natAbs}
 use mir.Syntax.{w64}
 use mir.ValLaws.{toZ-ofZ}
 use Rattle.group.specs.Numbers.{factorMost}
-use Rattle.fix.specs.declared.Spot.{Spot}
-use Rattle.fix.specs.Fix.{spotOf, position, fixIn}
-use Rattle.fix.proofs.PlaceLaws.{spot-i, spot-j}
+use Rattle.fix.specs.declared.Cell.{Cell}
+use Rattle.fix.specs.Fix.{cellOf, position, fixIn}
+use Rattle.fix.proofs.OffsetLaws.{cell-i, cell-j}
 use Rattle.fix.proofs.PartLaws.{fix-none}
 use borrow.Author.Needs.{needs}
 use Rattle.fix.proofs.fix_in.Statement.{statement}
@@ -17,23 +17,23 @@ use Rattle.fix.proofs.fix_in.Tie as tie
 returns : tie.Need-returns
 returns c = let a = c .before .before .args in sym (fix-none (a .l) (a .nodes .now) (a .factor) (a .grid) (c .if1 .taken))
 
-spot-of-requires : tie.Need-spot-of-requires
-spot-of-requires c κs = search needs
+cell-of-requires : tie.Need-cell-of-requires
+cell-of-requires c κs = search needs
 
 position-requires : tie.Need-position-requires
 position-requires c κs =
-    let b = c .before .before .before in let e = c .spot-of .ensures in
-    let i : spotOf (b .args .l) .i + 1 < b .args .l .ni = spot-i (b .pre .0) in let j : spotOf (b .args .l) .j + 1 < b .args .l .nj = spot-j (b .pre .0) in
+    let b = c .before .before .before in let e = c .cell-of .ensures in
+    let i : cellOf (b .args .l) .i + 1 < b .args .l .ni = cell-i (b .pre .0) in let j : cellOf (b .args .l) .j + 1 < b .args .l .nj = cell-j (b .pre .0) in
     (b .pre .0, rw e (omega arith), rw e (omega arith), omega arith)
 
 fix-from-requires : tie.Need-fix-from-requires
 fix-from-requires c κs =
-    let b = c .before .before .before .before in let e = c .before .spot-of .ensures in (
+    let b = c .before .before .before .before in let e = c .before .cell-of .ensures in (
       record {
-        placed = b .pre .0;
+        inside = b .pre .0;
         listed = b .pre .1;
-        weights = ap (λ (s : Spot). s .weights) e;
-        low = c .position .ensures ∙ ap (λ (s : Spot). position (b .args .l) (s .i) (s .j) 0) e;
+        weights = ap (λ (s : Cell). s .weights) e;
+        low = c .position .ensures ∙ ap (λ (s : Cell). position (b .args .l) (s .i) (s .j) 0) e;
       },
       omega arith,
       subst (λ (z : ℤ). natAbs z ≤ factorMost) (sym (toZ-ofZ w64 (b .args .factor) (b .fits .factor))) (b .pre .2),
@@ -46,4 +46,4 @@ returns-2 c =
 
 pub fix-in-spec : {M : Type 1} → statement M
 fix-in-spec =
-    tie.close (tie.spec returns spot-of-requires position-requires fix-from-requires returns-2)
+    tie.close (tie.spec returns cell-of-requires position-requires fix-from-requires returns-2)

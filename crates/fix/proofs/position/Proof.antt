@@ -1,7 +1,7 @@
 -- `position` meets its contract: the position stays within the grid's node range.
 use borrow.Author.Needs.{needs}
 use native.Mathlib.Omega.{arith}
-use Rattle.fix.proofs.PlaceLaws.{Stands, stands}
+use Rattle.fix.proofs.OffsetLaws.{Stands, stands}
 use Rattle.fix.proofs.position.Statement.{statement}
 use Rattle.fix.proofs.position.Tie as tie
 

@@ -11,14 +11,14 @@ use Rattle.cell.specs.declared.Corners.{Corners}
 use Rattle.cell.specs.declared.Weights.{Weights}
 use Rattle.group.specs.Numbers.{isMark}
 use Rattle.cell.specs.Cell.{usedSome}
-use Rattle.fix.specs.declared.Place.{Place}
-use Rattle.fix.specs.Fix.{spotOf, cornersOf, cornerSome}
+use Rattle.fix.specs.declared.Offset.{Offset}
+use Rattle.fix.specs.Fix.{cellOf, cornersOf, cornerSome}
 use Rattle.fix.proofs.some_mark.Statement.{statement}
 use Rattle.fix.proofs.some_mark.Tie as tie
 
 -- a used corner is the mark in parameter p
-abbrev marked : Place → List ℤ → ℕ → Bool
-marked l nodes p = usedSome isMark (spotOf l .weights) (cornersOf l nodes p)
+abbrev marked : Offset → List ℤ → ℕ → Bool
+marked l nodes p = usedSome isMark (cellOf l .weights) (cornersOf l nodes p)
 
 abbrev Inv-loop : tie.InvT-loop
 Inv-loop l w a nodes np p₀ p = Passed (marked l nodes) (l .np) p
@@ -30,13 +30,13 @@ loop-holds : tie.Need-loop-holds Inv-loop μ-loop
 loop-holds c = passed-none (marked (c .args .l) (c .args .nodes .now)) (c .args .l .np)
 
 corners-at-requires : tie.Need-corners-at-requires Inv-loop μ-loop
-corners-at-requires c κs = let b = c .before .before .pre in (b .placed, b .listed, b .low, omega arith)
+corners-at-requires c κs = let b = c .before .before .pre in (b .inside, b .listed, b .low, omega arith)
 
 used-marked-requires : tie.Need-used-marked-requires Inv-loop μ-loop
 used-marked-requires c κs = search needs
 
 -- what `used_marked` told of the corners that it was passed
-told : (l : Place) (nodes : List ℤ) (p : ℕ) {t : Bool} {w : Weights} {v : Corners} → w ≡ spotOf l .weights → v ≡ cornersOf l nodes p
+told : (l : Offset) (nodes : List ℤ) (p : ℕ) {t : Bool} {w : Weights} {v : Corners} → w ≡ cellOf l .weights → v ≡ cornersOf l nodes p
     → t ≡ usedSome isMark w v → marked l nodes p ≡ t
 told l nodes p e f g = sym (g ∙ (λ k. usedSome isMark (e k) (f k)))
 

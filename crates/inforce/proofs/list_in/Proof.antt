@@ -3,7 +3,7 @@ use mathlib.Core.Path.{_≡_, _∙_, ap}
 use native.Mathlib.Omega.{arith}
 use Rattle.judge.proofs.Accepted.{accepted-measured}
 use Rattle.coverage.specs.InForce as flat
-use Rattle.inforce.specs.Flat.{flatListed}
+use Rattle.inforce.specs.Flat.{flatListing}
 use Rattle.inforce.specs.InForce.{inForceIn, shownList}
 use Rattle.inforce.proofs.ShownLaws.{shown-whole}
 use Rattle.inforce.proofs.GroupLaws.{group-flat, group-listed, narrow-list}
@@ -37,11 +37,11 @@ list-flat-requires c κs =
 
 -- the list of the area, its coordinates as distances
 listing : (c : tie.After-list-flat) → let s = c .before .before .before .before .before .before .before .before .before in
-    c .list-flat .result ≡ flat.listed (inForceIn (s .args .group) (s .args .area))
+    c .list-flat .result ≡ flat.listingOf (inForceIn (s .args .group) (s .args .area))
 listing c =
     let s = c .before .before .before .before .before .before .before .before .before in
     let f = c .before .before .before .before .before .before .fill-sides in
-    c .list-flat .ensures ∙ ap (flatListed (f .last .1 .0) (f .last .1 .1 .0) (s .args .group .grids)) (c .before .area-from-least .ensures)
+    c .list-flat .ensures ∙ ap (flatListing (f .last .1 .0) (f .last .1 .1 .0) (s .args .group .grids)) (c .before .area-from-least .ensures)
     ∙ group-listed (s .args .group) (s .pre .0) (f .last .1 .0) (f .last .1 .1 .0) (f .ensures .0) (s .args .area) (s .pre .1)
 
 shown-list-requires : tie.Need-shown-list-requires

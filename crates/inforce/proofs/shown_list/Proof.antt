@@ -5,7 +5,7 @@ use native.Mathlib.Omega.{arith}
 use borrow.Author.Needs.{needs}
 use lib.ListN.{getD}
 use Rattle.coverage.specs.InForce.{noEntry}
-use Rattle.inforce.specs.InForce.{shown, shownFirst, shownList}
+use Rattle.inforce.specs.InForce.{shownEntry, shownFirst, shownList}
 use Rattle.inforce.proofs.ShownLaws.{shown-more}
 use Rattle.inforce.proofs.shown_list.Statement.{statement}
 use Rattle.inforce.proofs.shown_list.Tie as tie
@@ -49,7 +49,7 @@ loop-again : tie.Need-loop-again Inv-loop μ-loop
 loop-again c =
     let p = c .before .before .before .before .before .pre in
     let l = c .before .before .before .loop in
-    let s : c .shown-entry .result ≡ shown (getD (c .before .before .before .before .before .args .t1 .entries) (l .i) noEntry) = c .shown-entry .ensures in
+    let s : c .shown-entry .result ≡ shownEntry (getD (c .before .before .before .before .before .args .t1 .entries) (l .i) noEntry) = c .shown-entry .ensures in
     (omega arith, rw (l .inv .1, s) (shown-more _ (l .i) (omega (arith, p .few)) (omega (arith, p .few, p .room))))
 
 returns : tie.Need-returns Inv-loop μ-loop

@@ -4,7 +4,7 @@ use mathlib.Core.Path.{_∙_, sym}
 use native.Mathlib.Omega.{arith}
 use borrow.Author.Needs.{needs}
 use Rattle.numbers.proofs.FirstLaws.{Passed, passed-none, passed-more, passed-some, found-some}
-use Rattle.judge.specs.Marks.{clash}
+use Rattle.judge.specs.Keys.{clash}
 use Rattle.judge.proofs.clashes_earlier.Statement.{statement}
 use Rattle.judge.proofs.clashes_earlier.Tie as tie
 

@@ -5,7 +5,7 @@ use native.Mathlib.Omega.{arith}
 use borrow.Author.Needs.{needs}
 use Rattle.numbers.specs.First.{some}
 use Rattle.numbers.proofs.FirstLaws.{Passed, passed-none, passed-more, passed-end, passed-found}
-use Rattle.judge.specs.Marks.{clash}
+use Rattle.judge.specs.Keys.{clash}
 use Rattle.judge.proofs.first_clash.Statement.{statement}
 use Rattle.judge.proofs.first_clash.Tie as tie
 

@@ -1,4 +1,4 @@
--- `first_named` meets its contract: comparing the marks of names is comparing names.
+-- `first_named` meets its contract: comparing the keys of names is comparing names.
 use Rattle.judge.specs.declared.Shared.the-variants as S
 use Rattle.judge.proofs.JudgeLaws.{sharing}
 use borrow.Author.Needs.{needs}

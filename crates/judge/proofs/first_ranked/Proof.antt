@@ -1,7 +1,7 @@
 -- `first_ranked` meets its contract: comparing sides and ranks is comparing grids.
 use Rattle.judge.specs.declared.Shared.the-variants as S
 use Rattle.judge.proofs.LimitLaws.{measured}
-use Rattle.judge.proofs.MarkLaws.{sided-listed}
+use Rattle.judge.proofs.KeyLaws.{sided-listed}
 use Rattle.judge.proofs.JudgeLaws.{sharing}
 use borrow.Author.Needs.{needs}
 use Rattle.judge.proofs.first_ranked.Statement.{statement}

@@ -1,6 +1,6 @@
 -- `grids_clash` meets its contract.
 use borrow.Author.Tests.{eq-eqb, ne-eqb}
-use Rattle.judge.specs.Marks.{clash}
+use Rattle.judge.specs.Keys.{clash}
 use borrow.Author.Needs.{needs}
 use Rattle.judge.proofs.grids_clash.Statement.{statement}
 use Rattle.judge.proofs.grids_clash.Tie as tie
@@ -21,12 +21,12 @@ returns : tie.Need-returns
 unfolding clash
 returns c = rw (ne-eqb _ _ (c .if1 .taken))
 
-marks-agree-requires : tie.Need-marks-agree-requires
-marks-agree-requires c κs = search needs
+keys-agree-requires : tie.Need-keys-agree-requires
+keys-agree-requires c κs = search needs
 
 returns-2 : tie.Need-returns-2
 unfolding clash
-returns-2 c = rw (eq-eqb _ _ (c .before .if1 .left), c .marks-agree .ensures)
+returns-2 c = rw (eq-eqb _ _ (c .before .if1 .left), c .keys-agree .ensures)
 
 pub grids-clash-spec : {M : Type 1} → statement M
 grids-clash-spec =
@@ -37,5 +37,5 @@ grids-clash-spec =
     mul-if1-2
     shared-slice-read-if1-2
     returns
-    marks-agree-requires
+    keys-agree-requires
     returns-2)

@@ -4,8 +4,8 @@ use mathlib.Core.Path.{_≡_, refl, sym, _∙_}
 use native.Mathlib.Omega.{arith}
 use lib.ListN.{getD}
 use borrow.Author.Needs.{needs}
-use Rattle.judge.specs.Marks.{packed}
-use Rattle.judge.proofs.MarkLaws.{room, grow, packed-more}
+use Rattle.judge.specs.Keys.{packed}
+use Rattle.judge.proofs.KeyLaws.{room, grow, packed-more}
 use Rattle.judge.proofs.word.Statement.{statement}
 use Rattle.judge.proofs.word.Tie as tie
 

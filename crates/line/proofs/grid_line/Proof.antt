@@ -19,7 +19,7 @@ use Rattle.line.specs.Names.{isName, nameOf}
 use Rattle.group.specs.declared.Refusal.{Refusal}
 use Rattle.group.specs.Refusals.{refusal}
 use Rattle.line.specs.Line.{Line, bad, good}
-use Rattle.line.specs.Lines.{fields, gridWord, gridTexts, gridFit, gridOf, gridLine, countedGrid}
+use Rattle.line.specs.Lines.{fields, gridKeyword, gridTexts, gridFit, gridOf, gridLine, countedGrid}
 use Rattle.line.specs.Answers.{gridAnswer}
 use Rattle.line.proofs.NameLaws.{name-length, isName-fits}
 use Rattle.line.proofs.LineLaws.{keyed-miss, keyed-hit, fields-count, fields-text, fields-bad, fields-numbers}
@@ -36,11 +36,11 @@ abbrev other : ℕ → List (List ℕ) → Line Refusal Grid
 other n fs = bad (refusal 1 n)
 
 -- what the two tests tell
-test : (c : tie.After-opens) → same (getD (split 9 (c .before .before .before .args .line .now)) 0 []) gridWord ≡ c .opens .result
-test c = opens-split (c .before .before .before .args .line .now) gridWord (c .opens .result) (c .opens .ensures)
+test : (c : tie.After-opens) → same (getD (split 9 (c .before .before .before .args .line .now)) 0 []) gridKeyword ≡ c .opens .result
+test c = opens-split (c .before .before .before .args .line .now) gridKeyword (c .opens .result) (c .opens .ensures)
 
 opened : (e : tie.Else1) → gridLine (e .before .before .before .before .args .n) (e .before .before .before .before .args .line .now) ≡ of (e .before .before .before .before .args .n) (drop 1 (split 9 (e .before .before .before .before .args .line .now)))
-opened e = keyed-hit gridWord (of (e .before .before .before .before .args .n)) (other (e .before .before .before .before .args .n)) (e .before .before .before .before .args .line .now) (test (e .before) ∙ not-false _ (e .if1 .left))
+opened e = keyed-hit gridKeyword (of (e .before .before .before .before .args .n)) (other (e .before .before .before .before .args .n)) (e .before .before .before .before .args .line .now) (test (e .before) ∙ not-false _ (e .if1 .left))
 
 counted : (e : tie.Else2) → length (split 9 (e .before .before .before .before .before .before .args .line .now)) ≡ 10
 counted e = sym (e .before .part-count .ensures) ∙ e .if2 .left
@@ -175,7 +175,7 @@ refused-grid-requires : tie.Need-refused-grid-requires
 refused-grid-requires c κs = tt
 
 returns : tie.Need-returns
-returns c = c .refused-grid .ensures ∙ sym (ap gridAnswer (keyed-miss gridWord (of (c .before .before .before .before .before .args .n)) (other (c .before .before .before .before .before .args .n)) (split 9 (c .before .before .before .before .before .args .line .now)) (test (c .before .before) ∙ not-true _ (c .before .if1 .taken))))
+returns c = c .refused-grid .ensures ∙ sym (ap gridAnswer (keyed-miss gridKeyword (of (c .before .before .before .before .before .args .n)) (other (c .before .before .before .before .before .args .n)) (split 9 (c .before .before .before .before .before .args .line .now)) (test (c .before .before) ∙ not-true _ (c .before .if1 .taken))))
 
 part-count-requires : tie.Need-part-count-requires
 part-count-requires c κs = tt

@@ -21,7 +21,7 @@ use Rattle.line.specs.Names.{isName, nameOf, readUnit}
 use Rattle.group.specs.declared.Refusal.{Refusal}
 use Rattle.group.specs.Refusals.{refusal}
 use Rattle.line.specs.Line.{Line, bad, good}
-use Rattle.line.specs.Lines.{fields, groupWord, headTexts, headFit, headOf, headLine, countedHead}
+use Rattle.line.specs.Lines.{fields, groupKeyword, headTexts, headFit, headOf, headLine, countedHead}
 use Rattle.line.specs.Answers.{headAnswer}
 use Rattle.line.proofs.NameLaws.{name-length}
 use Rattle.line.proofs.LineLaws.{keyed-miss, keyed-hit, fields-count, fields-text, fields-bad, fields-numbers}
@@ -38,11 +38,11 @@ abbrev other : ℕ → List (List ℕ) → Line Refusal Head
 other n fs = bad (refusal 1 n)
 
 -- what the two tests tell
-test : (c : tie.After-opens) → same (getD (split 9 (c .before .before .before .args .line .now)) 0 []) groupWord ≡ c .opens .result
-test c = opens-split (c .before .before .before .args .line .now) groupWord (c .opens .result) (c .opens .ensures)
+test : (c : tie.After-opens) → same (getD (split 9 (c .before .before .before .args .line .now)) 0 []) groupKeyword ≡ c .opens .result
+test c = opens-split (c .before .before .before .args .line .now) groupKeyword (c .opens .result) (c .opens .ensures)
 
 opened : (e : tie.Else1) → headLine 1 (e .before .before .before .before .args .line .now) ≡ of 1 (drop 1 (split 9 (e .before .before .before .before .args .line .now)))
-opened e = keyed-hit groupWord (of 1) (other 1) (e .before .before .before .before .args .line .now) (test (e .before) ∙ not-false _ (e .if1 .left))
+opened e = keyed-hit groupKeyword (of 1) (other 1) (e .before .before .before .before .args .line .now) (test (e .before) ∙ not-false _ (e .if1 .left))
 
 counted : (e : tie.Else2) → length (split 9 (e .before .before .before .before .before .before .args .line .now)) ≡ 7
 counted e = sym (e .before .part-count .ensures) ∙ e .if2 .left
@@ -146,7 +146,7 @@ refused-head-requires : tie.Need-refused-head-requires
 refused-head-requires c κs = tt
 
 returns : tie.Need-returns
-returns c = c .refused-head .ensures ∙ sym (ap headAnswer (keyed-miss groupWord (of 1) (other 1) (split 9 (c .before .before .before .before .before .args .line .now)) (test (c .before .before) ∙ not-true _ (c .before .if1 .taken))))
+returns c = c .refused-head .ensures ∙ sym (ap headAnswer (keyed-miss groupKeyword (of 1) (other 1) (split 9 (c .before .before .before .before .before .args .line .now)) (test (c .before .before) ∙ not-true _ (c .before .if1 .taken))))
 
 part-count-requires : tie.Need-part-count-requires
 part-count-requires c κs = tt

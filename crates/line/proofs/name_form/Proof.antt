@@ -6,14 +6,14 @@ use borrow.Author.Needs.{needs}
 use borrow.Author.Tests.{not-true, not-false}
 use lib.ListN.{length, drop}
 use Rattle.group.specs.Numbers.{nameMost}
-use Rattle.line.specs.Names.{nameBytes}
+use Rattle.line.specs.Names.{allNameBytes}
 use Rattle.line.specs.Answers.{formOf}
 use Rattle.line.proofs.NameLaws.{bytes-bad, bytes-good, bytes-end, name-empty, name-long, name-bytes}
 use Rattle.line.proofs.name_form.Statement.{statement}
 use Rattle.line.proofs.name_form.Tie as tie
 
 abbrev Inv-loop : tie.InvT-loop
-Inv-loop s i₀ i = (1 ≤ length s) × (length s ≤ nameMost) × (i ≤ length s) × (nameBytes (drop i s) ≡ nameBytes s)
+Inv-loop s i₀ i = (1 ≤ length s) × (length s ≤ nameMost) × (i ≤ length s) × (allNameBytes (drop i s) ≡ allNameBytes s)
 
 abbrev μ-loop : tie.MeasureT-loop
 μ-loop s i₀ i = length s - i

@@ -7,7 +7,7 @@ use lib.IntN.{pos}
 use Rattle.text.specs.Decimal.{intText}
 use Rattle.text.proofs.PutLaws.{Left, left-all, left-none, left-length, left-room, left-more, int-room, int-more, pieces, line-pieces}
 use Rattle.line.specs.Names.{nameText}
-use Rattle.line.specs.Lines.{gridWord, gridInts, gridText}
+use Rattle.line.specs.Lines.{gridKeyword, gridInts, gridText}
 use borrow.Author.Needs.{needs}
 use Rattle.line.proofs.put_grid.Statement.{statement}
 use Rattle.line.proofs.put_grid.Tie as tie
@@ -19,14 +19,14 @@ Rest s = Left (s .args .at) (gridText (s .args .grid) ++ (10 ∷ [])) (s .args .
 abbrev numbers : ℕ → tie.Start → List ℕ
 numbers k s = pieces (map intText (drop k (gridInts (s .args .grid)))) (10 ∷ [])
 
-left₀ : (s : tie.Start) → Rest s (gridWord ++ pieces (nameText (s .args .grid .name) ∷ map intText (gridInts (s .args .grid))) (10 ∷ [])) (s .args .at) (s .args .out .now)
-left₀ s = left-all (s .args .at) (gridText (s .args .grid) ++ (10 ∷ [])) (s .args .out .now) _ (line-pieces gridWord (nameText (s .args .grid .name) ∷ map intText (gridInts (s .args .grid))) (10 ∷ [])) (s .pre .1)
+left₀ : (s : tie.Start) → Rest s (gridKeyword ++ pieces (nameText (s .args .grid .name) ∷ map intText (gridInts (s .args .grid))) (10 ∷ [])) (s .args .at) (s .args .out .now)
+left₀ s = left-all (s .args .at) (gridText (s .args .grid) ++ (10 ∷ [])) (s .args .out .now) _ (line-pieces gridKeyword (nameText (s .args .grid .name) ∷ map intText (gridInts (s .args .grid))) (10 ∷ [])) (s .pre .1)
 
 abbrev s₁ : tie.After-put-bytes → tie.Start
 s₁ c = c .before .before .before .before
 
 left₁ : (c : tie.After-put-bytes) → Rest (s₁ c) (pieces (nameText ((s₁ c) .args .grid .name) ∷ map intText (gridInts ((s₁ c) .args .grid))) (10 ∷ [])) (c .put-bytes .result) (c .put-bytes .last .1 .0)
-left₁ c = left-more gridWord (pieces (nameText ((s₁ c) .args .grid .name) ∷ map intText (gridInts ((s₁ c) .args .grid))) (10 ∷ [])) (left₀ (c .before .before .before .before)) (c .put-bytes .ensures)
+left₁ c = left-more gridKeyword (pieces (nameText ((s₁ c) .args .grid .name) ∷ map intText (gridInts ((s₁ c) .args .grid))) (10 ∷ [])) (left₀ (c .before .before .before .before)) (c .put-bytes .ensures)
 
 abbrev s₂ : tie.After-put-name → tie.Start
 s₂ c = s₁ (c .before .before .before .before .before)

@@ -7,7 +7,7 @@ use lib.IntN.{pos}
 use Rattle.text.specs.Decimal.{intText}
 use Rattle.text.proofs.PutLaws.{Left, left-all, left-none, left-room, left-more, pieces, line-pieces}
 use Rattle.line.specs.Names.{nameText, unitText}
-use Rattle.line.specs.Lines.{groupWord, headInts, headText}
+use Rattle.line.specs.Lines.{groupKeyword, headInts, headText}
 use borrow.Author.Needs.{needs}
 use Rattle.line.proofs.put_head.Statement.{statement}
 use Rattle.line.proofs.put_head.Tie as tie
@@ -19,14 +19,14 @@ Rest s = Left (s .args .at) (headText (s .args .head) ++ (10 ∷ [])) (s .args .
 abbrev numbers : ℕ → tie.Start → List ℕ
 numbers k s = pieces (map intText (drop k (headInts (s .args .head)))) (10 ∷ [])
 
-left₀ : (s : tie.Start) → Rest s (groupWord ++ pieces (nameText (s .args .head .name) ∷ unitText (s .args .head .unit) ∷ map intText (headInts (s .args .head))) (10 ∷ [])) (s .args .at) (s .args .out .now)
-left₀ s = left-all (s .args .at) (headText (s .args .head) ++ (10 ∷ [])) (s .args .out .now) _ (line-pieces groupWord (nameText (s .args .head .name) ∷ unitText (s .args .head .unit) ∷ map intText (headInts (s .args .head))) (10 ∷ [])) (s .pre .1)
+left₀ : (s : tie.Start) → Rest s (groupKeyword ++ pieces (nameText (s .args .head .name) ∷ unitText (s .args .head .unit) ∷ map intText (headInts (s .args .head))) (10 ∷ [])) (s .args .at) (s .args .out .now)
+left₀ s = left-all (s .args .at) (headText (s .args .head) ++ (10 ∷ [])) (s .args .out .now) _ (line-pieces groupKeyword (nameText (s .args .head .name) ∷ unitText (s .args .head .unit) ∷ map intText (headInts (s .args .head))) (10 ∷ [])) (s .pre .1)
 
 abbrev s₁ : tie.After-put-bytes → tie.Start
 s₁ c = c .before .before .before .before
 
 left₁ : (c : tie.After-put-bytes) → Rest (s₁ c) (pieces (nameText ((s₁ c) .args .head .name) ∷ unitText ((s₁ c) .args .head .unit) ∷ map intText (headInts ((s₁ c) .args .head))) (10 ∷ [])) (c .put-bytes .result) (c .put-bytes .last .1 .0)
-left₁ c = left-more groupWord (pieces (nameText ((s₁ c) .args .head .name) ∷ unitText ((s₁ c) .args .head .unit) ∷ map intText (headInts ((s₁ c) .args .head))) (10 ∷ [])) (left₀ (c .before .before .before .before)) (c .put-bytes .ensures)
+left₁ c = left-more groupKeyword (pieces (nameText ((s₁ c) .args .head .name) ∷ unitText ((s₁ c) .args .head .unit) ∷ map intText (headInts ((s₁ c) .args .head))) (10 ∷ [])) (left₀ (c .before .before .before .before)) (c .put-bytes .ensures)
 
 abbrev s₂ : tie.After-put-name → tie.Start
 s₂ c = s₁ (c .before .before .before .before .before)

@@ -5,7 +5,7 @@ use native.Mathlib.Omega.{arith}
 use lib.ListN.{drop}
 use Rattle.text.specs.Decimal.{intText}
 use Rattle.text.proofs.PutLaws.{Left, left-all, left-none, left-room, left-more, int-room, int-more, pieces, line-pieces}
-use Rattle.line.specs.Lines.{rampWord, rampInts, rampText}
+use Rattle.line.specs.Lines.{rampKeyword, rampInts, rampText}
 use borrow.Author.Needs.{needs}
 use Rattle.line.proofs.put_ramp.Statement.{statement}
 use Rattle.line.proofs.put_ramp.Tie as tie
@@ -17,14 +17,14 @@ Rest s = Left (s .args .at) (rampText (s .args .ramp) ++ (10 ∷ [])) (s .args .
 abbrev numbers : ℕ → tie.Start → List ℕ
 numbers k s = pieces (map intText (drop k (rampInts (s .args .ramp)))) (10 ∷ [])
 
-left₀ : (s : tie.Start) → Rest s (rampWord ++ numbers 0 s) (s .args .at) (s .args .out .now)
-left₀ s = left-all (s .args .at) (rampText (s .args .ramp) ++ (10 ∷ [])) (s .args .out .now) _ (line-pieces rampWord (map intText (rampInts (s .args .ramp))) (10 ∷ [])) (s .pre)
+left₀ : (s : tie.Start) → Rest s (rampKeyword ++ numbers 0 s) (s .args .at) (s .args .out .now)
+left₀ s = left-all (s .args .at) (rampText (s .args .ramp) ++ (10 ∷ [])) (s .args .out .now) _ (line-pieces rampKeyword (map intText (rampInts (s .args .ramp))) (10 ∷ [])) (s .pre)
 
 abbrev s₁ : tie.After-put-bytes → tie.Start
 s₁ c = c .before .before .before .before
 
 left₁ : (c : tie.After-put-bytes) → Rest (s₁ c) (numbers 0 (s₁ c)) (c .put-bytes .result) (c .put-bytes .last .1 .0)
-left₁ c = left-more rampWord (numbers 0 (s₁ c)) (left₀ (c .before .before .before .before)) (c .put-bytes .ensures)
+left₁ c = left-more rampKeyword (numbers 0 (s₁ c)) (left₀ (c .before .before .before .before)) (c .put-bytes .ensures)
 
 abbrev s₂ : tie.After-put-number → tie.Start
 s₂ c = s₁ (c .before .before .before .before .before)

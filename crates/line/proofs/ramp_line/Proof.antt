@@ -16,7 +16,7 @@ use Rattle.group.specs.declared.Ramp.{Ramp}
 use Rattle.group.specs.declared.Refusal.{Refusal}
 use Rattle.group.specs.Refusals.{refusal}
 use Rattle.line.specs.Line.{Line, bad, good}
-use Rattle.line.specs.Lines.{fields, rampWord, rampTexts, rampFit, rampOf, rampLine}
+use Rattle.line.specs.Lines.{fields, rampKeyword, rampTexts, rampFit, rampOf, rampLine}
 use Rattle.line.specs.Answers.{rampAnswer}
 use Rattle.line.proofs.LineLaws.{keyed-miss, keyed-hit, fields-count, fields-bad, fields-numbers}
 use Rattle.line.proofs.LimitLaws.{ramp-small}
@@ -32,11 +32,11 @@ abbrev other : ℕ → List (List ℕ) → Line Refusal Ramp
 other n fs = bad (refusal 1 n)
 
 -- what the two tests tell
-test : (c : tie.After-opens) → same (getD (split 9 (c .before .before .before .args .line .now)) 0 []) rampWord ≡ c .opens .result
-test c = opens-split (c .before .before .before .args .line .now) rampWord (c .opens .result) (c .opens .ensures)
+test : (c : tie.After-opens) → same (getD (split 9 (c .before .before .before .args .line .now)) 0 []) rampKeyword ≡ c .opens .result
+test c = opens-split (c .before .before .before .args .line .now) rampKeyword (c .opens .result) (c .opens .ensures)
 
 opened : (e : tie.Else1) → rampLine (e .before .before .before .before .args .n) (e .before .before .before .before .args .line .now) ≡ of (e .before .before .before .before .args .n) (drop 1 (split 9 (e .before .before .before .before .args .line .now)))
-opened e = keyed-hit rampWord (of (e .before .before .before .before .args .n)) (other (e .before .before .before .before .args .n)) (e .before .before .before .before .args .line .now) (test (e .before) ∙ not-false _ (e .if1 .left))
+opened e = keyed-hit rampKeyword (of (e .before .before .before .before .args .n)) (other (e .before .before .before .before .args .n)) (e .before .before .before .before .args .line .now) (test (e .before) ∙ not-false _ (e .if1 .left))
 
 counted : (e : tie.Else2) → length (split 9 (e .before .before .before .before .before .before .args .line .now)) ≡ 5
 counted e = sym (e .before .part-count .ensures) ∙ e .if2 .left
@@ -105,7 +105,7 @@ refused-ramp-requires : tie.Need-refused-ramp-requires
 refused-ramp-requires c κs = tt
 
 returns : tie.Need-returns
-returns c = c .refused-ramp .ensures ∙ sym (ap rampAnswer (keyed-miss rampWord (of (c .before .before .before .before .before .args .n)) (other (c .before .before .before .before .before .args .n)) (split 9 (c .before .before .before .before .before .args .line .now)) (test (c .before .before) ∙ not-true _ (c .before .if1 .taken))))
+returns c = c .refused-ramp .ensures ∙ sym (ap rampAnswer (keyed-miss rampKeyword (of (c .before .before .before .before .before .args .n)) (other (c .before .before .before .before .before .args .n)) (split 9 (c .before .before .before .before .before .args .line .now)) (test (c .before .before) ∙ not-true _ (c .before .if1 .taken))))
 
 part-count-requires : tie.Need-part-count-requires
 part-count-requires c κs = tt

@@ -22,7 +22,7 @@ use Rattle.day.specs.Day.{factorOf}
 use Rattle.fix.specs.declared.Lookup.the-variants as L
 use Rattle.ingroup.specs.InGroup.{chosenIn}
 use Rattle.group.specs.Numbers.{dayFits}
-use Rattle.lookup.specs.Lookup.{pointFits, endsEarly, placeOf, fixAt, Ready}
+use Rattle.lookup.specs.Lookup.{pointFits, endsEarly, offsetOf, fixAt, LookupReady}
 use Rattle.lookup.proofs.StageLaws.{looked-6, looked-9, looked-13, looked-on}
 use borrow.Author.Needs.{needs}
 use Rattle.lookup.proofs.look_accepted.Statement.{statement}
@@ -95,7 +95,7 @@ returns-3 c =
     (λ i. L.Refused (record { number = 13; place = found q i + 1 }))
     ∙ sym (looked-13 (a .group) (a .nodes .now) (a .point) (a .day) (point q) (day q) (lt-ltb _ _ (subst (λ (n : ℕ). n < a .group .grids) (found q) (c .if3 .taken))))
 
-ready : (c : tie.Else3) → Ready (entry (c .before) .args .group) (length (entry (c .before) .args .nodes .now)) (entry (c .before) .args .point) (entry (c .before) .args .day)
+ready : (c : tie.Else3) → LookupReady (entry (c .before) .args .group) (length (entry (c .before) .args .nodes .now)) (entry (c .before) .args .point) (entry (c .before) .args .day)
 ready c =
     let q = c .before in
     record {
@@ -108,13 +108,13 @@ ready c =
 look-in-requires : tie.Need-look-in-requires
 look-in-requires c κs =
     let q = c .before in let s = entry q in
-    subst (λ (z : ℤ). Ready (s .args .group) (length (s .args .nodes .now)) (s .args .point) z) (sym (toZ-ofZ w64 (s .args .day) (s .fits .day))) (ready c)
+    subst (λ (z : ℤ). LookupReady (s .args .group) (length (s .args .nodes .now)) (s .args .point) z) (sym (toZ-ofZ w64 (s .args .day) (s .fits .day))) (ready c)
 
 returns-4 : tie.Need-returns-4
 returns-4 c =
     let q = c .before .before in let s = entry q in
     c .look-in .ensures
-    ∙ (λ i. fixAt (chosenIn (s .args .group) (s .args .point .lon .0) (s .args .point .lat .0)) (λ k. placeOf (gridAt (s .args .group) k) (s .args .group .parameters) (s .args .point)) (s .args .nodes .now) (factorOf (s .args .group .ramp) (s .args .group .ramps) (toZ-ofZ w64 (s .args .day) (s .fits .day) i)))
+    ∙ (λ i. fixAt (chosenIn (s .args .group) (s .args .point .lon .0) (s .args .point .lat .0)) (λ k. offsetOf (gridAt (s .args .group) k) (s .args .group .parameters) (s .args .point)) (s .args .nodes .now) (factorOf (s .args .group .ramp) (s .args .group .ramps) (toZ-ofZ w64 (s .args .day) (s .fits .day) i)))
     ∙ sym (looked-on (s .args .group) (s .args .nodes .now) (s .args .point) (s .args .day) (ready (c .before)))
 
 pub look-accepted-spec : {M : Type 1} → statement M

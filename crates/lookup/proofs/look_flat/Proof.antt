@@ -9,12 +9,12 @@ use mir.Syntax.{w64}
 use mir.ValLaws.{toZ-ofZ}
 use Rattle.group.specs.Numbers.{factorMost}
 use Rattle.numbers.specs.Lists.{at}
-use Rattle.choice.specs.Rect.{holds}
+use Rattle.choice.specs.Rect.{rectHolds}
 use Rattle.choice.specs.Choice.{chosen}
 use Rattle.choice.proofs.PartLaws.{chosen-part}
 use Rattle.lookup.specs.Lookup.{fixAt}
 use Rattle.flat.specs.Frames.{frameAt}
-use Rattle.lookup.specs.Flat.{placeIn}
+use Rattle.lookup.specs.Flat.{offsetIn}
 use Rattle.lookup.proofs.ChosenLaws.{laid-chosen}
 use borrow.Author.Needs.{needs}
 use Rattle.lookup.proofs.look_flat.Statement.{statement}
@@ -45,7 +45,7 @@ module _ (c : tie.After-chosen-at) where
   entry = c .before .before .before .before .before .before
 
   told : c .chosen-at .result
-      ≡ chosen (λ i. holds (entry .args .sides .now) i (entry .args .x) (entry .args .y)) (at (entry .args .ranks .now)) (entry .args .grids)
+      ≡ chosen (λ i. rectHolds (entry .args .sides .now) i (entry .args .x) (entry .args .y)) (at (entry .args .ranks .now)) (entry .args .grids)
   told =
       let a = entry .args in
       c .chosen-at .ensures
@@ -62,7 +62,7 @@ returns : tie.Need-returns
 returns c =
     let s = entry (c .before) in let a = s .args in
     c .fix-chosen .ensures
-    ∙ (λ i. fixAt (told (c .before) i) (λ k. placeIn (frameAt (a .frames .now) k) (a .np) (a .x) (a .y)) (a .nodes .now) (toZ-ofZ w64 (a .factor) (s .fits .factor) i))
+    ∙ (λ i. fixAt (told (c .before) i) (λ k. offsetIn (frameAt (a .frames .now) k) (a .np) (a .x) (a .y)) (a .nodes .now) (toZ-ofZ w64 (a .factor) (s .fits .factor) i))
 
 pub look-flat-spec : {M : Type 1} → statement M
 look-flat-spec =

@@ -8,7 +8,7 @@ use mir.ValLaws.{toZ-ofZ}
 use Rattle.group.specs.Numbers.{factorMost}
 use Rattle.lookup.specs.Lookup.{fixAt}
 use Rattle.flat.specs.Frames.{frameAt}
-use Rattle.lookup.specs.Flat.{placeIn}
+use Rattle.lookup.specs.Flat.{offsetIn}
 use Rattle.lookup.proofs.ChosenLaws.{rows-chosen}
 use borrow.Author.Needs.{needs}
 use Rattle.lookup.proofs.look_ranked.Statement.{statement}
@@ -31,7 +31,7 @@ returns : tie.Need-returns
 returns c =
     let s = entry (c .before) in let a = s .args in
     c .fix-chosen .ensures
-    ∙ (λ i. fixAt (c .before .first-holder .ensures i) (λ k. placeIn (frameAt (a .frames .now) k) (a .np) (a .x) (a .y)) (a .nodes .now) (toZ-ofZ w64 (a .factor) (s .fits .factor) i))
+    ∙ (λ i. fixAt (c .before .first-holder .ensures i) (λ k. offsetIn (frameAt (a .frames .now) k) (a .np) (a .x) (a .y)) (a .nodes .now) (toZ-ofZ w64 (a .factor) (s .fits .factor) i))
 
 pub look-ranked-spec : {M : Type 1} → statement M
 look-ranked-spec = tie.close (tie.spec first-holder-requires fix-chosen-requires returns)

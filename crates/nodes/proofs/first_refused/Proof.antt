@@ -6,7 +6,7 @@ use lib.Ieee.{Float, nan}
 use lib.ListN.{length, getD}
 use borrow.Author.Tests.{not-false}
 use Rattle.numbers.proofs.FirstLaws.{Passed, passed-none, passed-end, passed-found}
-use Rattle.nodes.specs.Load.{refused, firstRefused}
+use Rattle.nodes.specs.Load.{refusedFloat, firstRefused}
 use Rattle.nodes.specs.Plain.{AllPlain, greatest}
 use Rattle.nodes.proofs.Plain.{plain-passes}
 use Rattle.nodes.proofs.Blocks.{passed-to}
@@ -14,7 +14,7 @@ use Rattle.nodes.proofs.first_refused.Statement.{statement}
 use Rattle.nodes.proofs.first_refused.Tie as tie
 
 abbrev Inv-loop : tie.InvT-loop
-Inv-loop floats flag q hi a₀ a = Passed (λ k. refused q flag (getD floats k nan)) (length floats) a
+Inv-loop floats flag q hi a₀ a = Passed (λ k. refusedFloat q flag (getD floats k nan)) (length floats) a
 
 abbrev μ-loop : tie.MeasureT-loop
 μ-loop floats flag q hi a₀ a = length floats - a

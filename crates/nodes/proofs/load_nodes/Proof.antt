@@ -16,7 +16,7 @@ use Rattle.group.proofs.RefusalLaws.{if-here, if-past, at-here, at-past}
 use Rattle.nodes.specs.declared.Loaded.{Loaded}
 use Rattle.nodes.specs.declared.Loaded.the-variants.{Done, Refused}
 use Rattle.group.specs.Numbers.{quantumMost}
-use Rattle.nodes.specs.Load.{refused, nodeOf, firstRefused, loaded, loadedRefusal, nodesAfter}
+use Rattle.nodes.specs.Load.{refusedFloat, nodeOf, firstRefused, loaded, loadedRefusal, nodesAfter}
 use Rattle.nodes.proofs.load_nodes.Statement.{statement}
 use Rattle.nodes.proofs.load_nodes.Tie as tie
 
@@ -38,7 +38,7 @@ module _ (q : ℕ) (flag : Float) (floats : List Float) (nodes : List ℤ) where
         ∙ if-here Refused (not (eqb (length floats) (length nodes))) 12 0 _ (ap not (ne-eqb (length floats) (length nodes) n)))
 
     module _ (e : length floats ≡ length nodes) (i : ℕ) (f : i ≡ firstRefused q flag floats) where
-      fitted : loaded q flag floats (length nodes) ≡ refuseFirst Refused (λ k. refused q flag (getD floats k nan)) (length floats) 11 1 Done
+      fitted : loaded q flag floats (length nodes) ≡ refuseFirst Refused (λ k. refusedFloat q flag (getD floats k nan)) (length floats) 11 1 Done
       unfolding loaded
       fitted =
           if-past Refused (ltb quantumMost q) 2 0 _ (le-ltb quantumMost q h)
@@ -46,16 +46,16 @@ module _ (q : ℕ) (flag : Float) (floats : List Float) (nodes : List ℤ) where
 
       by-float : i < length floats → Refused (refusal 11 (i + 1)) ≡ loaded q flag floats (length nodes)
       unfolding firstRefused
-      by-float l = at-here Refused (λ k. refused q flag (getD floats k nan)) (length floats) 11 1 Done i f l ∙ sym fitted
+      by-float l = at-here Refused (λ k. refusedFloat q flag (getD floats k nan)) (length floats) 11 1 Done i f l ∙ sym fitted
 
       by-none : length floats ≤ i → Done ≡ loaded q flag floats (length nodes)
       unfolding firstRefused
-      by-none l = sym (fitted ∙ at-past Refused (λ k. refused q flag (getD floats k nan)) (length floats) 11 1 Done i f l)
+      by-none l = sym (fitted ∙ at-past Refused (λ k. refusedFloat q flag (getD floats k nan)) (length floats) 11 1 Done i f l)
 
 -- where no index is found, all floats are passed
 all-passed : (q : ℕ) (flag : Float) (floats : List Float) (i : ℕ) → i ≡ firstRefused q flag floats → length floats ≤ i → firstRefused q flag floats ≡ length floats
 unfolding firstRefused
-all-passed q flag floats i f h = omega (arith, first-le (λ k. refused q flag (getD floats k nan)) (length floats))
+all-passed q flag floats i f h = omega (arith, first-le (λ k. refusedFloat q flag (getD floats k nan)) (length floats))
 
 returns : tie.Need-returns
 unfolding lentAfter

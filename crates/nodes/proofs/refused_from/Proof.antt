@@ -7,12 +7,12 @@ use lib.Ieee.{nan}
 use lib.ListN.{getD}
 use borrow.Author.Needs.{needs}
 use Rattle.numbers.proofs.Nearest.{three-ways}
-use Rattle.nodes.specs.Load.{refused}
+use Rattle.nodes.specs.Load.{refusedFloat}
 use Rattle.nodes.proofs.refused_from.Statement.{statement}
 use Rattle.nodes.proofs.refused_from.Tie as tie
 
 abbrev Inv-loop : tie.InvT-loop
-Inv-loop floats a e flag q j₀ j = (a ≤ j) × (j ≤ e) × ((k : ℕ) → a ≤ k → k < j → refused q flag (getD floats k nan) ≡ false)
+Inv-loop floats a e flag q j₀ j = (a ≤ j) × (j ≤ e) × ((k : ℕ) → a ≤ k → k < j → refusedFloat q flag (getD floats k nan) ≡ false)
 
 abbrev μ-loop : tie.MeasureT-loop
 μ-loop floats a e flag q j₀ j = e - j
@@ -48,7 +48,7 @@ loop-again c =
       omega arith,
       λ k h m.
           three-ways k (l .loop .j) (l .loop .inv .2 k h)
-          (λ n. subst (λ (i : ℕ). refused (a .q) (a .flag) (getD (a .floats .now) i nan) ≡ false) (sym n) (sym (c .before .refuses .ensures) ∙ c .if1 .left))
+          (λ n. subst (λ (i : ℕ). refusedFloat (a .q) (a .flag) (getD (a .floats .now) i nan) ≡ false) (sym n) (sym (c .before .refuses .ensures) ∙ c .if1 .left))
           (λ n. absurd (omega arith)),
     )
 

@@ -6,7 +6,7 @@ use lib.Dec.{T, ltb}
 use lib.Ieee.{Float, isNan}
 use borrow.Author.Needs.{needs}
 use Rattle.group.specs.Numbers.{valueMost}
-use Rattle.nodes.specs.Load.{refused}
+use Rattle.nodes.specs.Load.{refusedFloat}
 use Rattle.nodes.specs.Size.{sizeOf}
 use Rattle.nodes.proofs.Marks.{Read, unmarked}
 use Rattle.nodes.proofs.Steps.{refused-size}
@@ -17,7 +17,7 @@ marked-requires : tie.Need-marked-requires
 marked-requires c κs = search needs
 
 returns : tie.Need-returns
-unfolding refused
+unfolding refusedFloat
 returns c = rw (← c .before .marked .ensures, c .if1 .taken)
 
 -- the float is what its bits say

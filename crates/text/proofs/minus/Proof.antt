@@ -7,11 +7,11 @@ use mir.Syntax.{w64}
 use mir.Val.{SFits, toZ, ofZ}
 use mir.Facts.{toZ-ofZ}
 use lib.IntN.{ℤ, pos, negℤ, _-ℤ_, +ℤ-idl}
-use Rattle.text.specs.Number.{most}
+use Rattle.text.specs.Number.{numberMost}
 use Rattle.text.proofs.minus.Statement.{statement}
 use Rattle.text.proofs.minus.Tie as tie
 
-fits : (m : ℕ) → m ≤ most → SFits w64 (negℤ (pos m))
+fits : (m : ℕ) → m ≤ numberMost → SFits w64 (negℤ (pos m))
 fits zero h = record { sfits = omega arith }
 fits (suc m) h = record { sfits = omega arith }
 

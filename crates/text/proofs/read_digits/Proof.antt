@@ -5,13 +5,13 @@ use native.Mathlib.Omega.{arith}
 use borrow.Author.Needs.{needs}
 use lib.ListN.{length, drop}
 use Rattle.text.specs.Decimal.{digitsFrom}
-use Rattle.text.specs.Number.{most, naturalOf}
+use Rattle.text.specs.Number.{numberMost, naturalOf}
 use Rattle.text.proofs.NumberLaws.{digits-low, digits-high, digits-step, digits-end}
 use Rattle.text.proofs.read_digits.Statement.{statement}
 use Rattle.text.proofs.read_digits.Tie as tie
 
 abbrev Inv-loop : tie.InvT-loop
-Inv-loop s a m₀ i₀ m i = (m ≤ most) × (i ≤ length s) × (naturalOf (digitsFrom m (drop i s)) ≡ naturalOf (digitsFrom 0 (drop a s)))
+Inv-loop s a m₀ i₀ m i = (m ≤ numberMost) × (i ≤ length s) × (naturalOf (digitsFrom m (drop i s)) ≡ naturalOf (digitsFrom 0 (drop a s)))
 
 abbrev μ-loop : tie.MeasureT-loop
 μ-loop s a m₀ i₀ m i = length s - i

@@ -1,0 +1,3 @@
+-- The definitions of the crate `abi`.
+pub mod Words
+pub mod Abi

@@ -1,0 +1,441 @@
+// A group as the C interface passes it, a list of numbers: from the list to the record and back.
+ghost use mathlib.Core.Path.{_≡_};
+ghost use mathlib.Core.Bool.{true};
+ghost use Prim.Native.Nat.{_+_, _*_, _/_, _%_, _≤_, _<_};
+ghost use lib.ListN.{length, getD};
+ghost use lib.Seq.{sets};
+ghost use Rattle.group.specs.Record.{noGrid};
+ghost use Rattle.group.specs.Blank.{blankGrid, blankRamp};
+ghost use Rattle.group.specs.Numbers.{nameMost, rampsMost, gridsMost};
+ghost use Rattle.abi.specs.Words.{nameWords, headWords, gridsFrom, groupWords};
+ghost use Rattle.abi.specs.Abi.{numberAt, countAt, listOf, byteOf, nameOfWords, unitOf, quantumOf, rampOfWords, gridOfWords, groupOfWords, clearFrom};
+ghost use Rattle.abi.specs.Abi.{stored, unitNumber, fourOf, nameNumber, rampNumbers, gridNumbers, headNumbers, joined, numbersOf};
+use group::GRIDS_MOST;
+use group::Grid;
+use group::Group;
+use group::Latitude;
+use group::Longitude;
+use group::NAME_MOST;
+use group::Name;
+use group::RAMPS_MOST;
+use group::Ramp;
+use group::Unit;
+
+// The numbers that hold a name, a group line, a ramp and a grid.
+const NAME_WORDS: usize = NAME_MOST / 8;
+
+const HEAD_WORDS: usize = 9;
+
+const RAMP_WORDS: usize = 4;
+
+const GRID_WORDS: usize = 12;
+
+// Where the grids begin, and the numbers of a group.
+const GRIDS_FROM: usize = HEAD_WORDS + RAMPS_MOST * RAMP_WORDS;
+
+pub const GROUP_WORDS: usize = GRIDS_FROM + GRIDS_MOST * GRID_WORDS;
+
+// The indices of the group line's numbers, behind its name.
+const LENGTH_INDEX: usize = NAME_WORDS;
+
+const UNIT_INDEX: usize = 4;
+
+const QUANTUM_INDEX: usize = 5;
+
+const PARAMETERS_INDEX: usize = 6;
+
+const RAMPS_INDEX: usize = 7;
+
+const GRIDS_INDEX: usize = 8;
+
+// The places of the first ramp's numbers.
+const A: usize = HEAD_WORDS;
+
+const S0: usize = HEAD_WORDS + 1;
+
+const B: usize = HEAD_WORDS + 2;
+
+const S1: usize = HEAD_WORDS + 3;
+
+// The places of the first grid's numbers, behind its name.
+const GRID_LENGTH: usize = GRIDS_FROM + LENGTH_INDEX;
+
+const LON: usize = GRIDS_FROM + 4;
+
+const LAT: usize = GRIDS_FROM + 5;
+
+const DLON: usize = GRIDS_FROM + 6;
+
+const DLAT: usize = GRIDS_FROM + 7;
+
+const NI: usize = GRIDS_FROM + 8;
+
+const NJ: usize = GRIDS_FROM + 9;
+
+const RANK: usize = GRIDS_FROM + 10;
+
+const START: usize = GRIDS_FROM + 11;
+
+// The greatest signed number, and the number above it.
+const SIGNED_MOST: i64 = 9223372036854775807;
+
+const ABOVE: u64 = SIGNED_MOST as u64 + 1;
+
+// Number k of a list, 0 past its end.
+pub fn number_at(numbers: &[i64], k: usize) -> i64
+    ensures { λ r. ⌜ r ≡ numberAt (now (numbers .entry)) k ⌝ }
+{
+    if k < numbers.len() {
+        return numbers[k];
+    }
+    0
+}
+
+// Number k of a list where the record is unsigned.
+pub fn count_at(numbers: &[i64], k: usize) -> u64
+    ensures { λ r. ⌜ r ≡ countAt (now (numbers .entry)) k ⌝ }
+{
+    numbers::count_of(number_at(numbers, k))
+}
+
+// Number k of a group's numbers.
+fn number_in(numbers: &[i64; GROUP_WORDS], k: usize) -> i64
+    requires { ⌜ k < groupWords ⌝ }
+    ensures { λ r. ⌜ r ≡ numberAt (now (numbers .entry)) k ⌝ }
+{
+    numbers[k]
+}
+
+// The same where the record is unsigned.
+fn count_in(numbers: &[i64; GROUP_WORDS], k: usize) -> u64
+    requires { ⌜ k < groupWords ⌝ }
+    ensures { λ r. ⌜ r ≡ countAt (now (numbers .entry)) k ⌝ }
+{
+    numbers::count_of(number_in(numbers, k))
+}
+
+// Byte j of eight that a number holds, the lowest first.
+fn byte_of(word: u64, j: u64) -> u8
+    requires { ⌜ j < 8 ⌝ }
+    ensures { λ r. ⌜ r ≡ byteOf word j ⌝ }
+{
+    ((word >> (8 * j)) % 256) as u8
+}
+
+// The bytes that three numbers hold, eight each.
+fn bytes_of(words: [u64; NAME_WORDS]) -> [u8; NAME_MOST]
+    ensures { λ r. ⌜ r ≡ listOf (λ j. byteOf (getD words (j / 8) 0) (j % 8)) nameMost ⌝ }
+{
+    let mut bytes = [0u8; NAME_MOST];
+    let mut i = 0;
+    while i < NAME_MOST {
+        bytes[i] = byte_of(words[i / 8], (i % 8) as u64);
+        i += 1;
+    }
+    bytes
+}
+
+// The name of a length whose bytes stand in three numbers from place k on.
+fn name_of_words(numbers: &[i64; GROUP_WORDS], k: usize, len: u64) -> Name
+    requires { ⌜ k + nameWords ≤ groupWords ⌝ }
+    ensures { λ r. ⌜ r ≡ nameOfWords (now (numbers .entry)) k len ⌝ }
+{
+    let bytes = bytes_of([
+        count_in(numbers, k),
+        count_in(numbers, k + 1),
+        count_in(numbers, k + 2),
+    ]);
+    Name {
+        bytes: bytes,
+        len: len,
+    }
+}
+
+// The unit of a number: 0 is arc-second, 1 is metre.
+fn unit_of(x: i64) -> Unit
+    ensures { λ r. ⌜ r ≡ unitOf x ⌝ }
+{
+    if (0 <= x) & (x <= 0) {
+        return Unit::ArcSecond;
+    }
+    Unit::Metre
+}
+
+// Q, beyond its limit if the unit is neither 0 nor 1.
+fn quantum_of(numbers: &[i64; GROUP_WORDS]) -> u64
+    ensures { λ r. ⌜ r ≡ quantumOf (now (numbers .entry)) ⌝ }
+{
+    let u = number_in(numbers, UNIT_INDEX);
+    if (0 <= u) & (u <= 1) {
+        return count_in(numbers, QUANTUM_INDEX);
+    }
+    numbers::BEYOND
+}
+
+// Ramp k of a group's numbers.
+fn ramp_of_words(numbers: &[i64; GROUP_WORDS], k: usize) -> Ramp
+    requires { ⌜ k < rampsMost ⌝ }
+    ensures { λ r. ⌜ r ≡ rampOfWords (now (numbers .entry)) k ⌝ }
+{
+    Ramp {
+        a: number_in(numbers, k * RAMP_WORDS + A),
+        s0: number_in(numbers, k * RAMP_WORDS + S0),
+        b: number_in(numbers, k * RAMP_WORDS + B),
+        s1: number_in(numbers, k * RAMP_WORDS + S1),
+    }
+}
+
+// Grid k of a group's numbers.
+fn grid_of_words(numbers: &[i64; GROUP_WORDS], k: usize) -> Grid
+    requires { ⌜ k < gridsMost ⌝ }
+    ensures { λ r. ⌜ r ≡ gridOfWords (now (numbers .entry)) k ⌝ }
+{
+    let name = name_of_words(
+        numbers,
+        k * GRID_WORDS + GRIDS_FROM,
+        count_in(numbers, k * GRID_WORDS + GRID_LENGTH),
+    );
+    Grid {
+        name: name,
+        lon: Longitude(number_in(numbers, k * GRID_WORDS + LON)),
+        lat: Latitude(number_in(numbers, k * GRID_WORDS + LAT)),
+        dlon: number_in(numbers, k * GRID_WORDS + DLON),
+        dlat: number_in(numbers, k * GRID_WORDS + DLAT),
+        ni: count_in(numbers, k * GRID_WORDS + NI),
+        nj: count_in(numbers, k * GRID_WORDS + NJ),
+        rank: count_in(numbers, k * GRID_WORDS + RANK),
+        start: count_in(numbers, k * GRID_WORDS + START),
+    }
+}
+
+// Whether the four numbers from place k on are all 0.
+fn four_clear(numbers: &[i64; GROUP_WORDS], k: usize) -> bool
+    requires { ⌜ k + 3 < groupWords ⌝ }
+    ensures { λ r. ⌜ r ≡ clearFrom (now (numbers .entry)) k ⌝ }
+{
+    let a = numbers[k];
+    let b = numbers[k + 1];
+    let c = numbers[k + 2];
+    let d = numbers[k + 3];
+    ((0 <= a) & (a <= 0)) & ((0 <= b) & (b <= 0)) & ((0 <= c) & (c <= 0)) & ((0 <= d) & (d <= 0))
+}
+
+// Whether the twelve numbers of grid k are all 0.
+fn grid_clear(numbers: &[i64; GROUP_WORDS], k: usize) -> bool
+    requires { ⌜ k < gridsMost ⌝ }
+    ensures { λ r. ⌜ (r ≡ true → gridOfWords (now (numbers .entry)) k ≡ blankGrid) ⌝ }
+{
+    four_clear(numbers, k * GRID_WORDS + GRIDS_FROM)
+        & four_clear(numbers, k * GRID_WORDS + LON)
+        & four_clear(numbers, k * GRID_WORDS + NI)
+}
+
+// The ramps of a group's numbers.
+fn ramps_of(numbers: &[i64; GROUP_WORDS]) -> [Ramp; RAMPS_MOST]
+    ensures { λ r. ⌜ r ≡ listOf (rampOfWords (now (numbers .entry))) rampsMost ⌝ }
+{
+    let blank = group::blank_ramp();
+    let mut ramps = [blank; RAMPS_MOST];
+    let mut i = 0;
+    while i < RAMPS_MOST {
+        let ramp = ramp_of_words(numbers, i);
+        ramps[i] = ramp;
+        i += 1;
+    }
+    ramps
+}
+
+// The grids of a group's numbers: where the last is unused, each unused one is a copy of it.
+fn grids_of(numbers: &[i64; GROUP_WORDS]) -> [Grid; GRIDS_MOST]
+    ensures { λ r. ⌜ r ≡ listOf (gridOfWords (now (numbers .entry))) gridsMost ⌝ }
+{
+    let last = grid_of_words(numbers, GRIDS_MOST - 1);
+    let spare = grid_clear(numbers, GRIDS_MOST - 1);
+    let mut grids = [last; GRIDS_MOST];
+    let mut i = 0;
+    while i < GRIDS_MOST {
+        let clear = grid_clear(numbers, i);
+        if !(spare & clear) {
+            let grid = grid_of_words(numbers, i);
+            grids[i] = grid;
+        }
+        i += 1;
+    }
+    grids
+}
+
+// The group that a list of numbers stands for.
+pub fn group_of_words(numbers: &[i64; GROUP_WORDS]) -> Group
+    ensures { λ r. ⌜ r ≡ groupOfWords (now (numbers .entry)) ⌝ }
+{
+    let name = name_of_words(numbers, 0, count_in(numbers, LENGTH_INDEX));
+    let ramp = ramps_of(numbers);
+    let grid = grids_of(numbers);
+    Group {
+        name: name,
+        unit: unit_of(number_in(numbers, UNIT_INDEX)),
+        quantum: quantum_of(numbers),
+        parameters: count_in(numbers, PARAMETERS_INDEX),
+        ramps: count_in(numbers, RAMPS_INDEX),
+        grids: count_in(numbers, GRIDS_INDEX),
+        ramp: ramp,
+        grid: grid,
+    }
+}
+
+// An unsigned number as it is stored.
+pub fn as_stored(n: u64) -> i64
+    ensures { λ r. ⌜ r ≡ stored n ⌝ }
+{
+    if n < ABOVE {
+        return n as i64;
+    }
+    SIGNED_MOST
+}
+
+// Stores numbers from place k on.
+pub fn store_numbers(out: &mut [i64], k: usize, numbers: &[i64])
+    requires { ⌜ k + length (now numbers) ≤ length (now out) ⌝ }
+    ensures { λ _. ⌜ now (out .exit) ≡ sets (now (out .entry)) k (now (numbers .entry)) ⌝ }
+{
+    let mut i = 0;
+    while i < numbers.len() {
+        out[k + i] = numbers[i];
+        i += 1;
+    }
+}
+
+// A byte, widened.
+fn wide(x: u8) -> u64
+    ensures { λ r. ⌜ (r ≡ x) × (r < 256) ⌝ }
+{
+    x as u64
+}
+
+// Four bytes as one number, the first lowest.
+fn four(a: u8, b: u8, c: u8, d: u8) -> u64
+    ensures { λ r. ⌜ (r ≡ fourOf a b c d) × (r < 4294967296) ⌝ }
+{
+    wide(a) + wide(b) * 256 + wide(c) * 65536 + wide(d) * 16777216
+}
+
+// Number w of the three that hold the bytes of a name.
+fn name_number(name: Name, w: usize) -> i64
+    requires { ⌜ w < nameWords ⌝ }
+    ensures { λ r. ⌜ r ≡ nameNumber name w ⌝ }
+{
+    let i = w * 8;
+    let low = four(
+        name.bytes[i],
+        name.bytes[i + 1],
+        name.bytes[i + 2],
+        name.bytes[i + 3],
+    );
+    let high = four(
+        name.bytes[i + 4],
+        name.bytes[i + 5],
+        name.bytes[i + 6],
+        name.bytes[i + 7],
+    );
+    as_stored(low + high * 4294967296)
+}
+
+// The number of a unit.
+fn unit_number(unit: Unit) -> i64
+    ensures { λ r. ⌜ r ≡ unitNumber unit ⌝ }
+{
+    match unit {
+        Unit::ArcSecond => 0,
+        Unit::Metre => 1,
+    }
+}
+
+// The numbers of a group's line.
+fn head_numbers(group: Group) -> [i64; HEAD_WORDS]
+    ensures { λ r. ⌜ r ≡ headNumbers group ⌝ }
+{
+    let unit = group.unit;
+    let name = group.name;
+    [
+        name_number(name, 0),
+        name_number(name, 1),
+        name_number(name, 2),
+        as_stored(group.name.len),
+        unit_number(unit),
+        as_stored(group.quantum),
+        as_stored(group.parameters),
+        as_stored(group.ramps),
+        as_stored(group.grids),
+    ]
+}
+
+// The numbers of a grid's line.
+fn grid_numbers(g: Grid) -> [i64; GRID_WORDS]
+    ensures { λ r. ⌜ r ≡ gridNumbers g ⌝ }
+{
+    let name = g.name;
+    [
+        name_number(name, 0),
+        name_number(name, 1),
+        name_number(name, 2),
+        as_stored(g.name.len),
+        g.lon.0,
+        g.lat.0,
+        g.dlon,
+        g.dlat,
+        as_stored(g.ni),
+        as_stored(g.nj),
+        as_stored(g.rank),
+        as_stored(g.start),
+    ]
+}
+
+// Stores the numbers of all ramps.
+fn store_ramps(out: &mut [i64], ramps: [Ramp; RAMPS_MOST])
+    requires { ⌜ gridsFrom ≤ length (now out) ⌝ }
+    ensures { λ _. ⌜ now (out .exit) ≡ sets (now (out .entry)) headWords (joined (λ k. rampNumbers (getD ramps k blankRamp)) rampsMost) ⌝ }
+{
+    let mut i = 0;
+    while i < RAMPS_MOST {
+        let r = ramps[i];
+        let numbers = [r.a, r.s0, r.b, r.s1];
+        store_numbers(out, i * RAMP_WORDS + HEAD_WORDS, &numbers);
+        i += 1;
+    }
+}
+
+// Stores the numbers of all grids.
+fn store_grids(out: &mut [i64], grids: [Grid; GRIDS_MOST])
+    requires { ⌜ groupWords ≤ length (now out) ⌝ }
+    ensures { λ _. ⌜ now (out .exit) ≡ sets (now (out .entry)) gridsFrom (joined (λ k. gridNumbers (getD grids k noGrid)) gridsMost) ⌝ }
+{
+    let mut i = 0;
+    while i < GRIDS_MOST {
+        let g = grids[i];
+        let numbers = grid_numbers(g);
+        store_numbers(out, i * GRID_WORDS + GRIDS_FROM, &numbers);
+        i += 1;
+    }
+}
+
+// Stores a group from place 0 on.
+fn store_group(out: &mut [i64], group: Group)
+    requires { ⌜ groupWords ≤ length (now out) ⌝ }
+    ensures { λ _. ⌜ now (out .exit) ≡ sets (now (out .entry)) 0 (numbersOf group) ⌝ }
+{
+    let head = head_numbers(group);
+    let ramps = group.ramp;
+    let grids = group.grid;
+    store_numbers(out, 0, &head);
+    store_ramps(out, ramps);
+    store_grids(out, grids);
+}
+
+// The numbers of a group.
+pub fn numbers_of(group: Group) -> [i64; GROUP_WORDS]
+    ensures { λ r. ⌜ r ≡ numbersOf group ⌝ }
+{
+    let mut out = [0i64; GROUP_WORDS];
+    store_group(&mut out, group);
+    out
+}

@@ -1,3 +1,0 @@
--- The definitions of the crate `layout`.
-pub mod Words
-pub mod Layout
