@@ -18,7 +18,8 @@ use Rattle.numbers.proofs.OrderLaws.{within-size, within-test, leZ-refl}
 use Rattle.group.specs.Numbers.{valueMost, mark, valueFits, isMark}
 use Rattle.cell.specs.declared.Weights.{Weights}
 use Rattle.cell.specs.declared.Corners.{Corners}
-use Rattle.cell.specs.Cell.{used, usedSome, isBeyond, weightedSum, valueOf, weightsOf, Distances, Weighed}
+use Rattle.cell.specs.Cell.{used, usedSome, isBeyond, weightedSum, valueOf, weightsOf}
+use Rattle.cell.specs.Sizes.{Distances, Weighed}
 use Rattle.cell.specs.Used.{Unless, EachUsed, SomeUsed, SameUsed}
 use Rattle.cell.specs.Unsigned.{blended, valueShift, shiftedMost, Shifted}
 use Rattle.cell.proofs.WeightLaws.{weighed}

@@ -3,7 +3,8 @@ use Prim.Native.Nat.{ℕ, _+_, _-_, _*_, _≤_}
 use mathlib.Core.Path.{_≡_, sym, ap, _∙_}
 use native.Mathlib.Nat.{mul-le-mul, mul-pos, mul-add, add-mul, sub-add-cancel}
 use native.Mathlib.Omega.{arith}
-use Rattle.cell.specs.Cell.{Distances, weightsOf, Weighed}
+use Rattle.cell.specs.Cell.{weightsOf}
+use Rattle.cell.specs.Sizes.{Distances, Weighed}
 
 -- the four weights add to sx·sy
 weights-add : {sx sy fx fy : ℕ} → fx ≤ sx → fy ≤ sy

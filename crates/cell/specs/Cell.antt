@@ -1,11 +1,10 @@
 -- Document 01's cell: its index along an axis, the weights of its corners, which of them are used, and the value at a point.
-use Prim.Native.Nat.{ℕ, _+_, _-_, _*_, _/_, _≤_, _<_, min}
-use mathlib.Core.Path.{_≡_}
+use Prim.Native.Nat.{ℕ, _-_, _*_, _/_, min}
 use mathlib.Core.Bool.{Bool, not, _&&_, _||_}
 use lib.Dec.{ltb}
 use lib.IntN.{ℤ, pos, _+ℤ_, _*ℤ_}
 use Rattle.numbers.specs.Round.{roundZ}
-use Rattle.group.specs.Numbers.{spacingMost, valueFits}
+use Rattle.group.specs.Numbers.{valueFits}
 use Rattle.cell.specs.declared.Along.{Along}
 use Rattle.cell.specs.declared.Weights.{Weights}
 use Rattle.cell.specs.declared.Corners.{Corners}
@@ -22,15 +21,6 @@ cellAlong distance spacing count =
       rest = distance - cellIndex distance spacing count * spacing;
     }
 
--- spacing sizes sx, sy, and distances fx, fy from the cell's node of lower indices
-pub record Distances (sx sy fx fy : ℕ) : Type 0 where
-  pub sx-pos : 0 < sx
-  pub sy-pos : 0 < sy
-  pub sx-most : sx ≤ spacingMost
-  pub sy-most : sy ≤ spacingMost
-  pub fx-most : fx ≤ sx
-  pub fy-most : fy ≤ sy
-
 unfoldable pub weightsOf : (sx sy fx fy : ℕ) → Weights
 weightsOf sx sy fx fy =
     record {
@@ -40,12 +30,6 @@ weightsOf sx sy fx fy =
       w11 = fx * fy;
       total = sx * sy;
     }
-
--- the weights add to the total
-pub record Weighed (w : Weights) : Type 0 where
-  pub sum : w .w00 + w .w10 + w .w01 + w .w11 ≡ w .total
-  pub positive : 0 < w .total
-  pub most : w .total ≤ spacingMost * spacingMost
 
 -- beyond the limit of node values
 abbrev pub isBeyond : ℤ → Bool

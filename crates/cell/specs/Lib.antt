@@ -1,4 +1,5 @@
 -- What the contracts of `cell` cite.
 pub mod Cell
+pub mod Sizes
 pub mod Used
 pub mod Unsigned

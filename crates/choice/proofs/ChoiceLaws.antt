@@ -6,7 +6,8 @@ use native.Mathlib.Omega.{arith}
 use native.Mathlib.Decide.{decLt}
 use borrow.Author.Tests.{ltb-true, ltb-false, lt-ltb}
 use Rattle.numbers.proofs.Bools.{true-false}
-use Rattle.choice.specs.Choice.{better, betterOf, chosen, blocks}
+use Rattle.choice.specs.Choice.{better, betterOf, chosen}
+use Rattle.choice.specs.Blocks.{blocks}
 
 -- of the first n grids that hold the point, i has the lowest rank number, and is the first that has it
 pub record Best (held : ℕ → Bool) (rank : ℕ → ℕ) (n i : ℕ) : Type 0 where

@@ -16,7 +16,3 @@ betterOf held rank i c = cond (held && better rank i c) (suc i) c
 unfoldable pub chosen : (ℕ → Bool) → (ℕ → ℕ) → ℕ → ℕ
 chosen held rank zero = 0
 chosen held rank (suc i) = let c = chosen held rank i in betterOf (held i) rank i c
-
--- grid j, where it holds the point too, comes before grid g
-unfoldable pub blocks : (ℕ → ℕ) → ℕ → ℕ → Bool
-blocks rank j g = ltb (rank j) (rank g)

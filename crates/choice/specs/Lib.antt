@@ -1,4 +1,5 @@
 -- What the contracts of `choice` cite.
 pub mod Rect
 pub mod Choice
+pub mod Blocks
 pub mod Holder

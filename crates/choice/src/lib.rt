@@ -4,7 +4,8 @@ ghost use Prim.Native.Nat.{_+_, _*_, _<_, _≤_};
 ghost use lib.ListN.{length};
 ghost use Rattle.numbers.specs.Lists.{at};
 ghost use Rattle.choice.specs.Rect.{rectHolds, pairCount};
-ghost use Rattle.choice.specs.Choice.{betterOf, blocks, chosen};
+ghost use Rattle.choice.specs.Choice.{betterOf, chosen};
+ghost use Rattle.choice.specs.Blocks.{blocks};
 ghost use Rattle.choice.specs.Holder.{holder};
 
 // How many rectangles have all four sides, and a number in a second list.

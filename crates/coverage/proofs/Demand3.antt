@@ -14,8 +14,9 @@ use Rattle.region.specs.declared.Spot.{Spot}
 use Rattle.region.specs.declared.Spot.the-variants.{At, Nothing}
 use Rattle.region.specs.declared.Bounds.{Bounds}
 use Rattle.region.proofs.SearchLaws.{at-first, none-first, first-same}
-use Rattle.coverage.specs.Rectangles.{firstTaken}
-use Rattle.coverage.specs.InForce.{entriesOf, inForceBy, noEntry, Inside, EntryPlaced, Ordered, EntriesInForce}
+use Rattle.coverage.specs.InForce.{firstTaken, entriesOf, inForceBy}
+use Rattle.coverage.specs.Listing.{noEntry}
+use Rattle.coverage.specs.Demand3.{Inside, EntryPlaced, Ordered, EntriesInForce}
 use Rattle.coverage.specs.declared.Entry.{Entry}
 use Rattle.numbers.proofs.Lists.{at-mem, mem-at, pairs-at, pairs-by}
 use Rattle.coverage.proofs.EntryLaws.{entries≤, mem-entries, entries-mem, pairs-entries}

@@ -12,7 +12,8 @@ use Rattle.numbers.specs.Lists.{at}
 use Rattle.region.specs.declared.Spot.{Spot}
 use Rattle.region.specs.declared.Spot.the-variants.{At, Nothing}
 use Rattle.coverage.specs.Rectangles.{entriesMost}
-use Rattle.coverage.specs.InForce.{entryOf, entriesOf, noEntry, filled, listingOf}
+use Rattle.coverage.specs.InForce.{entryOf, entriesOf}
+use Rattle.coverage.specs.Listing.{noEntry, filled, listingOf}
 use Rattle.coverage.specs.declared.Entry.{Entry}
 use Rattle.coverage.specs.declared.Listing.{Listing}
 use Rattle.numbers.proofs.Lists.{Pairs, pairs-one, pairs-append}

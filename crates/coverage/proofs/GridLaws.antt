@@ -14,16 +14,17 @@ use Rattle.numbers.proofs.FirstLaws.{some-by, by-some}
 use Rattle.numbers.proofs.Bools.{and-left, and-right, or-cases, both, or-left, or-right, untrue, true-false}
 use Rattle.numbers.specs.Lists.{at}
 use Rattle.choice.specs.Rect.{westOf, eastOf, southOf, northOf, rectHolds}
-use Rattle.choice.specs.Choice.{blocks}
+use Rattle.choice.specs.Blocks.{blocks}
 use Rattle.choice.proofs.RectLaws.{RectHolds, rect-holds-true, true-rect-holds}
 use Rattle.choice.proofs.ChoiceLaws.{chosen-unblocked, unblocked-chosen}
-use Rattle.region.specs.First.{firstIn, earlier}
+use Rattle.region.specs.First.{firstIn}
+use Rattle.region.specs.Earlier.{earlier}
 use Rattle.region.specs.declared.Bounds.{Bounds}
 use Rattle.region.specs.declared.Spot.{Spot}
 use Rattle.region.specs.declared.Spot.the-variants.{Nothing}
 use Rattle.region.proofs.SearchLaws.{narrow, first-same, first-none, first-either}
 use Rattle.coverage.specs.Rectangles.{Rectangles, ownHolds, gridHolds, chosenAt, firstChosen, SoundRects}
-use Rattle.coverage.specs.InForce.{Inside}
+use Rattle.coverage.specs.Demand3.{Inside}
 use Rattle.coverage.specs.Steps.{blockHolds, unblocked, firstOf, firstOfRect, partOf}
 
 -- a rectangle of a grid, and the grid

@@ -1,4 +1,6 @@
 -- What the contracts of `coverage` cite.
 pub mod Rectangles
 pub mod InForce
+pub mod Listing
+pub mod Demand3
 pub mod Steps

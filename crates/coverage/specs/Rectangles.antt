@@ -9,9 +9,9 @@ use Rattle.numbers.specs.First.{some}
 use Rattle.numbers.specs.Lists.{at}
 use Rattle.choice.specs.Rect.{rectHolds}
 use Rattle.choice.specs.Choice.{chosen}
-use Rattle.region.specs.First.{firstIn}
 use Rattle.region.specs.declared.Bounds.{Bounds}
 use Rattle.region.specs.declared.Spot.{Spot}
+use Rattle.coverage.specs.InForce.{firstTaken}
 
 -- the most grids, and so entries of a list, and the most rectangles, three for each
 abbrev pub entriesMost : ℕ
@@ -40,10 +40,6 @@ gridHolds l g x y = some (ownHolds (l .rects) (l .owners) g x y) (length (l .own
 -- the number, from 1, of the grid chosen at the point, 0 if none is
 unfoldable pub chosenAt : Rectangles → ℕ → ℕ → ℕ
 chosenAt l x y = chosen (λ g. gridHolds l g x y) (at (l .ranks)) (length (l .ranks))
-
--- the southmost, then westmost coordinate of the area at which a choice takes the grid numbered k
-abbrev pub firstTaken : (ℕ → ℕ → ℕ) → Bounds → ℕ → Spot
-firstTaken choose a k = firstIn (λ x y. eqb (choose x y) k) (a .west) (a .east) (a .south) (a .north)
 
 abbrev pub firstChosen : Rectangles → Bounds → ℕ → Spot
 firstChosen l a k = firstTaken (chosenAt l) a k

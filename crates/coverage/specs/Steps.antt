@@ -9,7 +9,7 @@ use lib.ListN.{length, set}
 use Rattle.numbers.specs.First.{some}
 use Rattle.numbers.specs.Lists.{at}
 use Rattle.choice.specs.Rect.{westOf, eastOf, southOf, northOf, rectHolds}
-use Rattle.choice.specs.Choice.{blocks}
+use Rattle.choice.specs.Blocks.{blocks}
 use Rattle.region.specs.First.{firstIn}
 use Rattle.region.specs.declared.Bounds.{Bounds}
 use Rattle.region.specs.declared.Spot.{Spot}

@@ -13,7 +13,8 @@ use Rattle.numbers.proofs.Bools.{and-left, and-right, both}
 use Rattle.numbers.proofs.OrderLaws.{within-size, raised-order, min-max, shared-overlap, overlap-shared}
 use Rattle.group.specs.declared.Grid.{Grid}
 use Rattle.extent.specs.declared.Sides.{Sides}
-use Rattle.extent.specs.Extent.{lonAxis, latAxis, farEdge, spanOf, lonSpan, latSpan, lonMeet, latMeet, meet, inside, Sized, lonHolds, latHolds, holds}
+use Rattle.extent.specs.Extent.{lonAxis, latAxis, farEdge, spanOf, lonSpan, latSpan, lonMeet, latMeet, meet, inside, lonHolds, latHolds, holds}
+use Rattle.extent.specs.Sizes.{Sized}
 use Rattle.extent.specs.Sides.{lonFromLeast, latFromLeast, sidesOf, Edges}
 
 -- the lesser and the greater of two numbers are no larger than the larger in size

@@ -1,11 +1,11 @@
 -- A grid's extent, from least to greatest in each direction, edges included; its node range; and refusal 4.
-use Prim.Native.Nat.{ℕ, _+_, _*_, _-_, _≤_}
+use Prim.Native.Nat.{ℕ, _+_, _*_, _-_}
 use mathlib.Core.Bool.{Bool, _&&_}
 use lib.Dec.{leb}
-use lib.IntN.{ℤ, pos, natAbs, _+ℤ_, _*ℤ_}
+use lib.IntN.{ℤ, pos, _+ℤ_, _*ℤ_}
 use lib.Signed.{leZ}
 use Rattle.numbers.specs.Order.{between, minZ, maxZ}
-use Rattle.group.specs.Numbers.{lonEdgeMost, lonEdgeFits, latEdgeFits, spacingMost, nodesLeast, nodesMost, startMost, listMost}
+use Rattle.group.specs.Numbers.{lonEdgeFits, latEdgeFits, listMost}
 use Rattle.group.specs.declared.Grid.{Grid}
 use Rattle.extent.specs.declared.Axis.{Axis}
 use Rattle.extent.specs.declared.Span.{Span}
@@ -59,16 +59,3 @@ nodeEnd np g = g .start + g .ni * g .nj * np
 -- the far edges are within the limits, and the node range ends within the longest list
 unfoldable pub inside : ℕ → Grid → Bool
 inside np g = lonEdgeFits (farEdge (lonAxis g)) && latEdgeFits (farEdge (latAxis g)) && leb (nodeEnd np g) listMost
-
--- sizes that keep an axis's far edge within 64 bits
-pub record Reach (a : Axis) : Type 0 where
-  pub at-size : natAbs (a .at) ≤ lonEdgeMost
-  pub step-size : natAbs (a .step) ≤ spacingMost
-  pub least : nodesLeast ≤ a .nodes
-  pub most : a .nodes ≤ nodesMost
-
--- sizes that keep a grid's far edges and its node range within 64 bits
-pub record Sized (g : Grid) : Type 0 where
-  pub lon : Reach (lonAxis g)
-  pub lat : Reach (latAxis g)
-  pub first : g .start ≤ startMost

@@ -1,3 +1,4 @@
 -- What the contracts of `extent` cite.
 pub mod Extent
+pub mod Sizes
 pub mod Sides

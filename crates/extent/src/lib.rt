@@ -2,7 +2,8 @@
 ghost use mathlib.Core.Path.{_≡_};
 ghost use Prim.Native.Nat.{_≤_};
 ghost use Rattle.group.specs.Numbers.{parametersMost};
-ghost use Rattle.extent.specs.Extent.{lonAxis, latAxis, farEdge, spanOf, lonSpan, latSpan, nodeEnd, inside, Reach, Sized};
+ghost use Rattle.extent.specs.Extent.{lonAxis, latAxis, farEdge, spanOf, lonSpan, latSpan, nodeEnd, inside};
+ghost use Rattle.extent.specs.Sizes.{Reach, Sized};
 ghost use Rattle.extent.specs.Sides.{lonFromLeast, latFromLeast, sidesOf};
 use group::Grid;
 use group::Latitude;

@@ -8,7 +8,8 @@ use Rattle.cell.specs.Cell.{cellAlong}
 use Rattle.cell.proofs.AlongLaws.{along-node}
 use Rattle.cell.proofs.ValueLaws.{node-00, node-10, node-01, node-11}
 use Rattle.fix.specs.declared.Offset.{Offset}
-use Rattle.fix.specs.Fix.{InsideGrid, cellOf, nodeAt, cornersAt, cornersOf, valueIn}
+use Rattle.fix.specs.Fix.{cellOf, nodeAt, cornersAt, cornersOf, valueIn}
+use Rattle.fix.specs.Inside.{InsideGrid}
 use Rattle.fix.proofs.OffsetLaws.{distances}
 
 -- the point is node i of an axis: the first or the last node of its cell

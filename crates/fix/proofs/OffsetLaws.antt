@@ -9,12 +9,14 @@ use borrow.Author.Tests.{ltb-false}
 use lib.IntN.{ℤ, natAbs}
 use Rattle.numbers.proofs.FirstLaws.{none-at}
 use Rattle.group.specs.Numbers.{listMost, valueMost}
-use Rattle.cell.specs.Cell.{cellAlong, Distances, Weighed, isBeyond, usedSome}
+use Rattle.cell.specs.Cell.{cellAlong, isBeyond, usedSome}
+use Rattle.cell.specs.Sizes.{Distances, Weighed}
 use Rattle.cell.proofs.AlongLaws.{InCell, along-within}
 use Rattle.cell.proofs.WeightLaws.{weighed}
 use Rattle.cell.proofs.ValueLaws.{none-beyond, value-bound}
 use Rattle.fix.specs.declared.Offset.{Offset}
-use Rattle.fix.specs.Fix.{InsideGrid, cellOf, cornersOf, cornerSome, valueIn}
+use Rattle.fix.specs.Fix.{cellOf, cornersOf, cornerSome, valueIn}
+use Rattle.fix.specs.Inside.{InsideGrid}
 
 module _ {l : Offset} (h : InsideGrid l) where
   abbrev lonCell : InCell (l .dx) (l .sx) (l .ni) (cellAlong (l .dx) (l .sx) (l .ni) .index) (cellAlong (l .dx) (l .sx) (l .ni) .rest)

@@ -18,12 +18,14 @@ use Rattle.numbers.proofs.FirstLaws.{first-none, some-by}
 use Rattle.cell.specs.declared.Corners.{Corners}
 use Rattle.cell.specs.declared.Weights.{Weights}
 use Rattle.group.specs.Numbers.{parametersMost, valueMost, mark, isMark, factorMost}
-use Rattle.cell.specs.Cell.{Weighed, used, isBeyond, usedSome, valueOf}
+use Rattle.cell.specs.Cell.{used, isBeyond, usedSome, valueOf}
+use Rattle.cell.specs.Sizes.{Weighed}
 use Rattle.cell.specs.Used.{Unless, EachUsed}
 use Rattle.cell.proofs.ValueLaws.{each-map, none-beyond}
 use Rattle.fix.specs.declared.Offset.{Offset}
 use Rattle.fix.specs.declared.Lookup.the-variants as L
-use Rattle.fix.specs.Fix.{InsideGrid, cellOf, cornersOf, cornerSome, valueIn, resultAt, fixIn}
+use Rattle.fix.specs.Fix.{cellOf, cornersOf, cornerSome, valueIn, resultAt, fixIn}
+use Rattle.fix.specs.Inside.{InsideGrid}
 use Rattle.fix.specs.Parts.{faultAt, refusedIn}
 use Rattle.day.specs.Day.{resultOf}
 use Rattle.fix.proofs.OffsetLaws.{cell-weighed, part-most}

@@ -1,5 +1,5 @@
 -- Document 01's lookup in the chosen grid: the cell, its corners in the node list, refusals 8 and 11, and the fix.
-use Prim.Native.Nat.{ℕ, _+_, _-_, _*_, _≤_, _<_}
+use Prim.Native.Nat.{ℕ, _+_, _*_, _<_}
 use mathlib.Core.Bool.{Bool, cond}
 use mathlib.Core.List.{List}
 use lib.Dec.{ltb}
@@ -7,7 +7,7 @@ use lib.IntN.{ℤ, pos}
 use lib.ListN.{getD}
 use Rattle.numbers.specs.First.{some}
 use Rattle.cell.specs.declared.Corners.{Corners}
-use Rattle.group.specs.Numbers.{parametersMost, spacingMost, nodesLeast, listMost, isMark}
+use Rattle.group.specs.Numbers.{isMark}
 use Rattle.group.specs.Refusals.{refuseIf}
 use Rattle.cell.specs.Cell.{cellAlong, weightsOf, isBeyond, usedSome, valueOf}
 use Rattle.cell.specs.Used.{SameUsed}
@@ -68,23 +68,6 @@ fixIn l nodes factor grid =
       second = resultAt l nodes factor 1;
       third = resultAt l nodes factor 2;
     })))
-
--- a point within the extent of a grid whose numbers are within their limits
-pub record InsideGrid (l : Offset) : Type 0 where
-  pub sx-pos : 0 < l .sx
-  pub sy-pos : 0 < l .sy
-  pub sx-most : l .sx ≤ spacingMost
-  pub sy-most : l .sy ≤ spacingMost
-  pub ni-least : nodesLeast ≤ l .ni
-  pub nj-least : nodesLeast ≤ l .nj
-  pub dx-most : l .dx ≤ (l .ni - 1) * l .sx
-  pub dy-most : l .dy ≤ (l .nj - 1) * l .sy
-  pub np-most : l .np ≤ parametersMost
-  pub range-most : l .start + l .ni * l .nj * l .np ≤ listMost
-
--- the grid's node range ends within a list of so many nodes
-abbrev pub RangeListed : Offset → ℕ → Type 0
-RangeListed l count = l .start + l .ni * l .nj * l .np ≤ count
 
 -- two node lists hold the same in each used corner of the point's cell
 abbrev pub SameNodes : Offset → (nodes others : List ℤ) → Type 0

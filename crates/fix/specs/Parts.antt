@@ -11,7 +11,8 @@ use Rattle.cell.specs.Cell.{isBeyond, usedSome}
 use Rattle.fix.specs.declared.Offset.{Offset}
 use Rattle.fix.specs.declared.Lookup.{Lookup}
 use Rattle.fix.specs.declared.Lookup.the-variants as L
-use Rattle.fix.specs.Fix.{InsideGrid, RangeListed, position, cellOf, cornersOf, cornerSome}
+use Rattle.fix.specs.Fix.{position, cellOf, cornersOf, cornerSome}
+use Rattle.fix.specs.Inside.{InsideGrid, RangeListed}
 
 -- a point's offset with the weights of its cell's corners, and where the cell's node of lower indices stands in a list of so many nodes
 pub record Begun (l : Offset) (count : ℕ) (w : Weights) (a : ℕ) : Type 0 where

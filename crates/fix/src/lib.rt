@@ -7,7 +7,8 @@ ghost use Prim.Native.Nat.{_≤_, _<_};
 ghost use lib.IntN.{natAbs};
 ghost use lib.ListN.{length};
 ghost use Rattle.group.specs.Numbers.{isMark, factorMost};
-ghost use Rattle.fix.specs.Fix.{InsideGrid, RangeListed, position, cellOf, cornersOf, cornerSome, fixIn};
+ghost use Rattle.fix.specs.Fix.{position, cellOf, cornersOf, cornerSome, fixIn};
+ghost use Rattle.fix.specs.Inside.{InsideGrid, RangeListed};
 ghost use Rattle.fix.specs.Parts.{Begun, refusedIn};
 
 // A point in a grid: its distances in mas from node 0 and the spacing sizes, along parallel and meridian; the counts of nodes,

@@ -7,7 +7,8 @@ use Rattle.numbers.specs.Lists.{at, Kept}
 use Rattle.group.specs.declared.Group.{Group}
 use Rattle.group.specs.Numbers.{parametersMost, gridsMost}
 use Rattle.group.specs.Record.{gridAt}
-use Rattle.extent.specs.Extent.{nodeEnd, Sized}
+use Rattle.extent.specs.Extent.{nodeEnd}
+use Rattle.extent.specs.Sizes.{Sized}
 use Rattle.extent.specs.Sides.{sidesOf}
 use Rattle.flat.specs.Rects.{rectAt}
 use Rattle.flat.specs.Frames.{frameOf, frameAt}

@@ -6,7 +6,8 @@ ghost use lib.IntN.{pos};
 ghost use Rattle.numbers.specs.First.{every};
 ghost use Rattle.group.specs.Numbers.{nameMost, isZero};
 ghost use Rattle.group.specs.Blank.{blankName, blankRamp, blankGrid, blankGroup};
-ghost use Rattle.group.specs.Limits.{nameByte, byteFits, nameFits, nameBlank, rampFits, rampBlank, originFits, countsFit, headNumbersFit, gridFits, gridBlank};
+ghost use Rattle.group.specs.Limits.{nameByte, byteFits, nameFits, nameBlank, rampFits, rampBlank};
+ghost use Rattle.group.specs.Limits.{originFits, countsFit, headNumbersFit, gridFits, gridBlank};
 ghost use Rattle.group.specs.Refusals.{inTable};
 
 // Milliarcseconds (mas) in a degree.

@@ -6,7 +6,7 @@ use native.Mathlib.Numerals.{add-one}
 use native.Mathlib.Omega.{arith}
 use lib.ListN.{length, take, drop, getD}
 use lib.Seq.{drop-cons, take-suc, take-add}
-use Rattle.text.specs.Put.{Wrote}
+use Rattle.text.specs.Wrote.{Wrote}
 use Rattle.text.proofs.PutLaws.{put-nil, room-first, room-next, wrote-both}
 use Rattle.header.specs.Items.{closed}
 

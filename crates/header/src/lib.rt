@@ -4,7 +4,7 @@ ghost use Prim.Native.Nat.{_+_, _≤_};
 ghost use lib.ListN.{length, take, drop, replicate};
 ghost use Rattle.group.specs.Numbers.{rampsMost, gridsMost};
 ghost use Rattle.text.specs.Parts.{split};
-ghost use Rattle.text.specs.Put.{Wrote};
+ghost use Rattle.text.specs.Wrote.{Wrote};
 ghost use Rattle.judge.specs.Judge.{judged};
 ghost use Rattle.line.specs.Lines.{rampLine, rampText, gridText};
 ghost use Rattle.group.specs.Blank.{blankRamp, blankGrid};

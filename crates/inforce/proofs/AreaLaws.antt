@@ -12,7 +12,7 @@ use Rattle.numbers.proofs.OrderLaws.{within-size, raised-order, raised-bound, l
 use Rattle.numbers.proofs.Machine.{lowered-size, raised-lowered}
 use Rattle.group.specs.Numbers.{lonMost, latMost, lonZero, latZero}
 use Rattle.extent.specs.Sides.{lonFromLeast, latFromLeast}
-use Rattle.coverage.specs.InForce.{Inside}
+use Rattle.coverage.specs.Demand3.{Inside}
 use Rattle.inforce.specs.declared.Area.{Area}
 use Rattle.inforce.specs.Area.{lonFits, latFits, areaFits, InArea, lonAt, latAt, areaFromLeast}
 

@@ -23,7 +23,7 @@ use Rattle.judge.proofs.Accepted.{accepted-head}
 use Rattle.ingroup.specs.InGroup.{chosenIn}
 use Rattle.ingroup.proofs.InGroupLaws.{chosen-holds}
 use Rattle.coverage.specs.declared.Entry.{Entry}
-use Rattle.coverage.specs.InForce as flat
+use Rattle.coverage.specs.Listing.{noEntry}
 use Rattle.inforce.specs.declared.Area.{Area}
 use Rattle.inforce.specs.declared.GridInForce.{GridInForce}
 use Rattle.inforce.specs.Area.{areaFits, InArea, lonAt, latAt}
@@ -54,9 +54,9 @@ none-at (suc n) zero = refl
 none-at (suc n) (suc i) = none-at n i
 
 module _ (es : List Entry) where
-  used : (i : ℕ) → i < length es → entryAt (acceptedList es) i ≡ shownEntry (getD es i flat.noEntry)
+  used : (i : ℕ) → i < length es → entryAt (acceptedList es) i ≡ shownEntry (getD es i noEntry)
   used i h =
-      List·getD-append (map shownEntry es) (replicate (gridsMost - length es) blankEntry) blankEntry i (omega (arith, length-map es shownEntry)) ∙ map-at shownEntry flat.noEntry blankEntry es i h
+      List·getD-append (map shownEntry es) (replicate (gridsMost - length es) blankEntry) blankEntry i (omega (arith, length-map es shownEntry)) ∙ map-at shownEntry noEntry blankEntry es i h
 
   unused : (i : ℕ) → length es ≤ i → entryAt (acceptedList es) i ≡ blankEntry
   unused i h =
@@ -77,10 +77,10 @@ module _ (g : Group) (e : judged g ≡ Accepted) (a : Area) (f : areaFits a ≡ 
       let n = area-size a f x y i in
       ap₂ (chosenIn g) (lowered-raised lonZero x (n .0)) (lowered-raised latZero y (n .1))
 
-  placed : (i : ℕ) → i < length es → GridPlaced g a (shownEntry (getD es i flat.noEntry))
+  placed : (i : ℕ) → i < length es → GridPlaced g a (shownEntry (getD es i noEntry))
   placed i l =
       let p = placed-in g e a f .placed i l in
-      let t = getD es i flat.noEntry in
+      let t = getD es i noEntry in
       record {
         number = p .number;
         inside = inside-area a f (t .lon) (t .lat) (p .inside);
@@ -116,7 +116,7 @@ module _ (g : Group) (e : judged g ≡ Accepted) (a : Area) (f : areaFits a ≡ 
         entries = whole es (omega (arith, placed-in g e a f .few, accepted-head g e .grids));
         hidden = λ k h i l q.
             let p = placed i l in
-            let t = getD es i flat.noEntry in
+            let t = getD es i noEntry in
             let c = p .chosen ∙ sym (ap (λ (t : GridInForce). t .grid) (used es i l)) ∙ q in
             h (lonAt (t .lon)) (latAt (t .lat)) (p .inside) (chosen-holds g _ _ k c .1) c;
         empty = λ h. none es refl h;
@@ -127,7 +127,7 @@ module _ (g : Group) (e : judged g ≡ Accepted) (a : Area) (f : areaFits a ≡ 
       none (t ∷ ts) q h =
           let l : 0 < length es = omega (arith, ap length q) in
           let p = placed 0 l in
-          let s = getD es 0 flat.noEntry in
+          let s = getD es 0 noEntry in
           let k = s .grid - 1 in
           let n : s .grid ≡ suc k = omega (arith, p .number .0) in
           let c = chosen-holds g (lonAt (s .lon)) (latAt (s .lat)) k (p .chosen ∙ n) in

@@ -14,7 +14,7 @@ use Rattle.group.specs.Numbers.{gridsMost, rankMost}
 use Rattle.choice.proofs.PartLaws.{part-holds, chosen-part}
 use Rattle.region.specs.declared.Bounds.{Bounds}
 use Rattle.coverage.specs.Rectangles.{Rectangles, rectangles, chosenAt, SoundRects}
-use Rattle.coverage.specs.InForce.{inForce, listingOf, Numbers}
+use Rattle.coverage.specs.Listing.{inForce, listingOf, Numbers}
 use Rattle.coverage.proofs.OneEach.{OneEach, one-chosen, one-sound}
 use Rattle.coverage.proofs.Demand3.{in-force-alike}
 use Rattle.inforce.specs.Flat.{FlatSound, flatChosen, flatListing}

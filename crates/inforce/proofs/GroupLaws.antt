@@ -20,14 +20,16 @@ use Rattle.flat.proofs.OrderSteps.{byRank≤}
 use Rattle.flat.proofs.OrderLaws.{mem-byRank, byRank-mem, pairs-byRank, before-differs, by-rank-alike}
 use Rattle.ingroup.specs.InGroup.{chosenIn}
 use Rattle.ingroup.proofs.InGroupLaws.{chosen-holds, rank-limits, flat-apart, flat-chosen}
-use Rattle.coverage.specs.InForce.{inForceBy, Inside, Ordered, EntriesInForce}
-use Rattle.coverage.specs.InForce as flat
+use Rattle.coverage.specs.InForce.{inForceBy}
+use Rattle.coverage.specs.Demand3.{Inside, Ordered, EntriesInForce}
+use Rattle.coverage.specs.Listing.{listingOf}
 use Rattle.coverage.proofs.EntryLaws.{filled-used, filled-length}
 use Rattle.coverage.proofs.Demand3.{in-force, in-force-alike}
 use Rattle.inforce.specs.declared.Area.{Area}
 use Rattle.inforce.specs.Area.{areaFits, lonAt, latAt, areaFromLeast}
 use Rattle.inforce.specs.Flat.{FlatSound, flatChosen, flatListing}
-use Rattle.inforce.specs.InForce.{inForceIn, acceptedList, Narrow}
+use Rattle.inforce.specs.InForce.{inForceIn}
+use Rattle.inforce.specs.Handed.{Narrow}
 use Rattle.inforce.proofs.AreaLaws.{inside-most}
 
 module _ (g : Group) (e : judged g ≡ Accepted) where
@@ -74,9 +76,9 @@ module _ (g : Group) (e : judged g ≡ Accepted) where
           ∙ in-force-alike (flatChosen sides ranks (g .grids)) (λ x y. chosenIn g (lonAt x) (latAt y)) (areaFromLeast a) same-choice
           (byRank (λ k. gridAt g k .rank) (g .grids) rankMost)
 
-      pub group-listed : flatListing sides ranks (g .grids) (areaFromLeast a) ≡ flat.listingOf (inForceIn g a)
+      pub group-listed : flatListing sides ranks (g .grids) (areaFromLeast a) ≡ listingOf (inForceIn g a)
       unfolding flatListing
-      group-listed = ap flat.listingOf same-list
+      group-listed = ap listingOf same-list
 
 -- what is known of the list
 module _ (g : Group) (e : judged g ≡ Accepted) (a : Area) (f : areaFits a ≡ true) where
@@ -88,7 +90,7 @@ module _ (g : Group) (e : judged g ≡ Accepted) (a : Area) (f : areaFits a ≡ 
   few : length (inForceIn g a) ≤ gridsMost
   few = omega (arith, placed-in .few, accepted-head g e .grids)
 
-  pub narrow-list : Narrow (flat.listingOf (inForceIn g a))
+  pub narrow-list : Narrow (listingOf (inForceIn g a))
   narrow-list =
       record {
         few = few;

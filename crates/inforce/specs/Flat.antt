@@ -11,7 +11,8 @@ use Rattle.flat.specs.Lists.{Room}
 use Rattle.flat.specs.Order.{byRank}
 use Rattle.region.specs.declared.Bounds.{Bounds}
 use Rattle.coverage.specs.declared.Listing.{Listing}
-use Rattle.coverage.specs.InForce.{inForceBy, listingOf}
+use Rattle.coverage.specs.InForce.{inForceBy}
+use Rattle.coverage.specs.Listing.{listingOf}
 
 -- four sides and a rank for each of n grids, of which no two share a rank and a point
 pub record FlatSound (sides ranks : List ℕ) (n : ℕ) : Type 0 where

@@ -1,10 +1,9 @@
 -- Document 01's grids in force: refusals 2 to 5, then 10, else the list of the area.
-use Prim.Native.Nat.{ℕ, _-_, _^_, _≤_, _<_}
-use mathlib.Core.Path.{_≡_}
+use Prim.Native.Nat.{_-_}
 use mathlib.Core.Bool.{not}
 use mathlib.Core.List.{List, _++_, map}
 use lib.IntN.{pos}
-use lib.ListN.{length, getD, take, replicate}
+use lib.ListN.{length, replicate}
 use Rattle.group.specs.declared.Group.{Group}
 use Rattle.group.specs.declared.Refusal.{Refusal}
 use Rattle.group.specs.declared.Verdict.the-variants.{Accepted, Refused}
@@ -15,8 +14,7 @@ use Rattle.flat.specs.Order.{byRank}
 use Rattle.judge.specs.Judge.{judged}
 use Rattle.ingroup.specs.InGroup.{chosenIn}
 use Rattle.coverage.specs.declared.Entry.{Entry}
-use Rattle.coverage.specs.declared.Listing.{Listing}
-use Rattle.coverage.specs.InForce.{inForceBy, noEntry}
+use Rattle.coverage.specs.InForce.{inForceBy}
 use Rattle.inforce.specs.declared.Area.{Area}
 use Rattle.inforce.specs.declared.GridInForce.{GridInForce}
 use Rattle.inforce.specs.declared.InForce.{InForce}
@@ -39,13 +37,6 @@ blankEntry = record { grid = 0; lon = record { 0 = pos 0 }; lat = record { 0 = p
 abbrev pub acceptedList : List Entry → InForce
 acceptedList es = record { verdict = Accepted; count = length es; entries = map shownEntry es ++ replicate (gridsMost - length es) blankEntry }
 
--- a list of coverage's, handed back: its first entries, as many as its count
-abbrev pub shownFirst : List Entry → ℕ → List GridInForce
-shownFirst es n = map shownEntry (take n es) ++ replicate (gridsMost - n) blankEntry
-
-unfoldable pub shownList : Listing → InForce
-shownList l = record { verdict = Accepted; count = l .count; entries = shownFirst (l .entries) (l .count) }
-
 -- beside a refusal the list is empty
 abbrev pub refusedBy : Refusal → InForce
 refusedBy r = record { verdict = Refused r; count = 0; entries = replicate gridsMost blankEntry }
@@ -56,10 +47,3 @@ inForceOf g a =
     unlessRefused refusedBy (judged g)
     (refuseIf refusedBy (not (areaFits a)) 10 0
     (acceptedList (inForceIn g a)))
-
--- a list whose coordinates fit 63 bits
-pub record Narrow (l : Listing) : Type 0 where
-  pub few : l .count ≤ gridsMost
-  pub room : length (l .entries) ≡ gridsMost
-  pub lon : (i : ℕ) → i < l .count → getD (l .entries) i noEntry .lon < 2 ^ 63
-  pub lat : (i : ℕ) → i < l .count → getD (l .entries) i noEntry .lat < 2 ^ 63

@@ -13,7 +13,8 @@ use Rattle.group.specs.Record.{rampAt, gridAt}
 use Rattle.group.specs.Numbers.{rampsMost, gridsMost}
 use Rattle.group.specs.Limits.{rampFits, gridFits, headFits}
 use Rattle.group.proofs.RefusalLaws.{no-acceptance, if-past, first-past, passed-if, passed-first}
-use Rattle.extent.specs.Extent.{inside, Sized}
+use Rattle.extent.specs.Extent.{inside}
+use Rattle.extent.specs.Sizes.{Sized}
 use Rattle.extent.specs.Sides.{Edges}
 use Rattle.judge.specs.Judge.{unusedRamp, unusedGrid, badRamp, badGrid, sameName, namedEarlier, outside, sameRank, rankedEarlier, judgedLines, judgedLimits, judgedGrids, judgedRanks, judged, Sound}
 use Rattle.flat.specs.Lists.{Measured}

@@ -20,7 +20,8 @@ use Rattle.group.specs.Numbers.{lonEdgeMost, latEdgeMost, lonEdgeFits, latEdgeF
 use Rattle.group.specs.Record.{gridAt}
 use Rattle.group.specs.Limits.{nameByte, byteFits, nameFits, spacingFits, originFits, countsFit, gridFits, headNumbersFit, headFits}
 use Rattle.group.proofs.LimitLaws.{spacing-size}
-use Rattle.extent.specs.Extent.{Sized, inside}
+use Rattle.extent.specs.Extent.{inside}
+use Rattle.extent.specs.Sizes.{Sized}
 use Rattle.extent.specs.Sides.{Edges}
 use Rattle.extent.proofs.SideLaws.{edges-within}
 use Rattle.flat.specs.Lists.{Measured}

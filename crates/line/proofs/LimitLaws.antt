@@ -18,7 +18,8 @@ use Rattle.group.proofs.LimitLaws.{spacing-size}
 use Rattle.group.specs.Limits.{spacingFits, headNumbersFit, rampNumbersFit, originFits, countsFit, nameFits, gridFits}
 use Rattle.group.specs.declared.Name.{Name}
 use Rattle.group.specs.declared.Unit as U
-use Rattle.line.specs.Lines.{headFit, headOf, rampFit, gridFit, gridOf, countedHead, countedGrid}
+use Rattle.line.specs.Lines.{headFit, headOf, rampFit, gridFit, gridOf}
+use Rattle.line.specs.Counted.{countedHead, countedGrid}
 use Rattle.line.proofs.LineLaws.{Small, four-of, eight-of}
 
 -- a number of a span that begins at 0 or above

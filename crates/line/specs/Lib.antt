@@ -2,5 +2,6 @@
 pub mod Names
 pub mod Line
 pub mod Lines
+pub mod Counted
 pub mod Blank
 pub mod Answers

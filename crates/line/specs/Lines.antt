@@ -9,7 +9,6 @@ use lib.IntN.{ℤ, pos, natAbs}
 use Rattle.text.specs.Parts.{split, join}
 use Rattle.text.specs.Decimal.{intText}
 use Rattle.text.specs.Fields.{same, readInts}
-use Rattle.numbers.specs.Order.{countOf}
 use Rattle.group.specs.Limits.{headNumbersFit, rampNumbersFit, originFits, countsFit}
 use Rattle.group.specs.declared.Refusal.{Refusal}
 use Rattle.group.specs.declared.Name.{Name}
@@ -143,23 +142,3 @@ gridInts g = g .lon .0 ∷ g .lat .0 ∷ g .dlon ∷ g .dlat ∷ pos (g .ni) ∷
 -- a grid line, without the line feed
 abbrev pub gridText : Grid → List ℕ
 gridText g = join 9 (gridKeyword ∷ nameText (g .name) ∷ map intText (gridInts g))
-
--- ---- as a record's unsigned number, a number below zero is beyond every limit
-
-abbrev pub countedHead : Name → U.Unit → ℤ → ℤ → ℤ → ℤ → Head
-countedHead n u a b c d =
-    record { name = n; unit = u; quantum = countOf a; parameters = countOf b; ramps = countOf c; grids = countOf d }
-
-abbrev pub countedGrid : Name → ℤ → ℤ → ℤ → ℤ → ℤ → ℤ → ℤ → ℤ → Grid
-countedGrid n a b c d e f g h =
-    record {
-      name = n;
-      lon = record { 0 = a };
-      lat = record { 0 = b };
-      dlon = c;
-      dlat = d;
-      ni = countOf e;
-      nj = countOf f;
-      rank = countOf g;
-      start = countOf h;
-    }

@@ -20,7 +20,8 @@ use Rattle.numbers.specs.Lists.{at}
 use Rattle.choice.proofs.ChoiceLaws.{chosen≤}
 use Rattle.ingroup.proofs.InGroupLaws.{chosen-most, flat-holds, flat-chosen}
 use Rattle.fix.specs.declared.Offset.{Offset}
-use Rattle.fix.specs.Fix.{InsideGrid, RangeListed, fixIn}
+use Rattle.fix.specs.Fix.{fixIn}
+use Rattle.fix.specs.Inside.{InsideGrid, RangeListed}
 use Rattle.ingroup.specs.InGroup.{chosenIn}
 use Rattle.flat.specs.declared.Frame.{Frame}
 use Rattle.lookup.specs.Lookup.{endsEarly, offsetOf, fixAt, LookupReady}

@@ -24,7 +24,7 @@ use Rattle.extent.specs.Extent.{lonAxis, latAxis, farEdge, spanOf, lonSpan, lat
 use Rattle.judge.specs.Judge.{judged}
 use Rattle.judge.proofs.Accepted.{accepted, accepted-head, accepted-sized}
 use Rattle.judge.proofs.LimitLaws.{lon-size, lat-size, dlon-good, dlat-good}
-use Rattle.fix.specs.Fix.{InsideGrid}
+use Rattle.fix.specs.Inside.{InsideGrid}
 use Rattle.lookup.specs.Lookup.{pointFits, offsetOf}
 use Rattle.flat.specs.Frames.{frameOf}
 use Rattle.lookup.specs.Flat.{offsetIn}

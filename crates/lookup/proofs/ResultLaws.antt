@@ -19,7 +19,8 @@ use Rattle.fix.specs.declared.Offset.{Offset}
 use Rattle.fix.specs.declared.Fix.{Fix}
 use Rattle.fix.specs.declared.Lookup.the-variants as L
 use Rattle.fix.specs.Answers.{resultIn}
-use Rattle.fix.specs.Fix.{InsideGrid, nodeAt, cornersOf, valueIn, resultAt}
+use Rattle.fix.specs.Fix.{nodeAt, cornersOf, valueIn, resultAt}
+use Rattle.fix.specs.Inside.{InsideGrid}
 use Rattle.fix.proofs.OffsetLaws as P
 use Rattle.fix.proofs.NodeLaws.{value-node}
 use Rattle.lookup.specs.Lookup.{offsetOf, looked}

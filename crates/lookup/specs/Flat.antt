@@ -15,7 +15,7 @@ use Rattle.choice.specs.Choice.{chosen}
 use Rattle.choice.specs.Holder.{holder}
 use Rattle.fix.specs.declared.Offset.{Offset}
 use Rattle.fix.specs.declared.Lookup.{Lookup}
-use Rattle.fix.specs.Fix.{InsideGrid, RangeListed}
+use Rattle.fix.specs.Inside.{InsideGrid, RangeListed}
 use Rattle.lookup.specs.Lookup.{fixAt}
 
 -- the distance of two numbers

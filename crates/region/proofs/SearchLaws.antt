@@ -8,7 +8,8 @@ use native.Mathlib.Decide.{decLt}
 use lib.Dec.{leb, ltb, eqb}
 use borrow.Author.Tests.{ltb-true, ltb-false, leb-true, leb-false, eqb-true, eqb-false, lt-ltb, le-ltb, le-leb, lt-leb, eq-eqb, ne-eqb}
 use Rattle.numbers.proofs.Bools.{or-left, or-right, or-none, untrue}
-use Rattle.region.specs.First.{firstInRow, firstInRows, firstIn, IsFirst, earlierb, earlier}
+use Rattle.region.specs.First.{firstInRow, firstInRows, firstIn, IsFirst}
+use Rattle.region.specs.Earlier.{earlierb, earlier}
 use Rattle.region.specs.declared.Spot.{Spot}
 use Rattle.region.specs.declared.Spot.the-variants.{At, Nothing}
 

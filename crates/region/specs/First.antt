@@ -1,8 +1,7 @@
 -- The southmost, then westmost point of a rectangle at which a test holds.
 use mathlib.Core.Path.{_≡_}
-use mathlib.Core.Bool.{Bool, true, false, cond, _&&_, _||_}
+use mathlib.Core.Bool.{Bool, true, false, cond}
 use Prim.Native.Nat.{ℕ, zero, suc, _+_, _-_, _≤_, _<_}
-use lib.Dec.{leb, ltb, eqb}
 use Rattle.region.specs.declared.Spot.{Spot}
 use Rattle.region.specs.declared.Spot.the-variants.{At, Nothing}
 
@@ -34,12 +33,3 @@ pub record IsFirst (p : ℕ → ℕ → Bool) (west east south north x y : ℕ) 
   pub here : p x y ≡ true
   pub below : (i j : ℕ) → west ≤ i → i ≤ east → south ≤ j → j < y → p i j ≡ false
   pub left : (i : ℕ) → west ≤ i → i < x → p i y ≡ false
-
--- of two points the one further south, and in one row the one further west
-abbrev pub earlierb : ℕ → ℕ → ℕ → ℕ → Bool
-earlierb x y u v = ltb y v || (eqb y v && leb x u)
-
-abbrev pub earlier : Spot → Spot → Spot
-earlier Nothing s = s
-earlier (At x y) Nothing = At x y
-earlier (At x y) (At u v) = cond (earlierb x y u v) (At x y) (At u v)

@@ -3,8 +3,10 @@
 use numbers::smaller;
 ghost use mathlib.Core.Path.{_≡_};
 ghost use Prim.Native.Nat.{_<_, _≤_};
-ghost use Rattle.region.specs.First.{earlier, firstIn};
-ghost use Rattle.region.specs.Free.{RowAnswer, free, reaches, rectCount};
+ghost use Rattle.region.specs.First.{firstIn};
+ghost use Rattle.region.specs.Earlier.{earlier};
+ghost use Rattle.region.specs.Free.{free, reaches, rectCount};
+ghost use Rattle.region.specs.Rows.{RowAnswer};
 
 // The point found: longitude and latitude.
 pub enum Spot {

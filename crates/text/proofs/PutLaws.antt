@@ -13,7 +13,8 @@ use mir.Val.{toZ, ofZ, SFits}
 use mir.Facts.{toZ-ofZ}
 use Rattle.text.specs.Parts.{led, join}
 use Rattle.text.specs.Decimal.{intText}
-use Rattle.text.specs.Put.{put, Wrote}
+use Rattle.text.specs.Put.{put}
+use Rattle.text.specs.Wrote.{Wrote}
 
 pub put-nil : (at : ℕ) (out : List ℕ) → put at [] out ≡ out
 unfolding put

@@ -4,3 +4,4 @@ pub mod Decimal
 pub mod Number
 pub mod Fields
 pub mod Put
+pub mod Wrote

@@ -1,14 +1,8 @@
 -- A text put into a list of bytes.
 use Prim.Native.Nat.{ℕ, _+_}
-use mathlib.Core.Path.{_≡_}
 use mathlib.Core.List.{List, _++_}
 use lib.ListN.{length, take, drop}
 
 -- the list with the text from index at on, and all else as it was
 unfoldable pub put : ℕ → List ℕ → List ℕ → List ℕ
 put at text out = take at out ++ (text ++ drop (at + length text) out)
-
--- what a writer leaves: the place behind the text, and the bytes with the text put in
-pub record Wrote (at : ℕ) (text out : List ℕ) (next : ℕ) (after : List ℕ) : Type 0 where
-  pub place : next ≡ at + length text
-  pub holds : after ≡ put at text out

@@ -9,7 +9,7 @@ ghost use Rattle.text.specs.Parts.{behind, split, upTo, startOf, Lacks, 
 ghost use Rattle.text.specs.Decimal.{digitsFrom, readNat, readInt, decimal, intText};
 ghost use Rattle.text.specs.Number.{numberMost, naturalOf, numberOf};
 ghost use Rattle.text.specs.Fields.{same};
-ghost use Rattle.text.specs.Put.{Wrote};
+ghost use Rattle.text.specs.Wrote.{Wrote};
 
 // Bytes that are looked at before it is asked whether c is among them, and how far the end has to be for that.
 const BLOCK: usize = 64;

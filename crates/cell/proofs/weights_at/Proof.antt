@@ -1,7 +1,8 @@
 -- `weights_at` meets its contract: each weight is at most the total.
 use borrow.Author.Needs.{needs}
 use native.Mathlib.Omega.{arith}
-use Rattle.cell.specs.Cell.{weightsOf, Weighed}
+use Rattle.cell.specs.Cell.{weightsOf}
+use Rattle.cell.specs.Sizes.{Weighed}
 use Rattle.cell.proofs.WeightLaws.{weighed}
 use Rattle.cell.proofs.weights_at.Statement.{statement}
 use Rattle.cell.proofs.weights_at.Tie as tie

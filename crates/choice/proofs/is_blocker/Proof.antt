@@ -1,6 +1,6 @@
 -- `choice::is_blocker` meets its contract.
 use mathlib.Core.Path.{refl}
-use Rattle.choice.specs.Choice.{blocks}
+use Rattle.choice.specs.Blocks.{blocks}
 use borrow.Author.Needs.{needs}
 use Rattle.choice.proofs.is_blocker.Statement.{statement}
 use Rattle.choice.proofs.is_blocker.Tie as tie

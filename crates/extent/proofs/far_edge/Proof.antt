@@ -11,7 +11,8 @@ use borrow.Author.Needs.{needs}
 use Rattle.numbers.proofs.OrderLaws.{size-fits, size-add, size-mul}
 use Rattle.group.specs.Numbers.{spacingMost, nodesMost}
 use Rattle.extent.specs.declared.Axis.{Axis}
-use Rattle.extent.specs.Extent.{farEdge, Reach}
+use Rattle.extent.specs.Extent.{farEdge}
+use Rattle.extent.specs.Sizes.{Reach}
 use Rattle.extent.proofs.far_edge.Statement.{statement}
 use Rattle.extent.proofs.far_edge.Tie as tie
 

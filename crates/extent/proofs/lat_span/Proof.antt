@@ -3,7 +3,8 @@ use mathlib.Core.Path.{sym, subst}
 use mir.Syntax.{w64}
 use mir.Val.{SFits}
 use mir.Facts.{toZ-ofZ}
-use Rattle.extent.specs.Extent.{latSpan, Reach}
+use Rattle.extent.specs.Extent.{latSpan}
+use Rattle.extent.specs.Sizes.{Reach}
 use borrow.Author.Needs.{needs}
 use Rattle.extent.proofs.lat_span.Statement.{statement}
 use Rattle.extent.proofs.lat_span.Tie as tie

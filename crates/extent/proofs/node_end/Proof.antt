@@ -5,7 +5,7 @@ use native.Mathlib.Nat.{mul-le-mul}
 use borrow.Author.Needs.{needs}
 use Rattle.group.specs.declared.Grid.{Grid}
 use Rattle.group.specs.Numbers.{nodesMost, parametersMost}
-use Rattle.extent.specs.Extent.{Sized}
+use Rattle.extent.specs.Sizes.{Sized}
 use Rattle.extent.proofs.node_end.Statement.{statement}
 use Rattle.extent.proofs.node_end.Tie as tie
 

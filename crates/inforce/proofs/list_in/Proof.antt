@@ -2,9 +2,10 @@
 use mathlib.Core.Path.{_≡_, _∙_, ap}
 use native.Mathlib.Omega.{arith}
 use Rattle.judge.proofs.Accepted.{accepted-measured}
-use Rattle.coverage.specs.InForce as flat
+use Rattle.coverage.specs.Listing.{listingOf}
 use Rattle.inforce.specs.Flat.{flatListing}
-use Rattle.inforce.specs.InForce.{inForceIn, shownList}
+use Rattle.inforce.specs.InForce.{inForceIn}
+use Rattle.inforce.specs.Handed.{shownList}
 use Rattle.inforce.proofs.ShownLaws.{shown-whole}
 use Rattle.inforce.proofs.GroupLaws.{group-flat, group-listed, narrow-list}
 use borrow.Author.Needs.{needs}
@@ -37,7 +38,7 @@ list-flat-requires c κs =
 
 -- the list of the area, its coordinates as distances
 listing : (c : tie.After-list-flat) → let s = c .before .before .before .before .before .before .before .before .before in
-    c .list-flat .result ≡ flat.listingOf (inForceIn (s .args .group) (s .args .area))
+    c .list-flat .result ≡ listingOf (inForceIn (s .args .group) (s .args .area))
 listing c =
     let s = c .before .before .before .before .before .before .before .before .before in
     let f = c .before .before .before .before .before .before .fill-sides in

@@ -4,8 +4,9 @@ use mathlib.Core.Path.{_≡_}
 use native.Mathlib.Omega.{arith}
 use borrow.Author.Needs.{needs}
 use lib.ListN.{getD}
-use Rattle.coverage.specs.InForce.{noEntry}
-use Rattle.inforce.specs.InForce.{shownEntry, shownFirst, shownList}
+use Rattle.coverage.specs.Listing.{noEntry}
+use Rattle.inforce.specs.InForce.{shownEntry}
+use Rattle.inforce.specs.Handed.{shownFirst, shownList}
 use Rattle.inforce.proofs.ShownLaws.{shown-more}
 use Rattle.inforce.proofs.shown_list.Statement.{statement}
 use Rattle.inforce.proofs.shown_list.Tie as tie

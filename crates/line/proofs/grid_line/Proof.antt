@@ -19,7 +19,8 @@ use Rattle.line.specs.Names.{isName, nameOf}
 use Rattle.group.specs.declared.Refusal.{Refusal}
 use Rattle.group.specs.Refusals.{refusal}
 use Rattle.line.specs.Line.{Line, bad, good}
-use Rattle.line.specs.Lines.{fields, gridKeyword, gridTexts, gridFit, gridOf, gridLine, countedGrid}
+use Rattle.line.specs.Lines.{fields, gridKeyword, gridTexts, gridFit, gridOf, gridLine}
+use Rattle.line.specs.Counted.{countedGrid}
 use Rattle.line.specs.Answers.{gridAnswer}
 use Rattle.line.proofs.NameLaws.{name-length, isName-fits}
 use Rattle.line.proofs.LineLaws.{keyed-miss, keyed-hit, fields-count, fields-text, fields-bad, fields-numbers}

@@ -21,7 +21,8 @@ use Rattle.line.specs.Names.{isName, nameOf, readUnit}
 use Rattle.group.specs.declared.Refusal.{Refusal}
 use Rattle.group.specs.Refusals.{refusal}
 use Rattle.line.specs.Line.{Line, bad, good}
-use Rattle.line.specs.Lines.{fields, groupKeyword, headTexts, headFit, headOf, headLine, countedHead}
+use Rattle.line.specs.Lines.{fields, groupKeyword, headTexts, headFit, headOf, headLine}
+use Rattle.line.specs.Counted.{countedHead}
 use Rattle.line.specs.Answers.{headAnswer}
 use Rattle.line.proofs.NameLaws.{name-length}
 use Rattle.line.proofs.LineLaws.{keyed-miss, keyed-hit, fields-count, fields-text, fields-bad, fields-numbers}

@@ -3,7 +3,7 @@ use Prim.Native.Nat.{ℕ, _+_, _-_, _≤_}
 use mathlib.Core.Path.{_≡_, subst}
 use native.Mathlib.Omega.{arith}
 use lib.ListN.{length, take}
-use Rattle.text.specs.Put.{Wrote}
+use Rattle.text.specs.Wrote.{Wrote}
 use borrow.Author.Needs.{needs}
 use Rattle.line.proofs.put_front.Statement.{statement}
 use Rattle.line.proofs.put_front.Tie as tie

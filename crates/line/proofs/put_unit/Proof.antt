@@ -3,7 +3,7 @@ use Prim.Native.Nat.{_+_, _≤_}
 use mathlib.Core.Path.{sym, subst}
 use mathlib.Core.List.{_∷_}
 use lib.ListN.{length}
-use Rattle.text.specs.Put.{Wrote}
+use Rattle.text.specs.Wrote.{Wrote}
 use Rattle.group.specs.declared.Unit as U
 use Rattle.line.specs.Names.{unitText}
 use borrow.Author.Needs.{needs}

@@ -4,7 +4,8 @@ use mathlib.Core.Path.{_≡_, sym, subst}
 use mathlib.Core.Bool.{false}
 use native.Mathlib.Omega.{arith}
 use native.Mathlib.Decide.{decLt}
-use Rattle.region.specs.Free.{free, RowAnswer}
+use Rattle.region.specs.Free.{free}
+use Rattle.region.specs.Rows.{RowAnswer}
 use Rattle.region.specs.declared.Row.{Row}
 use Rattle.region.proofs.SearchLaws.{first-at, first-none}
 use borrow.Author.Needs.{needs}
