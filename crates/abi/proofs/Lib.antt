@@ -1,4 +1,4 @@
--- The laws of the crate `layout`.
+-- The laws of a group as words.
 pub mod ListLaws
 pub mod NumberLaws
 pub mod ClearLaws

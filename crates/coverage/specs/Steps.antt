@@ -88,7 +88,7 @@ pub record Each (n : ℕ) (numbers : List ℕ) : Type 0 where
   pub below : (k : ℕ) → k < n → at numbers k < n
   pub each : (r : ℕ) → r < n → (k : ℕ) × (k < n) × (at numbers k ≡ r)
 
--- what a search relies on: a sound layout, an order of its rectangles, and room for their sides
+-- what a search relies on: sound rectangles, an order of them, and room for their sides
 pub record Searchable (l : Rectangles) (eastward near : List ℕ) : Type 0 where
   pub sound : SoundRects l
   pub order : Each (length (l .owners)) eastward

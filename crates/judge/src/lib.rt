@@ -282,7 +282,8 @@ fn first_named(group: Group) -> u64
 // The first grid of a group that shares a coordinate and its rank with an earlier one, the count of grids if none does; the lists are
 // left with the sides and ranks of all.
 fn first_ranked(group: Group, sides: &mut [u64], ranks: &mut [u64]) -> u64
-    requires { ⌜ HeadLimits group × GridLimits group × Comparable Shared.Rank group × (gridsMost * 4 ≤ length (now sides)) × (gridsMost ≤ length (now ranks)) ⌝ }
+    requires { ⌜ HeadLimits group × GridLimits group × Comparable Shared.Rank group
+        × (gridsMost * 4 ≤ length (now sides)) × (gridsMost ≤ length (now ranks)) ⌝ }
     ensures { λ r. ⌜ (r ≡ first (rankedEarlier group) (group .grids)) × Sided group (group .grids) (now (sides .exit)) (now (ranks .exit)) ⌝ }
 {
     flat::fill_sides(group, sides, ranks);

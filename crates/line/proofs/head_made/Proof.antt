@@ -6,33 +6,33 @@ use borrow.Author.Needs.{needs}
 use Rattle.line.proofs.head_made.Statement.{statement}
 use Rattle.line.proofs.head_made.Tie as tie
 
-counted-requires : tie.Need-counted-requires
-counted-requires c κs = search needs
+count-of-requires : tie.Need-count-of-requires
+count-of-requires c κs = search needs
 
-counted-requires-2 : tie.Need-counted-requires-2
-counted-requires-2 c κs = search needs
+count-of-requires-2 : tie.Need-count-of-requires-2
+count-of-requires-2 c κs = search needs
 
-counted-requires-3 : tie.Need-counted-requires-3
-counted-requires-3 c κs = search needs
+count-of-requires-3 : tie.Need-count-of-requires-3
+count-of-requires-3 c κs = search needs
 
-counted-requires-4 : tie.Need-counted-requires-4
-counted-requires-4 c κs = search needs
+count-of-requires-4 : tie.Need-count-of-requires-4
+count-of-requires-4 c κs = search needs
 
 returns : tie.Need-returns
 returns c =
     let s = c .before .before .before .before in
-    let a = c .before .before .before .counted .ensures ∙ ap countOf (toZ-ofZ (s .fits .a)) in
-    let b = c .before .before .counted2 .ensures ∙ ap countOf (toZ-ofZ (s .fits .b)) in
-    let d = c .before .counted3 .ensures ∙ ap countOf (toZ-ofZ (s .fits .c)) in
-    let e = c .counted4 .ensures ∙ ap countOf (toZ-ofZ (s .fits .d)) in
+    let a = c .before .before .before .count-of .ensures ∙ ap countOf (toZ-ofZ (s .fits .a)) in
+    let b = c .before .before .count-of2 .ensures ∙ ap countOf (toZ-ofZ (s .fits .b)) in
+    let d = c .before .count-of3 .ensures ∙ ap countOf (toZ-ofZ (s .fits .c)) in
+    let e = c .count-of4 .ensures ∙ ap countOf (toZ-ofZ (s .fits .d)) in
     λ i. record { name = s .args .name; unit = s .args .unit; quantum = a i; parameters = b i; ramps = d i; grids = e i }
 
 pub head-made-spec : {M : Type 1} → statement M
 head-made-spec =
     tie.close
     (tie.spec
-    counted-requires
-    counted-requires-2
-    counted-requires-3
-    counted-requires-4
+    count-of-requires
+    count-of-requires-2
+    count-of-requires-3
+    count-of-requires-4
     returns)
