@@ -1,7 +1,7 @@
 -- The day factor and the result: what no ramps give, and the bounds that show that 64 bits suffice.
 use Prim.Native.Nat.{ℕ, zero, suc, _+_, _-_, _*_, _%_, _≤_, _<_}
 use mathlib.Core.Bool.{Bool, true, false, not, cond, _&&_}
-use mathlib.Core.Path.{_≡_, refl, sym, ap, _∙_}
+use mathlib.Core.Path.{_≡_, refl, sym, ap, ap₂, _∙_}
 use mathlib.Core.Logic.{⊎-elim}
 use mathlib.Core.List.{List}
 use native.Mathlib.Nat.{mul-add, suc-mul, mul-le-mul, mul-le-mul-right}
@@ -9,7 +9,7 @@ use native.Mathlib.Numerals.{add-one}
 use native.Mathlib.Decide.{decLt}
 use native.Mathlib.Omega.{arith}
 use borrow.Author.Tests.{eq-eqb, ne-eqb}
-use lib.Dec.{T, leb, nleb→lt}
+use lib.Dec.{T, eqb, leb, nleb→lt}
 use lib.IntN.{ℤ, pos, _+ℤ_, _-ℤ_, _*ℤ_, natAbs, *ℤ-comm}
 use lib.ListN.{getD}
 use lib.Signed.{leZ}
@@ -25,6 +25,8 @@ use Rattle.group.specs.declared.Ramp.{Ramp}
 use Rattle.group.specs.Numbers.{rampsMost, valueMost, dayMost, dayFits, factorOne, rampFactorMost, rampFactorFits, factorMost, resultMost}
 use Rattle.group.specs.Limits.{rampFits}
 use Rattle.group.specs.Blank.{blankRamp}
+use Rattle.flat.specs.Ramps.{rampIn}
+use Rattle.day.specs.Flat.{factorIn}
 use Rattle.day.specs.Day.{rampFactor, sumOf, factorOf, resultOf}
 use Rattle.day.specs.Unsigned.{rampStep}
 
@@ -136,6 +138,29 @@ module _ (ramps : List Ramp) (t : ℤ) where
           rw (factor-some n (λ z. omega arith))
           (let b = sum-bound (λ i. rampFactor (getD ramps i blankRamp) t) rampFactorMost n (λ i l. ramp-bound (getD ramps i blankRamp) t (fit i l)) in
           omega arith)
+
+-- ---- the same of a flat list
+
+pub sum-same : (f h : ℕ → ℤ) (n : ℕ) → ((i : ℕ) → i < n → f i ≡ h i) → sumOf f n ≡ sumOf h n
+unfolding sumOf
+sum-same f h zero e = refl
+sum-same f h (suc n) e = ap₂ _+ℤ_ (sum-same f h n (λ i l. e i (omega arith))) (e n (omega arith))
+
+pub flat-none : (ramps : List ℤ) (t : ℤ) (n : ℕ) → n ≡ 0 → factorIn ramps n t ≡ pos factorOne
+unfolding factorIn
+flat-none ramps t n e = rw (eq-eqb n 0 e)
+
+pub flat-some : (ramps : List ℤ) (t : ℤ) (n : ℕ) → (n ≡ 0 → ⊥) → factorIn ramps n t ≡ sumOf (λ i. rampFactor (rampIn ramps i) t) n
+unfolding factorIn
+flat-some ramps t n h = rw (ne-eqb n 0 h)
+
+-- the flat list's factor is the record's
+pub flat-factor : (list : List ℤ) (ramps : List Ramp) (n : ℕ) (t : ℤ) → ((i : ℕ) → i < n → rampIn list i ≡ getD ramps i blankRamp)
+    → factorIn list n t ≡ factorOf ramps n t
+unfolding factorIn factorOf
+flat-factor list ramps n t e =
+    ap (cond (eqb n 0) (pos factorOne))
+    (sum-same (λ i. rampFactor (rampIn list i) t) (λ i. rampFactor (getD ramps i blankRamp) t) n (λ i l. ap (λ p. rampFactor p t) (e i l)))
 
 -- ---- the result
 

@@ -1,3 +1,4 @@
 -- What the contracts of `day` cite.
 pub mod Day
 pub mod Unsigned
+pub mod Flat

@@ -1,17 +1,17 @@
 // The factor of a group's ramps on a day, and the result: a value times that factor.
 use group::FACTOR_ONE;
-use group::RAMPS_MOST;
 use group::RESULT_MOST;
 use group::Ramp;
 ghost use mathlib.Core.Path.{_≡_};
 ghost use mathlib.Core.Bool.{true};
 ghost use Prim.Native.Nat.{ℕ, _*_, _≤_, _<_};
-ghost use lib.ListN.{getD};
+ghost use lib.ListN.{length};
 ghost use lib.IntN.{pos, _+ℤ_, natAbs};
 ghost use Rattle.group.specs.Numbers.{rampsMost, dayMost, dayFits, rampFactorMost, factorMost, valueMost};
 ghost use Rattle.group.specs.Limits.{rampFits};
-ghost use Rattle.group.specs.Blank.{blankRamp};
-ghost use Rattle.day.specs.Day.{rampFactor, factorOf, resultOf};
+ghost use Rattle.flat.specs.Ramps.{rampWidth, rampIn};
+ghost use Rattle.day.specs.Flat.{factorIn};
+ghost use Rattle.day.specs.Day.{rampFactor, resultOf};
 ghost use Rattle.day.specs.Unsigned.{rampStep};
 
 // What is added to a day and to a ramp's factor, so that none is below 0.
@@ -50,10 +50,11 @@ fn ramp_factor(p: Ramp, day: i64) -> u64
     ramp_step(a, s0, b, s1, numbers::lifted(day, DAY))
 }
 
-// The sum of the factors of the first n ramps on a day, in millionths; the factor 1 if there are none.
-pub fn day_factor(ramps: [Ramp; RAMPS_MOST], n: usize, day: i64) -> i64
-    requires { ⌜ (n ≤ rampsMost) × ((i : ℕ) → i < n → rampFits (getD ramps i blankRamp) ≡ true) × (dayFits day ≡ true) ⌝ }
-    ensures { λ r. ⌜ r ≡ factorOf ramps n day ⌝ }
+// The sum of the factors of the first n ramps of a flat list on a day, in millionths; the factor 1 if there are none.
+pub fn day_factor(ramps: &[i64], n: usize, day: i64) -> i64
+    requires { ⌜ (n ≤ rampsMost) × (n * rampWidth ≤ length (now ramps))
+        × ((i : ℕ) → i < n → rampFits (rampIn (now ramps) i) ≡ true) × (dayFits day ≡ true) ⌝ }
+    ensures { λ r. ⌜ r ≡ factorIn (now (ramps .entry)) n day ⌝ }
 {
     if n == 0 {
         return FACTOR_ONE;
@@ -62,7 +63,7 @@ pub fn day_factor(ramps: [Ramp; RAMPS_MOST], n: usize, day: i64) -> i64
     let mut shift: u64 = 0;
     let mut i = 0;
     while i < n {
-        let p = ramps[i];
+        let p = flat::ramp_at(ramps, i);
         sum += ramp_factor(p, day);
         shift += FACTOR;
         i += 1;

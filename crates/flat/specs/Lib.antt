@@ -1,5 +1,6 @@
 -- What the contracts of `flat` cite.
 pub mod Rects
 pub mod Frames
+pub mod Ramps
 pub mod Lists
 pub mod Order

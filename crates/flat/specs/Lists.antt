@@ -1,17 +1,19 @@
--- The flat lists of a group's first n grids: what stands in each, and what filling them relies on.
+-- The flat lists of a group's first n grids and of its first n ramps: what stands in each, and what filling them relies on.
 use Prim.Native.Nat.{ℕ, _*_, _≤_, _<_}
 use mathlib.Core.Path.{_≡_}
 use mathlib.Core.List.{List}
+use lib.IntN.{ℤ}
 use lib.ListN.{length}
 use Rattle.numbers.specs.Lists.{at, Kept}
 use Rattle.group.specs.declared.Group.{Group}
 use Rattle.group.specs.Numbers.{parametersMost, gridsMost}
-use Rattle.group.specs.Record.{gridAt}
+use Rattle.group.specs.Record.{rampAt, gridAt}
 use Rattle.extent.specs.Extent.{nodeEnd}
 use Rattle.extent.specs.Sizes.{Sized}
 use Rattle.extent.specs.Sides.{sidesOf}
 use Rattle.flat.specs.Rects.{rectAt}
 use Rattle.flat.specs.Frames.{frameOf, frameAt}
+use Rattle.flat.specs.Ramps.{rampIn}
 
 -- counts within their limits, and sizes that keep each grid's far edges and its node range within 64 bits
 pub record Measured (g : Group) : Type 0 where
@@ -36,6 +38,10 @@ Ended g n ends = (k : ℕ) → k < n → at ends k ≡ nodeEnd (g .parameters) (
 -- the frames
 abbrev pub Framed : Group → ℕ → List ℕ → Type 0
 Framed g n frames = (k : ℕ) → k < n → frameAt frames k ≡ frameOf (gridAt g k)
+
+-- the ramps
+abbrev pub Ramped : Group → ℕ → List ℤ → Type 0
+Ramped g n ramps = (k : ℕ) → k < n → rampIn ramps k ≡ rampAt g k
 
 -- the owner, a grid counted from 0, of each of the first n rectangles: each grid owns one
 abbrev pub Owned : ℕ → List ℕ → Type 0

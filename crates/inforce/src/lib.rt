@@ -1,7 +1,10 @@
 // Grids in force: which grids of a group are chosen at one or more coordinates of an area, and where first.
 ghost use mathlib.Core.Path.{_≡_};
 ghost use mathlib.Core.Bool.{true};
-ghost use Prim.Native.Nat.{_<_, _*_, _^_};
+ghost use Prim.Native.Nat.{_<_, _≤_, _*_, _^_};
+ghost use lib.ListN.{length};
+ghost use Rattle.group.specs.Numbers.{gridsMost};
+ghost use Rattle.flat.specs.Lists.{Sided};
 ghost use Rattle.judge.specs.Judge.{judged};
 ghost use Rattle.inforce.specs.Area.{lonFits, latFits, areaFits, areaFromLeast};
 ghost use Rattle.inforce.specs.Flat.{FlatSound, flatListing};
@@ -157,16 +160,14 @@ fn refused_by(r: Refusal) -> InForce
     }
 }
 
-// The list of an accepted group and an admitted area.
-fn list_in(group: Group, area: Area) -> InForce
-    requires { ⌜ (judged group ≡ Verdict.Accepted) × (areaFits area ≡ true) ⌝ }
+// The list of an accepted group, whose grids' sides and ranks stand in the lists, and an admitted area.
+fn list_in(group: Group, sides: &[u64], ranks: &[u64], area: Area) -> InForce
+    requires { ⌜ (judged group ≡ Verdict.Accepted) × (areaFits area ≡ true) × Sided group (group .grids) (now sides) (now ranks)
+        × (gridsMost * 4 ≤ length (now sides)) × (gridsMost ≤ length (now ranks)) ⌝ }
     ensures { λ r. ⌜ r ≡ acceptedList (inForceIn group area) ⌝ }
 {
-    let mut sides = [0u64; flat::SIDES];
-    let mut ranks = [0u64; GRIDS_MOST];
-    flat::fill_sides(group, &mut sides, &mut ranks);
     let n = group.grids as usize;
-    let l = list_flat(&sides, &ranks, n, area_from_least(area));
+    let l = list_flat(sides, ranks, n, area_from_least(area));
     shown_list(l)
 }
 
@@ -175,12 +176,14 @@ fn list_in(group: Group, area: Area) -> InForce
 pub fn grids_in_force(group: Group, area: Area) -> InForce
     ensures { λ r. ⌜ r ≡ inForceOf group area ⌝ }
 {
-    let verdict = judge::judge(group);
+    let mut sides = [0u64; flat::SIDES];
+    let mut ranks = [0u64; GRIDS_MOST];
+    let verdict = judge::judge_into(group, &mut sides, &mut ranks);
     match verdict {
         Verdict::Refused(r) => refused_by(r),
         Verdict::Accepted => {
             if area_fits(area) {
-                list_in(group, area)
+                list_in(group, &sides, &ranks, area)
             } else {
                 refused_by(Refusal {
                     number: 10,

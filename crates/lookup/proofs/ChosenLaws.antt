@@ -1,5 +1,5 @@
 -- What the lists of a group say of the grid that the choice takes: it holds the point.
-use Prim.Native.Nat.{ℕ, _-_, _<_}
+use Prim.Native.Nat.{ℕ}
 use mathlib.Core.Path.{_≡_, refl, sym, _∙_, subst}
 use mathlib.Core.List.{List}
 use native.Mathlib.Omega.{arith}
@@ -8,25 +8,9 @@ use Rattle.numbers.specs.First.{first}
 use Rattle.numbers.proofs.FirstLaws.{first-hit}
 use Rattle.numbers.specs.Lists.{at}
 use Rattle.choice.specs.Rect.{rectHolds}
-use Rattle.choice.specs.Choice.{chosen}
 use Rattle.choice.specs.Holder.{holder}
-use Rattle.choice.proofs.ChoiceLaws.{Best, chosen-best, chosen≤}
 use Rattle.choice.proofs.HolderLaws.{holder-at, holder-none}
-use Rattle.lookup.specs.Flat.{Laid, Chosen, LaidRows}
-
-module _ (sides ranks frames : List ℕ) (grids np count x y : ℕ) (l : Laid sides ranks frames grids np count x y) where
-  pub laid-chosen : (c : ℕ) → c ≡ chosen (λ i. rectHolds sides i x y) (at ranks) grids → Chosen frames c np count x y
-  laid-chosen c e =
-      let m = chosen≤ (λ i. rectHolds sides i x y) (at ranks) grids in
-      record {
-        number = omega (arith, l .room .few);
-        room = omega (arith, l .frames-room);
-        inside = λ h. let b = best h in l .inside (c - 1) (b .among) (b .inside);
-        listed = λ h. l .listed (c - 1) (best h .among);
-      }
-    where
-      best : 0 < c → Best (λ i. rectHolds sides i x y) (at ranks) grids (c - 1)
-      best h = chosen-best (λ i. rectHolds sides i x y) (at ranks) grids (c - 1) (sym e ∙ omega arith)
+use Rattle.lookup.specs.Flat.{Chosen, LaidRows}
 
 module _ (rows owners frames : List ℕ) (count np nodes x y : ℕ) (l : LaidRows rows owners frames count np nodes x y) where
   none : (c : ℕ) → c ≡ 0 → Chosen frames c np nodes x y

@@ -8,10 +8,8 @@ use lib.ListN.{length}
 use Rattle.group.specs.Numbers.{gridsMost}
 use Rattle.flat.specs.declared.Frame.{Frame}
 use Rattle.flat.specs.Frames.{frameAt}
-use Rattle.flat.specs.Lists.{Room}
 use Rattle.numbers.specs.Lists.{at}
 use Rattle.choice.specs.Rect.{rectHolds}
-use Rattle.choice.specs.Choice.{chosen}
 use Rattle.choice.specs.Holder.{holder}
 use Rattle.fix.specs.declared.Offset.{Offset}
 use Rattle.fix.specs.declared.Lookup.{Lookup}
@@ -35,19 +33,6 @@ offsetIn f np x y =
       start = f .start;
       np = np;
     }
-
--- 7, 8 or 11, or the fix, from the flat lists
-abbrev pub fixFlat : (sides ranks frames : List ℕ) (grids np : ℕ) → List ℤ → ℤ → (x y : ℕ) → Lookup
-fixFlat sides ranks frames grids np nodes factor x y =
-    fixAt (chosen (λ i. rectHolds sides i x y) (at ranks) grids) (λ k. offsetIn (frameAt frames k) np x y) nodes factor
-
--- what the lookup of a point may rely on: lists long enough for all grids, and a point within each grid that holds it, with the
--- grid's node range within a list of so many nodes
-pub record Laid (sides ranks frames : List ℕ) (grids np count x y : ℕ) : Type 0 where
-  pub room : Room sides ranks grids
-  pub frames-room : grids * 7 ≤ length frames
-  pub inside : (k : ℕ) → k < grids → rectHolds sides k x y ≡ true → InsideGrid (offsetIn (frameAt frames k) np x y)
-  pub listed : (k : ℕ) → k < grids → RangeListed (offsetIn (frameAt frames k) np x y) count
 
 -- the grid numbered c, from 1, holds the point, its frame stands in the list and its node range ends within so many nodes; c is 0 for none
 pub record Chosen (frames : List ℕ) (c np count x y : ℕ) : Type 0 where

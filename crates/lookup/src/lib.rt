@@ -2,21 +2,30 @@
 use fix::Lookup;
 use fix::Offset;
 use flat::Frame;
+use group::Grid;
 use group::Group;
 use group::Point;
 use group::Refusal;
 use group::Verdict;
 ghost use mathlib.Core.Path.{_≡_};
-ghost use Prim.Native.Nat.{_≤_};
+ghost use mathlib.Core.Bool.{true};
+ghost use Prim.Native.Nat.{_*_, _≤_};
 ghost use lib.Dec.{ltb};
 ghost use lib.IntN.{natAbs};
 ghost use lib.ListN.{length, getD};
 ghost use Rattle.numbers.specs.First.{first};
-ghost use Rattle.group.specs.Numbers.{dayFits, factorMost};
-ghost use Rattle.flat.specs.Frames.{frameAt};
+ghost use Rattle.group.specs.Numbers.{dayFits, factorMost, gridsMost};
+ghost use Rattle.flat.specs.Frames.{frameOf, frameAt};
+ghost use Rattle.flat.specs.Lists.{Sided, Room};
+ghost use Rattle.numbers.specs.Lists.{at};
+ghost use Rattle.choice.specs.Rect.{rectHolds};
+ghost use Rattle.choice.specs.Choice.{chosen};
+ghost use Rattle.fix.specs.Fix.{fixIn};
+ghost use Rattle.fix.specs.Inside.{InsideGrid, RangeListed};
 ghost use Rattle.judge.specs.Judge.{judged};
+ghost use Rattle.day.specs.Day.{factorOf};
 ghost use Rattle.lookup.specs.Lookup.{pointFits, fixAt, fixOf, lookedIn, looked, LookupReady};
-ghost use Rattle.lookup.specs.Flat.{distance, offsetIn, fixFlat, Laid, Chosen, fixRanked, LaidRows};
+ghost use Rattle.lookup.specs.Flat.{distance, offsetIn, Chosen, fixRanked, LaidRows};
 
 // The distance of two numbers.
 fn distance(a: u64, b: u64) -> u64
@@ -60,29 +69,27 @@ fn fix_chosen(frames: &[u64], c: u64, np: u64, nodes: &[i32], factor: i64, x: u6
     fix::fix_in(l, nodes, factor, c)
 }
 
-// The lookup of one point (x, y), given as distances in mas from the least longitude and latitude, in an accepted group of which
-// the flat lists are made once: refusal 7, 8 or 11, or the fix.
-pub fn look_flat(
-    sides: &[u64],
-    ranks: &[u64],
-    frames: &[u64],
-    grids: usize,
-    np: u64,
-    nodes: &[i32],
-    factor: i64,
-    x: u64,
-    y: u64,
-) -> Lookup
-    requires { ⌜ Laid (now sides) (now ranks) (now frames) grids np (length (now nodes)) x y × (natAbs factor ≤ factorMost) ⌝ }
-    ensures { λ r. ⌜ r ≡ fixFlat (now (sides .entry)) (now (ranks .entry)) (now (frames .entry)) grids np (now (nodes .entry)) factor x y ⌝ }
+// The number of the grid chosen at a point (x, y), from 1, by the lists of so many grids; 0 for none.
+fn chosen_flat(sides: &[u64], ranks: &[u64], grids: usize, x: u64, y: u64) -> u64
+    requires { ⌜ Room (now sides) (now ranks) grids ⌝ }
+    ensures { λ r. ⌜ r ≡ chosen (λ i. rectHolds (now (sides .entry)) i x y) (at (now (ranks .entry))) grids ⌝ }
 {
     let m = grids * 4;
-    let c = choice::chosen_at(&sides[..m], &ranks[..grids], x, y);
-    fix_chosen(frames, c, np, nodes, factor, x, y)
+    choice::chosen_at(&sides[..m], &ranks[..grids], x, y)
 }
 
-// The same over rectangles in the order of their owners' ranks, best first: the owner of the first that holds the point is chosen.
-// For many points in one group; a grid may own several rectangles.
+// The fix of a point (x, y), given as distances in mas from the least longitude and latitude, in a grid that holds it, numbered c from 1.
+fn fix_grid(g: Grid, c: u64, np: u64, nodes: &[i32], factor: i64, x: u64, y: u64) -> Lookup
+    requires { ⌜ InsideGrid (offsetIn (frameOf g) np x y) × RangeListed (offsetIn (frameOf g) np x y) (length (now nodes)) × (natAbs factor ≤ factorMost) ⌝ }
+    ensures { λ r. ⌜ r ≡ fixIn (offsetIn (frameOf g) np x y) (now (nodes .entry)) factor c ⌝ }
+{
+    let l = offset_in(flat::frame_of(g), np, x, y);
+    fix::fix_in(l, nodes, factor, c)
+}
+
+// The lookup of one point (x, y), given as distances in mas from the least longitude and latitude, in an accepted group of which
+// the flat lists are made once, for many points: refusal 7, 8 or 11, or the fix. The rectangles stand in the order of their owners'
+// ranks, best first: the owner of the first that holds the point is chosen; a grid may own several.
 pub fn look_ranked(
     rows: &[u64],
     owners: &[u64],
@@ -132,37 +139,56 @@ fn day_fits(day: i64) -> bool
     (group::DAY_LEAST <= day) & (day <= group::DAY_MOST)
 }
 
-// The lookup in an accepted group of a point and a day within the limits, with every node range within the list: refusal 7, 8 or
-// 11, or the fix.
-fn look_in(group: Group, nodes: &[i32], point: Point, day: i64) -> Lookup
-    requires { ⌜ LookupReady group (length (now nodes)) point day ⌝ }
-    ensures { λ r. ⌜ r ≡ fixOf group (now (nodes .entry)) point day ⌝ }
+// The factor of an accepted group's ramps on a day within the limit, in millionths.
+fn factor_on(group: Group, day: i64) -> i64
+    requires { ⌜ (judged group ≡ Verdict.Accepted) × (dayFits day ≡ true) ⌝ }
+    ensures { λ r. ⌜ r ≡ factorOf (group .ramp) (group .ramps) day ⌝ }
 {
-    let mut sides = [0u64; flat::SIDES];
-    let mut ranks = [0u64; group::GRIDS_MOST];
-    let mut frames = [0u64; flat::FRAMES];
-    flat::fill_sides(group, &mut sides, &mut ranks);
-    flat::fill_frames(group, &mut frames);
-    let ramps = group.ramp;
-    let factor = day::day_factor(ramps, group.ramps as usize, day);
-    let x = extent::lon_from_least(point.lon);
-    let y = extent::lat_from_least(point.lat);
-    look_flat(
-        &sides,
-        &ranks,
-        &frames,
-        group.grids as usize,
-        group.parameters,
-        nodes,
-        factor,
-        x,
-        y,
-    )
+    let mut ramps = [0i64; flat::RAMPS];
+    flat::fill_ramps(group, &mut ramps);
+    day::day_factor(&ramps, group.ramps as usize, day)
 }
 
-// The lookup in an accepted group: refusal 6, 9, 13, 7, 8 or 11, or the fix.
-fn look_accepted(group: Group, nodes: &[i32], point: Point, day: i64) -> Lookup
-    requires { ⌜ judged group ≡ Verdict.Accepted ⌝ }
+// The lookup in an accepted group, whose grids' sides and ranks stand in the lists, of a point and a day within the limits, with every
+// node range within the list: refusal 7, 8 or 11, or the fix.
+fn look_in(
+    group: Group,
+    sides: &[u64],
+    ranks: &[u64],
+    nodes: &[i32],
+    point: Point,
+    day: i64,
+) -> Lookup
+    requires { ⌜ LookupReady group (length (now nodes)) point day × Sided group (group .grids) (now sides) (now ranks)
+        × (gridsMost * 4 ≤ length (now sides)) × (gridsMost ≤ length (now ranks)) ⌝ }
+    ensures { λ r. ⌜ r ≡ fixOf group (now (nodes .entry)) point day ⌝ }
+{
+    let x = extent::lon_from_least(point.lon);
+    let y = extent::lat_from_least(point.lat);
+    let c = chosen_flat(sides, ranks, group.grids as usize, x, y);
+    if c == 0 {
+        return Lookup::Refused(Refusal {
+            number: 7,
+            place: 0,
+        });
+    }
+    let factor = factor_on(group, day);
+    let at = (c - 1) as usize;
+    let g = group.grid[at];
+    fix_grid(g, c, group.parameters, nodes, factor, x, y)
+}
+
+// The lookup in an accepted group, whose grids' sides and ranks stand in the lists: refusal 6, 9, 13, 7, 8 or 11, or the fix.
+fn look_accepted(
+    group: Group,
+    sides: &[u64],
+    ranks: &[u64],
+    nodes: &[i32],
+    point: Point,
+    day: i64,
+) -> Lookup
+    requires { ⌜ (judged group ≡ Verdict.Accepted) × Sided group (group .grids) (now sides) (now ranks)
+        × (gridsMost * 4 ≤ length (now sides)) × (gridsMost ≤ length (now ranks)) ⌝ }
     ensures { λ r. ⌜ r ≡ lookedIn group (now (nodes .entry)) point day ⌝ }
 {
     if !point_fits(point) {
@@ -187,7 +213,7 @@ fn look_accepted(group: Group, nodes: &[i32], point: Point, day: i64) -> Lookup
             place: short + 1,
         });
     }
-    look_in(group, nodes, point, day)
+    look_in(group, sides, ranks, nodes, point, day)
 }
 
 // What a group says of a point on a day: the number of the chosen grid and its results in steps, or the first refusal of 2 to 5
@@ -197,9 +223,11 @@ fn look_accepted(group: Group, nodes: &[i32], point: Point, day: i64) -> Lookup
 pub fn lookup(group: Group, nodes: &[i32], point: Point, day: i64) -> Lookup
     ensures { λ r. ⌜ r ≡ looked group (now (nodes .entry)) point day ⌝ }
 {
-    let verdict = judge::judge(group);
+    let mut sides = [0u64; flat::SIDES];
+    let mut ranks = [0u64; group::GRIDS_MOST];
+    let verdict = judge::judge_into(group, &mut sides, &mut ranks);
     match verdict {
         Verdict::Refused(r) => Lookup::Refused(r),
-        Verdict::Accepted => look_accepted(group, nodes, point, day),
+        Verdict::Accepted => look_accepted(group, &sides, &ranks, nodes, point, day),
     }
 }

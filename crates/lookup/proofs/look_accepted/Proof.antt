@@ -42,7 +42,7 @@ point-fits-requires c κs = search needs
 
 returns : tie.Need-returns
 returns c =
-    let s = c .before .before in
+    let s = c .before .before .before .before in
     sym (looked-6 (s .args .group) (s .args .nodes .now) (s .args .point) (s .args .day) (sym (c .before .point-fits .ensures) ∙ not-true _ (c .if1 .taken)))
 
 day-fits-requires : tie.Need-day-fits-requires
@@ -50,7 +50,7 @@ day-fits-requires c κs = search needs
 
 returns-2 : tie.Need-returns-2
 returns-2 c =
-    let s = c .before .before .before .before in
+    let s = c .before .before .before .before .before .before in
     sym
     (looked-9 (s .args .group) (s .args .nodes .now) (s .args .point) (s .args .day)
     (sym (c .before .before .before .point-fits .ensures) ∙ not-false _ (c .before .before .if1 .left))
@@ -61,21 +61,21 @@ slice-aggregate-fill-ends c = search needs
 
 fill-ends-requires : tie.Need-fill-ends-requires
 fill-ends-requires c κs =
-    let s = c .before .before .before .before .before in
-    (accepted-measured (s .args .group) (s .pre), omega arith)
+    let s = c .before .before .before .before .before .before .before in
+    (accepted-measured (s .args .group) (s .pre .0), omega arith)
 
 slice-aggregate-first-short : tie.Need-slice-aggregate-first-short
 slice-aggregate-first-short c = search needs
 
 first-short-requires : tie.Need-first-short-requires
 first-short-requires c κs =
-    let s = c .before .before .before .before .before .before .before .before in
-    omega (arith, accepted-head (s .args .group) (s .pre) .grids, c .before .before .fill-ends .kept .1 .0)
+    let s = c .before .before .before .before .before .before .before .before .before .before in
+    omega (arith, accepted-head (s .args .group) (s .pre .0) .grids, c .before .before .fill-ends .kept .1 .0)
 
 -- behind the search for a short range
 module _ (c : tie.After-first-short) where
   abbrev entry : tie.Start
-  entry = c .before .before .before .before .before .before .before .before .before
+  entry = c .before .before .before .before .before .before .before .before .before .before .before
 
   point : pointFits (entry .args .point) ≡ true
   point = sym (c .before .before .before .before .before .before .before .before .point-fits .ensures) ∙ not-false _ (c .before .before .before .before .before .before .before .if1 .left)
@@ -86,8 +86,8 @@ module _ (c : tie.After-first-short) where
   found : c .first-short .result ≡ first (endsEarly (entry .args .group) (length (entry .args .nodes .now))) (entry .args .group .grids)
   found = c .first-short .ensures ∙ short (entry .args .group) (c .before .before .before .fill-ends .last .1 .0) _ (c .before .before .before .fill-ends .ensures .0)
 
-add-t19 : tie.Need-add-t19
-add-t19 c = search needs
+add-t21 : tie.Need-add-t21
+add-t21 c = search needs
 
 returns-3 : tie.Need-returns-3
 returns-3 c =
@@ -99,7 +99,7 @@ ready : (c : tie.Else3) → LookupReady (entry (c .before) .args .group) (length
 ready c =
     let q = c .before in
     record {
-      accepted = entry q .pre;
+      accepted = entry q .pre .0;
       point = point q;
       day = day q;
       ends = le-ltb _ _ (subst (λ (n : ℕ). entry q .args .group .grids ≤ n) (found q) (c .if3 .left));
@@ -107,8 +107,12 @@ ready c =
 
 look-in-requires : tie.Need-look-in-requires
 look-in-requires c κs =
-    let q = c .before in let s = entry q in
-    subst (λ (z : ℤ). LookupReady (s .args .group) (length (s .args .nodes .now)) (s .args .point) z) (sym (toZ-ofZ w64 (s .args .day) (s .fits .day))) (ready c)
+    let q = c .before in let s = entry q in (
+      subst (λ (z : ℤ). LookupReady (s .args .group) (length (s .args .nodes .now)) (s .args .point) z) (sym (toZ-ofZ w64 (s .args .day) (s .fits .day))) (ready c),
+      s .pre .1,
+      s .pre .2,
+      s .pre .3,
+    )
 
 returns-4 : tie.Need-returns-4
 returns-4 c =
@@ -129,7 +133,7 @@ look-accepted-spec =
     fill-ends-requires
     slice-aggregate-first-short
     first-short-requires
-    add-t19
+    add-t21
     returns-3
     look-in-requires
     returns-4)

@@ -1,5 +1,6 @@
 -- `lookup` meets its contract.
 use mathlib.Core.Path.{sym, ap, _∙_}
+use native.Mathlib.Omega.{arith}
 use mir.Syntax.{w64}
 use mir.ValLaws.{toZ-ofZ}
 use Rattle.lookup.specs.Lookup.{lookedIn}
@@ -8,8 +9,14 @@ use borrow.Author.Needs.{needs}
 use Rattle.lookup.proofs.lookup.Statement.{statement}
 use Rattle.lookup.proofs.lookup.Tie as tie
 
-judge-requires : tie.Need-judge-requires
-judge-requires c κs = search needs
+slice-aggregate-judge-into : tie.Need-slice-aggregate-judge-into
+slice-aggregate-judge-into c = search needs
+
+slice-aggregate-judge-into-2 : tie.Need-slice-aggregate-judge-into-2
+slice-aggregate-judge-into-2 c = search needs
+
+judge-into-requires : tie.Need-judge-into-requires
+judge-into-requires c κs = search needs
 
 enum-known-verdict : tie.Need-enum-known-verdict
 enum-known-verdict c = search needs
@@ -17,22 +24,40 @@ enum-known-verdict c = search needs
 enum-told : tie.Need-enum-told
 enum-told c = search needs
 
+slice-aggregate-look-accepted : tie.Need-slice-aggregate-look-accepted
+slice-aggregate-look-accepted c = search needs
+
+slice-aggregate-look-accepted-2 : tie.Need-slice-aggregate-look-accepted-2
+slice-aggregate-look-accepted-2 c = search needs
+
 look-accepted-requires : tie.Need-look-accepted-requires
-look-accepted-requires c κs = sym (c .before .before .judge .ensures) ∙ c .enum-told .given .1
+look-accepted-requires c κs =
+    let j = c .before .before .before .before .before .before .judge-into in let v = c .before .before .enum-told .given .1 in
+    (sym (j .ensures .0) ∙ v, j .ensures .1 v, omega (arith, j .kept .1 .0), omega (arith, j .kept .1 .1 .0))
 
 returns : tie.Need-returns
 returns c =
-    let a = c .before .before .before .before .args in
-    sym (looked-group (a .group) (a .nodes .now) (a .point) (a .day) _ (sym (c .before .before .before .judge .ensures) ∙ c .before .verdict .given .1))
+    let a = c .before .before .before .before .before .before .before .before .args in
+    sym (looked-group (a .group) (a .nodes .now) (a .point) (a .day) _ (sym (c .before .before .before .before .before .judge-into .ensures .0) ∙ c .before .verdict .given .1))
 
 returns-2 : tie.Need-returns-2
 returns-2 c =
-    let s = c .before .before .before .before in let a = s .args in
+    let s = c .before .before .before .before .before .before .before .before .before .before in let a = s .args in
     c .look-accepted .ensures
     ∙ ap (lookedIn (a .group) (a .nodes .now) (a .point)) (toZ-ofZ w64 (a .day) (s .fits .day))
-    ∙ sym (looked-accepted (a .group) (a .nodes .now) (a .point) (a .day) (sym (c .before .before .before .judge .ensures) ∙ c .before .enum-told .given .1))
+    ∙ sym (looked-accepted (a .group) (a .nodes .now) (a .point) (a .day) (sym (c .before .before .before .before .before .before .before .judge-into .ensures .0) ∙ c .before .before .before .enum-told .given .1))
 
 pub lookup-spec : {M : Type 1} → statement M
 lookup-spec =
     tie.close
-    (tie.spec judge-requires enum-known-verdict enum-told look-accepted-requires returns returns-2)
+    (tie.spec
+    slice-aggregate-judge-into
+    slice-aggregate-judge-into-2
+    judge-into-requires
+    enum-known-verdict
+    enum-told
+    slice-aggregate-look-accepted
+    slice-aggregate-look-accepted-2
+    look-accepted-requires
+    returns
+    returns-2)
