@@ -1,16 +1,19 @@
 -- What the code meets on the three kinds of line, in terms of what its callees answer.
-use Prim.Native.Nat.{ℕ}
+use Prim.Native.Nat.{ℕ, suc, _+_}
 use mathlib.Core.Path.{_≡_, refl, sym, ap, _∙_}
-use mathlib.Core.Bool.{Bool, true, false, cond}
+use mathlib.Core.Bool.{Bool, true, false, cond, _&&_}
 use mathlib.Core.List.{List, []}
 use mathlib.Core.Option.{Option, none, some}
 use native.Mathlib.Omega.{arith}
 use mir.Syntax.{w64}
 use mir.Val.{toZ, ofZ, SFits}
 use mir.Facts.{toZ-ofZ}
-use lib.ListN.{getD, drop}
+use lib.Dec.{eqb}
+use lib.ListN.{length, getD, drop}
 use lib.Seq.{getD-drop}
 use lib.IntN.{ℤ}
+use borrow.Author.Tests.{eqb-true, eq-eqb}
+use Rattle.numbers.proofs.Bools.{and-left, and-right, true-false}
 use Rattle.text.specs.Parts.{split, fieldOf}
 use Rattle.text.specs.Fields.{same}
 use Rattle.text.specs.Decimal.{readInt}
@@ -35,12 +38,34 @@ use Rattle.line.specs.declared.Form.the-variants.{Malformed, Named}
 use Rattle.line.specs.declared.UnitRead.{UnitRead}
 use Rattle.line.specs.declared.UnitRead.the-variants.{Unknown, Known}
 use Rattle.line.specs.Names.{isName, nameOf, readName, readUnit}
-use Rattle.line.specs.Lines.{headTexts, gridTexts, paired}
+use Rattle.line.specs.Lines.{fields, lineOf, headTexts, gridTexts, paired}
 use Rattle.line.specs.Answers.{formOf, unitAnswer, headAnswer, rampAnswer, gridAnswer}
+use Rattle.line.proofs.LineLaws.{keyed-miss, keyed-hit, fields-count}
 
--- the test of a line's keyword
-pub opens-split : (line word : List ℕ) (r : Bool) → r ≡ same (fieldOf line 0) word → same (getD (split 9 line) 0 []) word ≡ r
-opens-split line word r e = sym (e ∙ ap (λ (l : List ℕ). same l word) (field-split line 0))
+-- the test of a line's keyword and of the count of its fields
+pub kind-counted : (word line : List ℕ) (n : ℕ) (r : Bool) → r ≡ (same (fieldOf line 0) word && eqb (length (split 9 line)) n) → r ≡ true → length (split 9 line) ≡ n
+kind-counted word line n r e t = eqb-true (length (split 9 line)) n (and-right (same (fieldOf line 0) word) (eqb (length (split 9 line)) n) (sym e ∙ t))
+
+module _ {B A E : Type 0} (texts numbers : ℕ) (read : List (List ℕ) → Option B) (fits : List ℤ → Bool) (make : B → List ℤ → A) (form limit : E) (word line : List ℕ) where
+  keyword : same (getD (split 9 line) 0 []) word ≡ same (fieldOf line 0) word
+  keyword = ap (λ (l : List ℕ). same l word) (sym (field-split line 0))
+
+  pub kind-hit : (r : Bool) → r ≡ (same (fieldOf line 0) word && eqb (length (split 9 line)) (suc (texts + numbers))) → r ≡ true
+      → lineOf texts numbers read fits make form limit word line ≡ fields texts numbers read fits make form limit (drop 1 (split 9 line))
+  kind-hit r e t =
+      keyed-hit word (fields texts numbers read fits make form limit) (λ fs. bad form) line
+      (keyword ∙ and-left (same (fieldOf line 0) word) (eqb (length (split 9 line)) (suc (texts + numbers))) (sym e ∙ t))
+
+  pub kind-miss : (r : Bool) → r ≡ (same (fieldOf line 0) word && eqb (length (split 9 line)) (suc (texts + numbers))) → r ≡ false
+      → lineOf texts numbers read fits make form limit word line ≡ bad form
+  kind-miss r e f = go (same (fieldOf line 0) word) refl (sym e ∙ f)
+    where
+      go : (b : Bool) → same (fieldOf line 0) word ≡ b → (b && eqb (length (split 9 line)) (suc (texts + numbers))) ≡ false
+          → lineOf texts numbers read fits make form limit word line ≡ bad form
+      go false k q = keyed-miss word (fields texts numbers read fits make form limit) (λ fs. bad form) (split 9 line) (keyword ∙ k)
+      go true k q =
+          keyed-hit word (fields texts numbers read fits make form limit) (λ fs. bad form) line (keyword ∙ k)
+          ∙ fields-count texts numbers read fits make form limit line (λ n. true-false (eq-eqb (length (split 9 line)) (suc (texts + numbers)) n) q)
 
 pub form-bad : (f g : List ℕ) (q : Form) → f ≡ g → q ≡ formOf (isName f) → q ≡ Malformed → isName g ≡ false
 form-bad f g q e p t = ap isName (sym e) ∙ go (isName f) (sym p ∙ t)

@@ -1,15 +1,19 @@
 // The lines of a header: reading one and writing one.
 ghost use mathlib.Core.Path.{_≡_};
+ghost use mathlib.Core.Bool.{cond, _&&_};
 ghost use mathlib.Core.List.{_∷_, [], _++_};
 ghost use Prim.Native.Nat.{_+_, _≤_};
+ghost use lib.Dec.{eqb};
 ghost use lib.ListN.{length, take};
-ghost use Rattle.text.specs.Parts.{fieldOf};
+ghost use Rattle.text.specs.Parts.{split, fieldOf};
+ghost use Rattle.text.specs.Cuts.{fieldsMost, Cuts};
 ghost use Rattle.text.specs.Fields.{same};
 ghost use Rattle.text.specs.Wrote.{Wrote};
 ghost use Rattle.group.specs.Numbers.{nameMost};
+ghost use Rattle.group.specs.Limits.{gridFits};
 ghost use Rattle.line.specs.Names.{isName, nameOf, nameText, readUnit, unitText};
 ghost use Rattle.group.specs.Refusals.{refusal};
-ghost use Rattle.line.specs.Line.{bad};
+ghost use Rattle.line.specs.Line.{bad, good};
 ghost use Rattle.line.specs.Lines.{headLine, headText, rampLine, rampText, gridLine, gridText};
 ghost use Rattle.line.specs.Counted.{countedHead, countedGrid};
 ghost use Rattle.line.specs.Blank.{blankHead};
@@ -132,11 +136,15 @@ fn read_unit(s: &[u8]) -> UnitRead
     UnitRead::Unknown
 }
 
-// Whether a line begins with the word.
-fn opens(line: &[u8], word: &[u8]) -> bool
-    ensures { λ r. ⌜ r ≡ same (fieldOf (now (line .entry)) 0) (now (word .entry)) ⌝ }
+// Cuts a line into its fields: whether it begins with the word and has so many fields.
+fn cut_as(line: &[u8], cuts: &mut [usize; text::CUTS], word: &[u8], count: usize) -> bool
+    requires { ⌜ length (now cuts) ≡ fieldsMost + 1 ⌝ }
+    ensures { λ r. ⌜ r ≡ (same (fieldOf (now (line .entry)) 0) (now (word .entry)) && eqb (length (split 9 (now (line .entry)))) count) ⌝ }
+    ensures { λ r. ⌜ Cuts (now (line .entry)) (now (cuts .exit)) ⌝ }
 {
-    text::same_bytes(text::field(line, 0), word)
+    let n = text::cut_fields(line, cuts);
+    let keyed = text::same_bytes(text::cut_field(line, cuts, 0), word);
+    keyed & (n == count)
 }
 
 // The group line of a name, a unit and four numbers.
@@ -211,35 +219,46 @@ fn refused_grid(number: u64, place: u64) -> GridRead
     }
 }
 
+// Line n, whose fields make this grid: refused by 2 where a number is outside its limit.
+fn grid_judged(grid: Grid, n: u64) -> GridRead
+    ensures { λ r. ⌜ r ≡ gridAnswer (cond (gridFits grid) (good grid) (bad (refusal 2 n))) ⌝ }
+{
+    if !group::grid_fits(grid) {
+        return refused_grid(2, n);
+    }
+    GridRead {
+        verdict: Verdict::Accepted,
+        grid,
+    }
+}
+
 // Line 1 as a group line.
 pub fn group_line(line: &[u8]) -> HeadRead
     ensures { λ r. ⌜ r ≡ headAnswer (headLine 1 (now (line .entry))) ⌝ }
 {
-    if !opens(line, b"group") {
+    let mut cuts = [0; text::CUTS];
+    if !cut_as(line, &mut cuts, b"group", 7) {
         return refused_head(1, 1);
     }
-    if text::part_count(line, 9) != 7 {
-        return refused_head(1, 1);
-    }
-    let Form::Named = name_form(text::field(line, 1)) else {
+    let Form::Named = name_form(text::cut_field(line, &cuts, 1)) else {
         return refused_head(1, 1);
     };
-    let UnitRead::Known(unit) = read_unit(text::field(line, 2)) else {
+    let UnitRead::Known(unit) = read_unit(text::cut_field(line, &cuts, 2)) else {
         return refused_head(1, 1);
     };
-    let Number::Whole(q) = text::read_number(text::field(line, 3)) else {
+    let Number::Whole(q) = text::read_number(text::cut_field(line, &cuts, 3)) else {
         return refused_head(1, 1);
     };
-    let Number::Whole(np) = text::read_number(text::field(line, 4)) else {
+    let Number::Whole(np) = text::read_number(text::cut_field(line, &cuts, 4)) else {
         return refused_head(1, 1);
     };
-    let Number::Whole(ramps) = text::read_number(text::field(line, 5)) else {
+    let Number::Whole(ramps) = text::read_number(text::cut_field(line, &cuts, 5)) else {
         return refused_head(1, 1);
     };
-    let Number::Whole(grids) = text::read_number(text::field(line, 6)) else {
+    let Number::Whole(grids) = text::read_number(text::cut_field(line, &cuts, 6)) else {
         return refused_head(1, 1);
     };
-    let name = read_name(text::field(line, 1));
+    let name = read_name(text::cut_field(line, &cuts, 1));
     let head = head_made(name, unit, q, np, ramps, grids);
     if !group::head_numbers_fit(head.quantum, head.parameters, head.ramps, head.grids) {
         return refused_head(2, 1);
@@ -254,22 +273,20 @@ pub fn group_line(line: &[u8]) -> HeadRead
 pub fn ramp_line(line: &[u8], n: u64) -> RampRead
     ensures { λ r. ⌜ r ≡ rampAnswer (rampLine n (now (line .entry))) ⌝ }
 {
-    if !opens(line, b"ramp") {
+    let mut cuts = [0; text::CUTS];
+    if !cut_as(line, &mut cuts, b"ramp", 5) {
         return refused_ramp(1, n);
     }
-    if text::part_count(line, 9) != 5 {
-        return refused_ramp(1, n);
-    }
-    let Number::Whole(a) = text::read_number(text::field(line, 1)) else {
+    let Number::Whole(a) = text::read_number(text::cut_field(line, &cuts, 1)) else {
         return refused_ramp(1, n);
     };
-    let Number::Whole(s0) = text::read_number(text::field(line, 2)) else {
+    let Number::Whole(s0) = text::read_number(text::cut_field(line, &cuts, 2)) else {
         return refused_ramp(1, n);
     };
-    let Number::Whole(b) = text::read_number(text::field(line, 3)) else {
+    let Number::Whole(b) = text::read_number(text::cut_field(line, &cuts, 3)) else {
         return refused_ramp(1, n);
     };
-    let Number::Whole(s1) = text::read_number(text::field(line, 4)) else {
+    let Number::Whole(s1) = text::read_number(text::cut_field(line, &cuts, 4)) else {
         return refused_ramp(1, n);
     };
     let ramp = Ramp { a, s0, b, s1 };
@@ -286,48 +303,40 @@ pub fn ramp_line(line: &[u8], n: u64) -> RampRead
 pub fn grid_line(line: &[u8], n: u64) -> GridRead
     ensures { λ r. ⌜ r ≡ gridAnswer (gridLine n (now (line .entry))) ⌝ }
 {
-    if !opens(line, b"grid") {
+    let mut cuts = [0; text::CUTS];
+    if !cut_as(line, &mut cuts, b"grid", 10) {
         return refused_grid(1, n);
     }
-    if text::part_count(line, 9) != 10 {
-        return refused_grid(1, n);
-    }
-    let Form::Named = name_form(text::field(line, 1)) else {
+    let Form::Named = name_form(text::cut_field(line, &cuts, 1)) else {
         return refused_grid(1, n);
     };
-    let Number::Whole(lon) = text::read_number(text::field(line, 2)) else {
+    let Number::Whole(lon) = text::read_number(text::cut_field(line, &cuts, 2)) else {
         return refused_grid(1, n);
     };
-    let Number::Whole(lat) = text::read_number(text::field(line, 3)) else {
+    let Number::Whole(lat) = text::read_number(text::cut_field(line, &cuts, 3)) else {
         return refused_grid(1, n);
     };
-    let Number::Whole(dlon) = text::read_number(text::field(line, 4)) else {
+    let Number::Whole(dlon) = text::read_number(text::cut_field(line, &cuts, 4)) else {
         return refused_grid(1, n);
     };
-    let Number::Whole(dlat) = text::read_number(text::field(line, 5)) else {
+    let Number::Whole(dlat) = text::read_number(text::cut_field(line, &cuts, 5)) else {
         return refused_grid(1, n);
     };
-    let Number::Whole(ni) = text::read_number(text::field(line, 6)) else {
+    let Number::Whole(ni) = text::read_number(text::cut_field(line, &cuts, 6)) else {
         return refused_grid(1, n);
     };
-    let Number::Whole(nj) = text::read_number(text::field(line, 7)) else {
+    let Number::Whole(nj) = text::read_number(text::cut_field(line, &cuts, 7)) else {
         return refused_grid(1, n);
     };
-    let Number::Whole(rank) = text::read_number(text::field(line, 8)) else {
+    let Number::Whole(rank) = text::read_number(text::cut_field(line, &cuts, 8)) else {
         return refused_grid(1, n);
     };
-    let Number::Whole(start) = text::read_number(text::field(line, 9)) else {
+    let Number::Whole(start) = text::read_number(text::cut_field(line, &cuts, 9)) else {
         return refused_grid(1, n);
     };
-    let name = read_name(text::field(line, 1));
+    let name = read_name(text::cut_field(line, &cuts, 1));
     let grid = grid_made(name, lon, lat, dlon, dlat, ni, nj, rank, start);
-    if !group::grid_fits(grid) {
-        return refused_grid(2, n);
-    }
-    GridRead {
-        verdict: Verdict::Accepted,
-        grid,
-    }
+    grid_judged(grid, n)
 }
 
 // Writes the first n bytes of s.

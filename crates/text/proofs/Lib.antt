@@ -2,5 +2,6 @@
 pub mod PartLaws
 pub mod DecimalLaws
 pub mod NumberLaws
+pub mod CutLaws
 pub mod FieldLaws
 pub mod PutLaws

@@ -207,16 +207,6 @@ length-glue x (p ∷ ps) h = refl
 pub some-split : (c : ℕ) (s : List ℕ) → 0 < length (split c s)
 some-split c s = let f = first-part c s in rw (f .1 .1) (omega arith)
 
-pub count-sep : (c : ℕ) (s : List ℕ) (i : ℕ) → i < length s → getD s i 0 ≡ c → length (split c (drop i s)) ≡ suc (length (split c (drop (i + 1) s)))
-count-sep c s i h e = rw (drop-cons s i 0 h, eq-eqb (getD s i 0) c e, add-one)
-
-pub count-other : (c : ℕ) (s : List ℕ) (i : ℕ) → i < length s → (getD s i 0 ≡ c → ⊥) → length (split c (drop i s)) ≡ length (split c (drop (i + 1) s))
-count-other c s i h e =
-    rw (drop-cons s i 0 h, ne-eqb (getD s i 0) c e, add-one) (length-glue (getD s i 0) (split c (drop (suc i) s)) (some-split c (drop (suc i) s)))
-
-pub count-end : (c : ℕ) (s : List ℕ) (i : ℕ) → length s ≤ i → length (split c (drop i s)) ≡ 1
-count-end c s i h = rw (drop-of-length-le s h)
-
 -- ---- past the last part
 
 start-past : (c : ℕ) (s : List ℕ) (k : ℕ) → length (split c s) ≤ k → startOf c s k ≡ length s

@@ -6,15 +6,16 @@ ghost use Prim.Native.Nat.{_+_, _-_, _*_, _≤_, _<_, min};
 ghost use lib.IntN.{pos, negℤ};
 ghost use lib.ListN.{length, drop};
 ghost use Rattle.text.specs.Parts.{behind, split, upTo, startOf, Lacks, fieldOf};
+ghost use Rattle.text.specs.Cuts.{fieldsMost, Cut, Cuts};
 ghost use Rattle.text.specs.Decimal.{digitsFrom, readNat, readInt, decimal, intText};
 ghost use Rattle.text.specs.Number.{numberMost, naturalOf, numberOf};
 ghost use Rattle.text.specs.Fields.{same};
 ghost use Rattle.text.specs.Wrote.{Wrote};
 
 // Bytes that are looked at before it is asked whether c is among them, and how far the end has to be for that.
-const BLOCK: usize = 64;
+const BLOCK: usize = 16;
 
-const FAR: usize = 512;
+const FAR: usize = 64;
 
 // Whether none of the bytes from a to e is c.
 fn lacks(s: &[u8], a: usize, e: usize, c: u8) -> bool
@@ -61,31 +62,21 @@ fn near_from(s: &[u8], a: usize, c: u8) -> usize
     i
 }
 
-// The same, past blocks at first.
-fn far_from(s: &[u8], a: usize, c: u8) -> usize
+// Where the first byte c at or behind a stands, or the end.
+pub fn find_from(s: &[u8], a: usize, c: u8) -> usize
     ensures { λ r. ⌜ r ≡ a + upTo c (drop a (now (s .entry))) ⌝ }
 {
     near_from(s, past_blocks(s, a, c), c)
 }
 
-// Where the first byte c at or behind a stands, or the end.
-pub fn find_from(s: &[u8], a: usize, c: u8) -> usize
-    ensures { λ r. ⌜ r ≡ a + upTo c (drop a (now (s .entry))) ⌝ }
-{
-    if s.len() < FAR {
-        return near_from(s, a, c);
-    }
-    far_from(s, a, c)
-}
-
-// Where part k of s, parted at c, starts: one byte after the other.
-fn near_start(s: &[u8], k: usize, c: u8) -> usize
+// Where part k of s, parted at c, starts: behind the k-th c, or at the end.
+pub fn part_start(s: &[u8], k: usize, c: u8) -> usize
     ensures { λ r. ⌜ r ≡ startOf c (now (s .entry)) k ⌝ }
 {
     let mut seps = k;
     let mut i = 0;
     while 0 < seps {
-        let e = near_from(s, i, c);
+        let e = find_from(s, i, c);
         if s.len() <= e {
             return e;
         }
@@ -93,48 +84,6 @@ fn near_start(s: &[u8], k: usize, c: u8) -> usize
         seps -= 1;
     }
     i
-}
-
-// The same, past blocks between the separators.
-fn far_start(s: &[u8], k: usize, c: u8) -> usize
-    ensures { λ r. ⌜ r ≡ startOf c (now (s .entry)) k ⌝ }
-{
-    let mut left = k;
-    let mut i = 0;
-    while 0 < left {
-        let e = far_from(s, i, c);
-        if s.len() <= e {
-            return e;
-        }
-        i = e + 1;
-        left -= 1;
-    }
-    i
-}
-
-// Where part k of s, parted at c, starts: behind the k-th c, or at the end.
-pub fn part_start(s: &[u8], k: usize, c: u8) -> usize
-    ensures { λ r. ⌜ r ≡ startOf c (now (s .entry)) k ⌝ }
-{
-    if s.len() < FAR {
-        return near_start(s, k, c);
-    }
-    far_start(s, k, c)
-}
-
-// How many parts s has, parted at c.
-pub fn part_count(s: &[u8], c: u8) -> usize
-    ensures { λ r. ⌜ r ≡ length (split c (now (s .entry))) ⌝ }
-{
-    let mut n: usize = 1;
-    let mut i = 0;
-    while i < s.len() {
-        if s[i] == c {
-            n += 1;
-        }
-        i += 1;
-    }
-    n
 }
 
 // Field `number` of a line, counted from 0, as a part of the caller's own line; past the last field the empty part at the
@@ -145,6 +94,42 @@ pub fn field(line: &[u8], number: usize) -> &[u8]
 {
     let a = part_start(line, number, 9);
     let e = find_from(line, a, 9);
+    &line[a..e]
+}
+
+// Room for where ten fields start, and for one place behind the last.
+pub const CUTS: usize = 11;
+
+// Walks a line once: leaves in `cuts` where each field starts that it has room for, and behind the last field one more than its end;
+// answers how many fields the line has.
+pub fn cut_fields(line: &[u8], cuts: &mut [usize; CUTS]) -> usize
+    requires { ⌜ length (now cuts) ≡ fieldsMost + 1 ⌝ }
+    ensures { λ r. ⌜ r ≡ length (split 9 (now (line .entry))) ⌝ }
+    ensures { λ r. ⌜ Cuts (now (line .entry)) (now (cuts .exit)) ⌝ }
+{
+    let mut n: usize = 0;
+    let mut i = 0;
+    cuts[0] = 0;
+    loop {
+        let e = find_from(line, i, 9);
+        i = e + 1;
+        n += 1;
+        if n < CUTS {
+            cuts[n] = i;
+        }
+        if line.len() <= e {
+            return n;
+        }
+    }
+}
+
+// Field `number` of a line that is cut there.
+pub fn cut_field<'a>(line: &'a [u8], cuts: &[usize; CUTS], number: usize) -> &'a [u8]
+    requires { ⌜ (number < fieldsMost) × Cut (now line) (now cuts) number ⌝ }
+    ensures { λ r. ⌜ now r ≡ fieldOf (now (line .entry)) number ⌝ }
+{
+    let a = cuts[number];
+    let e = cuts[number + 1] - 1;
     &line[a..e]
 }
 

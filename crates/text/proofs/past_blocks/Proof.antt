@@ -45,7 +45,7 @@ loop-again c =
     let l = c .before .before .before .before in
     let a = l .before .before .args in
     let v = l .loop .inv in
-    let p = upTo-past (a .c) (a .s .now) (l .loop .i) 64 (omega arith) (c .before .lacks .ensures (not-false _ (c .if2 .left))) in
+    let p = upTo-past (a .c) (a .s .now) (l .loop .i) 16 (omega arith) (c .before .lacks .ensures (not-false _ (c .if2 .left))) in
     omega arith
 
 returns-3 : tie.Need-returns-3 Inv-loop μ-loop
