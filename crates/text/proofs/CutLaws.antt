@@ -1,6 +1,6 @@
 -- Laws of cutting a line into its fields by one walk.
-use Prim.Native.Nat.{ℕ, zero, suc, _+_, _<_, _≤_}
-use mathlib.Core.Path.{_≡_, refl, sym, ap, _∙_}
+use Prim.Native.Nat.{ℕ, suc, _+_, _<_, _≤_}
+use mathlib.Core.Path.{_≡_, sym, ap, _∙_}
 use mathlib.Core.List.{List}
 use native.Mathlib.Nat.{zero-add, add-zero}
 use native.Mathlib.Numerals.{sub-one}
@@ -18,7 +18,7 @@ pub record Walked (s cuts : List ℕ) (n i : ℕ) : Type 0 where
   pub within : i ≤ length s
   pub below : n ≤ i
   pub parts : n + length (split 9 (drop i s)) ≡ length (split 9 s)
-  pub starts : (k : ℕ) → startOf 9 s (n + k) ≡ i + startOf 9 (drop i s) k
+  pub later : (k : ℕ) → startOf 9 s (n + k) ≡ i + startOf 9 (drop i s) k
   pub next : n ≤ fieldsMost → getD cuts n 0 ≡ i
   pub cut : (k : ℕ) → k < n → k < fieldsMost → Cut s cuts k
 
@@ -28,7 +28,7 @@ none-cut s cuts h = record {
   within = omega arith;
   below = omega arith;
   parts = zero-add (length (split 9 s));
-  starts = λ k. ap (startOf 9 s) (zero-add k) ∙ sym (zero-add (startOf 9 s k));
+  later = λ k. ap (startOf 9 s) (zero-add k) ∙ sym (zero-add (startOf 9 s k));
   next = λ l. getD-set-same cuts 0 0 0 (omega arith);
   cut = λ k l m. absurd (omega arith);
 }
@@ -36,7 +36,7 @@ none-cut s cuts h = record {
 -- the field at i ends at e
 module _ (s cuts : List ℕ) (n i e : ℕ) (w : Walked s cuts n i) (f : e ≡ i + upTo 9 (drop i s)) where
   start-is : startOf 9 s n ≡ i
-  start-is = ap (startOf 9 s) (sym (add-zero n)) ∙ (let z = startOf-zero 9 (drop i s) in let t = w .starts 0 in omega arith)
+  start-is = ap (startOf 9 s) (sym (add-zero n)) ∙ (let z = startOf-zero 9 (drop i s) in let t = w .later 0 in omega arith)
 
   end-is : endOf 9 s n ≡ e
   end-is = ap (λ (j : ℕ). j + upTo 9 (drop j s)) start-is ∙ sym f
@@ -44,17 +44,17 @@ module _ (s cuts : List ℕ) (n i e : ℕ) (w : Walked s cuts n i) (f : e ≡ i 
   earlier : (k : ℕ) → k ≤ n → getD (set cuts (n + 1) (e + 1)) k 0 ≡ getD cuts k 0
   earlier k h = getD-set-other cuts (n + 1) k (e + 1) 0 (λ q. omega arith)
 
-  put : n < fieldsMost → getD (set cuts (n + 1) (e + 1)) (n + 1) 0 ≡ e + 1
-  put h = let r = w .room in getD-set-same cuts (n + 1) (e + 1) 0 (omega arith)
+  stored-at : n < fieldsMost → getD (set cuts (n + 1) (e + 1)) (n + 1) 0 ≡ e + 1
+  stored-at h = let r = w .room in getD-set-same cuts (n + 1) (e + 1) 0 (omega arith)
 
   pub one-more : (k : ℕ) → k < n + 1 → k < fieldsMost → Cut s (set cuts (n + 1) (e + 1)) k
   one-more k h m =
       three-ways k n
-      (λ l. record { start = earlier k (omega arith) ∙ w .cut k l m .start; behind = earlier (k + 1) (omega arith) ∙ w .cut k l m .behind })
+      (λ l. record { starts = earlier k (omega arith) ∙ w .cut k l m .starts; ends = earlier (k + 1) (omega arith) ∙ w .cut k l m .ends })
       (λ q. let g : n < fieldsMost = omega arith in
       record {
-        start = earlier k (omega arith) ∙ ap (λ (j : ℕ). getD cuts j 0) q ∙ w .next (omega arith) ∙ sym start-is ∙ ap (startOf 9 s) (sym q);
-        behind = ap (λ (j : ℕ). getD (set cuts (n + 1) (e + 1)) (j + 1) 0) q ∙ put g ∙ ap (λ (j : ℕ). j + 1) (sym end-is ∙ ap (endOf 9 s) (sym q));
+        starts = earlier k (omega arith) ∙ ap (λ (j : ℕ). getD cuts j 0) q ∙ w .next (omega arith) ∙ sym start-is ∙ ap (startOf 9 s) (sym q);
+        ends = ap (λ (j : ℕ). getD (set cuts (n + 1) (e + 1)) (j + 1) 0) q ∙ stored-at g ∙ ap (λ (j : ℕ). j + 1) (sym end-is ∙ ap (endOf 9 s) (sym q));
       })
       (λ l. absurd (omega arith))
 
@@ -65,6 +65,12 @@ module _ (s cuts : List ℕ) (n i e : ℕ) (w : Walked s cuts n i) (f : e ≡ i 
       let t = ap length (split-last 9 (drop i s) (let v = w .within in omega arith)) in
       let p = w .parts in
       omega arith
+
+  still-later : e < length s → (k : ℕ) → startOf 9 s (n + 1 + k) ≡ e + 1 + startOf 9 (drop (e + 1) s) k
+  still-later h k =
+      let a : n + 1 + k ≡ n + suc k = omega arith in
+      ap (startOf 9 s) a ∙ w .later (suc k) ∙ start-on 9 s i e (w .within) f (suc k) (λ z. omega arith) h
+      ∙ ap (λ (m : ℕ). e + 1 + startOf 9 (drop (e + 1) s) m) (sub-one (suc k))
 
   pub next-cut : e < length s → Walked s (set cuts (n + 1) (e + 1)) (n + 1) (e + 1)
   next-cut h =
@@ -80,7 +86,7 @@ module _ (s cuts : List ℕ) (n i e : ℕ) (w : Walked s cuts n i) (f : e ≡ i 
         within = omega arith;
         below = omega arith;
         parts = omega arith;
-        starts = λ k. let a : n + 1 + k ≡ n + suc k = omega arith in ap (startOf 9 s) a ∙ w .starts (suc k) ∙ start-on 9 s i e v f (suc k) (λ z. omega arith) h ∙ ap (λ (m : ℕ). e + 1 + startOf 9 (drop (e + 1) s) m) (sub-one (suc k));
-        next = λ l. put (omega arith);
+        later = still-later h;
+        next = λ l. stored-at (omega arith);
         cut = one-more;
       }

@@ -11,8 +11,8 @@ fieldsMost = 10
 
 -- entry k is where field k starts, and the next one stands behind its end
 pub record Cut (line cuts : List ℕ) (k : ℕ) : Type 0 where
-  pub start : getD cuts k 0 ≡ startOf 9 line k
-  pub behind : getD cuts (k + 1) 0 ≡ endOf 9 line k + 1
+  pub starts : getD cuts k 0 ≡ startOf 9 line k
+  pub ends : getD cuts (k + 1) 0 ≡ endOf 9 line k + 1
 
 -- so for every field that is kept
 abbrev pub Cuts : List ℕ → List ℕ → Type 0

@@ -48,11 +48,11 @@ fn past_blocks(s: &[u8], a: usize, c: u8) -> usize
     i
 }
 
-// Where the first byte c at or behind a stands, or the end: one byte after the other.
-fn near_from(s: &[u8], a: usize, c: u8) -> usize
+// Where the first byte c at or behind a stands, or the end.
+pub fn find_from(s: &[u8], a: usize, c: u8) -> usize
     ensures { λ r. ⌜ r ≡ a + upTo c (drop a (now (s .entry))) ⌝ }
 {
-    let mut i = a;
+    let mut i = past_blocks(s, a, c);
     while i < s.len() {
         if s[i] == c {
             return i;
@@ -60,13 +60,6 @@ fn near_from(s: &[u8], a: usize, c: u8) -> usize
         i += 1;
     }
     i
-}
-
-// Where the first byte c at or behind a stands, or the end.
-pub fn find_from(s: &[u8], a: usize, c: u8) -> usize
-    ensures { λ r. ⌜ r ≡ a + upTo c (drop a (now (s .entry))) ⌝ }
-{
-    near_from(s, past_blocks(s, a, c), c)
 }
 
 // Where part k of s, parted at c, starts: behind the k-th c, or at the end.

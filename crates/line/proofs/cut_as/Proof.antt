@@ -1,12 +1,10 @@
 -- `line::cut_as` meets its contract.
 use Prim.Native.Nat.{ℕ}
 use mathlib.Core.Path.{ap, _∙_}
-use mathlib.Core.Bool.{Bool, _&&_}
+use mathlib.Core.Bool.{_&&_}
 use mathlib.Core.List.{List}
 use native.Mathlib.Omega.{arith}
 use lib.Dec.{eqb}
-use lib.ListN.{length}
-use Rattle.text.specs.Parts.{split}
 use Rattle.text.specs.Fields.{same}
 use Rattle.text.proofs.PartLaws.{some-split}
 use borrow.Author.Needs.{needs}

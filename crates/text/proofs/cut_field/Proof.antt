@@ -8,42 +8,31 @@ use Rattle.text.specs.Parts.{startOf, endOf}
 use Rattle.text.proofs.PartLaws.{startOf-le, upTo-le}
 use Rattle.text.proofs.cut_field.Statement.{statement}
 use Rattle.text.proofs.cut_field.Tie as tie
-use Rattle.text.proofs.cut_field.Reads as reads
-use Rattle.text.proofs.cut_field.Lts as lts
 
--- src/lib.rt:130:13
 mul-a : tie.Need-mul-a
 mul-a c = search needs
 
--- src/lib.rt:130:13
 element-copy-out-a : tie.Need-element-copy-out-a
 element-copy-out-a c = search needs
 
--- src/lib.rt:131:18
 add-e : tie.Need-add-e
 add-e c = search needs
 
--- src/lib.rt:131:13
 mul-e : tie.Need-mul-e
 mul-e c = search needs
 
--- src/lib.rt:131:13
 element-copy-out-e : tie.Need-element-copy-out-e
 element-copy-out-e c = search needs
 
--- src/lib.rt:131:13
 sub-e : tie.Need-sub-e
 sub-e c = search needs
 
--- src/lib.rt:132:5
 sub-result : tie.Need-sub-result
 sub-result c = search needs
 
--- src/lib.rt:132:5
 part-result-start : tie.Need-part-result-start
 part-result-start c = search needs
 
--- src/lib.rt:132:5
 part-result-end : tie.Need-part-result-end
 part-result-end c =
     let a = c .before .before .args in
@@ -51,14 +40,13 @@ part-result-end c =
     let b = startOf 9 s (a .number) in
     omega (arith, upTo-le 9 (drop b s), length-drop b s, startOf-le 9 s (a .number))
 
--- src/lib.rt:126:1
 returns : tie.Need-returns
 returns c =
     let a = c .before .before .before .args in
     let s = a .line .now in
     let k = a .number in
-    let e : getD (a .cuts .now) (k + 1) 0 - 1 ≡ endOf 9 s k = let t = c .before .before .before .pre .1 .behind in omega arith in
-    let b = c .before .before .before .pre .1 .start in
+    let e : getD (a .cuts .now) (k + 1) 0 - 1 ≡ endOf 9 s k = let t = c .before .before .before .pre .1 .ends in omega arith in
+    let b = c .before .before .before .pre .1 .starts in
     ap (λ (j : ℕ). take (j - getD (a .cuts .now) k 0) (drop (getD (a .cuts .now) k 0) s)) e ∙ ap (λ (j : ℕ). take (endOf 9 s k - j) (drop j s)) b
 
 pub cut-field-spec : {M : Type 1} → statement M

@@ -10,9 +10,6 @@ use Rattle.text.proofs.PartLaws.{upTo-le}
 use Rattle.text.proofs.CutLaws.{Walked, none-cut, one-more, last-cut, next-cut}
 use Rattle.text.proofs.cut_fields.Statement.{statement}
 use Rattle.text.proofs.cut_fields.Tie as tie
-use Rattle.text.proofs.cut_fields.Reads as reads
-use Rattle.text.proofs.cut_fields.Lts as lts
-use Rattle.text.proofs.find_from.Reads as find-from-reads
 
 abbrev Inv-loop : tie.InvT-loop
 Inv-loop line cuts₀ n₀ i₀ cuts n i = Walked line cuts n i
@@ -23,46 +20,37 @@ abbrev μ-loop : tie.MeasureT-loop
 -- the list behind the test of its room
 stored : (c : tie.Joined1 Inv-loop μ-loop) → c .if1 .cuts ≡ set (c .before .before .loop .cuts) (c .before .before .loop .n + 1) (c .before .find-from .result + 1)
 stored c =
-    ⊎-elim
-    (λ w. w .1)
-    (λ w. w .1 ∙ sym (set-out (c .before .before .loop .cuts) (c .before .before .loop .n + 1) (c .before .find-from .result + 1) (let r = c .before .before .loop .inv .room in let t = w .0 .left in omega arith)))
-    (c .if1 .came)
+    let l = c .before .before .loop in
+    let r = l .inv .room in
+    ⊎-elim (λ w. w .1) (λ w. w .1 ∙ sym (set-out (l .cuts) (l .n + 1) (c .before .find-from .result + 1) (let t = w .0 .left in omega arith))) (c .if1 .came)
 
--- src/lib.rt:111:5
 element-write-cuts : tie.Need-element-write-cuts Inv-loop μ-loop
 element-write-cuts c = omega arith
 
--- src/lib.rt:112:5
 loop-holds : tie.Need-loop-holds Inv-loop μ-loop
 loop-holds c = none-cut (c .before .args .line .now) (c .before .args .cuts .now) (c .before .pre)
 
--- src/lib.rt:113:13
 find-from-requires : tie.Need-find-from-requires Inv-loop μ-loop
 find-from-requires c κs = search needs
 
--- src/lib.rt:114:13
 add-i : tie.Need-add-i Inv-loop μ-loop
 add-i c =
     let w = c .before .loop .inv in
     let s = c .before .before .before .args .line .now in
     omega (arith, w .within, w .below, upTo-le 9 (drop (c .before .loop .i) s), length-drop (c .before .loop .i) s)
 
--- src/lib.rt:115:9
 add-n : tie.Need-add-n Inv-loop μ-loop
 add-n c =
     let w = c .before .loop .inv in
     let s = c .before .before .before .args .line .now in
     omega (arith, w .within, w .below, upTo-le 9 (drop (c .before .loop .i) s), length-drop (c .before .loop .i) s)
 
--- src/lib.rt:117:13
 mul-cuts : tie.Need-mul-cuts Inv-loop μ-loop
 mul-cuts c = omega arith
 
--- src/lib.rt:117:13
 element-write-cuts-2 : tie.Need-element-write-cuts-2 Inv-loop μ-loop
 element-write-cuts-2 c = c .if1 .taken
 
--- src/lib.rt:120:13
 returns : tie.Need-returns Inv-loop μ-loop
 returns c =
     let l = c .before .before .before in
@@ -71,11 +59,9 @@ returns c =
     let n = last-cut s (l .loop .cuts) (l .loop .n) (l .loop .i) (e .result) (l .loop .inv) (e .ensures) (c .if2 .taken) in
     (n, λ k h m. rw (stored (c .before)) (one-more s (l .loop .cuts) (l .loop .n) (l .loop .i) (e .result) (l .loop .inv) (e .ensures) k (omega arith) m))
 
--- src/lib.rt:112:5
 loop-less : tie.Need-loop-less Inv-loop μ-loop
 loop-less c = omega (arith, c .before .before .before .loop .inv .within)
 
--- src/lib.rt:112:5
 loop-again : tie.Need-loop-again Inv-loop μ-loop
 loop-again c =
     let l = c .before .before .before in
