@@ -7,3 +7,4 @@ pub mod WordLaws
 pub mod EntryLaws
 pub mod BackLaws
 pub mod KeptLaws
+pub mod StoredLaws

@@ -152,12 +152,28 @@ pub record KeptGrid (g : Grid) : Type 0 where
   pub rank : g .rank ≤ signedMost
   pub start : g .start ≤ signedMost
 
-pub record KeptGroup (g : Group) : Type 0 where
+-- the group line
+pub record KeptHead (g : Group) : Type 0 where
   pub name : KeptName (g .name)
-  pub ramp : length (g .ramp) ≡ rampsMost
-  pub grid : length (g .grid) ≡ gridsMost
   pub quantum : g .quantum ≤ signedMost
   pub parameters : g .parameters ≤ signedMost
   pub ramps : g .ramps ≤ signedMost
   pub grids : g .grids ≤ signedMost
+
+pub record KeptGroup (g : Group) : Type 0 where
+  pub head : KeptHead g
+  pub ramp : length (g .ramp) ≡ rampsMost
+  pub grid : length (g .grid) ≡ gridsMost
   pub kept : (k : ℕ) → k < gridsMost → KeptGrid (gridAt g k)
+
+-- ---- what every record of the machine has: all ramps and grids, and names of 24 bytes
+
+pub record ShapedName (n : Name) : Type 0 where
+  pub bytes : length (n .bytes) ≡ nameMost
+  pub small : (j : ℕ) → j < nameMost → byteAt (n .bytes) j < 256
+
+pub record Shaped (g : Group) : Type 0 where
+  pub name : ShapedName (g .name)
+  pub ramp : length (g .ramp) ≡ rampsMost
+  pub grid : length (g .grid) ≡ gridsMost
+  pub names : (k : ℕ) → k < gridsMost → ShapedName (gridAt g k .name)
