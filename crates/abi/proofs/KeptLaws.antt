@@ -1,28 +1,28 @@
 -- An accepted group of 8 ramps, 64 grids and names of 24 bytes is read back as it was stored.
 use Prim.Native.Nat.{ℕ, _<_}
-use mathlib.Core.Path.{_≡_, refl, sym, ap, _∙_}
+use mathlib.Core.Path.{_≡_, refl, sym, ap, subst, _∙_}
 use mathlib.Core.Bool.{Bool, true, false, not, _&&_, _||_}
 use mathlib.Core.Logic.{⊎-elim}
 use native.Mathlib.Omega.{arith}
 use borrow.Author.Tests.{leb-true, leb-false, eqb-true, not-false}
 use lib.Dec.{leb, ltb, eqb}
-use lib.IntN.{pos}
-use lib.ListN.{length, getD}
+use lib.ListN.{length, getD, length-replicate, getD-replicate}
 use Rattle.numbers.specs.First.{every}
-use Rattle.numbers.proofs.Bools.{and-left, and-right, and-parts, or-cases}
+use Rattle.numbers.proofs.Bools.{and-left, and-right, or-cases}
 use Rattle.numbers.proofs.FirstLaws.{every-at}
-use Rattle.numbers.proofs.OrderLaws.{zero-of}
-use Rattle.group.specs.Numbers.{nameMost, rampsMost, gridsMost, isZero}
+use Rattle.group.specs.Numbers.{nameMost, rampsMost, gridsMost}
 use Rattle.group.specs.declared.Name.{Name}
 use Rattle.group.specs.declared.Grid.{Grid}
 use Rattle.group.specs.declared.Group.{Group}
 use Rattle.group.specs.declared.Verdict.the-variants.{Accepted}
-use Rattle.group.specs.Limits.{nameByte, byteFits, nameFits, nameBlank, gridFits, gridBlank, headFits}
+use Rattle.group.specs.Limits.{nameByte, byteFits, nameFits, gridFits, gridBlank, headFits}
+use Rattle.group.specs.Blank.{blankGrid}
 use Rattle.group.specs.Record.{gridAt}
 use Rattle.judge.specs.Judge.{unusedGrid, judged}
 use Rattle.judge.proofs.Accepted.{accepted}
 use Rattle.judge.proofs.LimitLaws.{name-good, ni-between, nj-between, rank-between, start-most, quantum-most, parameters-between, ramps-most, grids-between}
 use Rattle.abi.specs.Abi.{KeptName, KeptGrid, KeptHead, KeptGroup}
+use Rattle.abi.proofs.BlankLaws.{blank-grid}
 
 letter : (b : ℕ) → nameByte b ≡ true → b < 127
 letter b e =
@@ -55,13 +55,6 @@ fitting-name n b e =
     let h = and-right (leb 1 (n .len) && leb (n .len) nameMost) (every (byteFits n) nameMost) e in
     record { bytes = b; plain = λ j m. (let p = plain-byte n j (every-at (byteFits n) nameMost j h m) in omega arith); len = omega arith }
 
-blank-name : (n : Name) → length (n .bytes) ≡ nameMost → nameBlank n ≡ true → KeptName n
-unfolding nameBlank
-blank-name n b e =
-    let l = eqb-true (n .len) 0 (and-left (eqb (n .len) 0) (every (byteFits n) nameMost) e) in
-    let h = and-right (eqb (n .len) 0) (every (byteFits n) nameMost) e in
-    record { bytes = b; plain = λ j m. (let p = plain-byte n j (every-at (byteFits n) nameMost j h m) in omega arith); len = omega arith }
-
 pub head-name : (g : Group) → headFits g ≡ true → nameFits (g .name) ≡ true
 unfolding headFits
 head-name g e = and-left (nameFits (g .name)) _ e
@@ -76,53 +69,19 @@ fitting-kept d b e =
       start = omega (arith, start-most d e);
     }
 
--- the parts of an unused grid
-pub record BlankParts (d : Grid) : Type 0 where
-  pub name : nameBlank (d .name) ≡ true
-  pub lon : d .lon .0 ≡ pos 0
-  pub lat : d .lat .0 ≡ pos 0
-  pub dlon : d .dlon ≡ pos 0
-  pub dlat : d .dlat ≡ pos 0
-  pub ni : d .ni ≡ 0
-  pub nj : d .nj ≡ 0
-  pub rank : d .rank ≡ 0
-  pub start : d .start ≡ 0
-
-pub blank-parts : (d : Grid) → gridBlank d ≡ true → BlankParts d
-unfolding gridBlank
-blank-parts d e =
-    let o = isZero (d .lon .0) && isZero (d .lat .0) && isZero (d .dlon) && isZero (d .dlat) in
-    let n = eqb (d .ni) 0 && eqb (d .nj) 0 && eqb (d .rank) 0 && eqb (d .start) 0 in
-    let a = and-parts (nameBlank (d .name) && o) n e in
-    let b = and-parts (nameBlank (d .name)) o (a .0) in
-    let p = and-parts (isZero (d .lon .0) && isZero (d .lat .0) && isZero (d .dlon)) (isZero (d .dlat)) (b .1) in
-    let q = and-parts (isZero (d .lon .0) && isZero (d .lat .0)) (isZero (d .dlon)) (p .0) in
-    let r = and-parts (isZero (d .lon .0)) (isZero (d .lat .0)) (q .0) in
-    let u = and-parts (eqb (d .ni) 0 && eqb (d .nj) 0 && eqb (d .rank) 0) (eqb (d .start) 0) (a .1) in
-    let v = and-parts (eqb (d .ni) 0 && eqb (d .nj) 0) (eqb (d .rank) 0) (u .0) in
-    let w = and-parts (eqb (d .ni) 0) (eqb (d .nj) 0) (v .0) in
+-- the unused grid, which is blank
+blank-kept-grid : KeptGrid blankGrid
+blank-kept-grid =
     record {
-      name = b .0;
-      lon = zero-of (d .lon .0) (r .0);
-      lat = zero-of (d .lat .0) (r .1);
-      dlon = zero-of (d .dlon) (q .1);
-      dlat = zero-of (d .dlat) (p .1);
-      ni = eqb-true (d .ni) 0 (w .0);
-      nj = eqb-true (d .nj) 0 (w .1);
-      rank = eqb-true (d .rank) 0 (v .1);
-      start = eqb-true (d .start) 0 (u .1);
+      name = record { bytes = length-replicate {A = ℕ} nameMost 0; plain = λ j l. (let z = getD-replicate {A = ℕ} nameMost j 0 0 l in omega arith); len = omega arith };
+      ni = omega arith;
+      nj = omega arith;
+      rank = omega arith;
+      start = omega arith;
     }
 
 pub blank-kept : (d : Grid) → length (d .name .bytes) ≡ nameMost → gridBlank d ≡ true → KeptGrid d
-blank-kept d b e =
-    let p = blank-parts d e in
-    record {
-      name = blank-name (d .name) b (p .name);
-      ni = omega (arith, p .ni);
-      nj = omega (arith, p .nj);
-      rank = omega (arith, p .rank);
-      start = omega (arith, p .start);
-    }
+blank-kept d b e = subst KeptGrid (sym (blank-grid d b e)) blank-kept-grid
 
 pub head-kept : (g : Group) → length (g .name .bytes) ≡ nameMost → headFits g ≡ true → KeptHead g
 head-kept g b h =

@@ -1,15 +1,15 @@
 -- A group that was stored is judged as it was, with numbers beyond the greatest signed one too; an accepted one is read back as it was.
-use Prim.Native.Nat.{ℕ, zero, suc, _+_, _*_, _/_, _%_, min, _≤_, _<_}
+use Prim.Native.Nat.{ℕ, _+_, _*_, _/_, _%_, min, _≤_, _<_}
 use mathlib.Core.Path.{_≡_, refl, sym, ap, subst, _∙_}
 use mathlib.Core.Bool.{Bool, true, false, cond, not, _&&_}
 use mathlib.Core.List.{List}
 use native.Mathlib.Nat.{min-eq-left, min-eq-right}
 use native.Mathlib.Decide.{decLt}
 use native.Mathlib.Omega.{arith}
-use borrow.Author.Tests.{ltb-false, leb-true, eqb-true, not-true, not-false}
+use borrow.Author.Tests.{ltb-false, leb-true, eqb-true, not-false}
 use lib.Dec.{leb, ltb, eqb}
 use lib.IntN.{ℤ, pos}
-use lib.ListN.{length, getD}
+use lib.ListN.{length}
 use Rattle.numbers.specs.First.{first, some, every}
 use Rattle.numbers.specs.Order.{beyond, countOf}
 use Rattle.numbers.proofs.Bools.{and-left, and-right, same-test}
@@ -27,12 +27,14 @@ use Rattle.group.proofs.RefusalLaws.{if-here, if-past}
 use Rattle.judge.specs.Judge.{unusedRamp, unusedGrid, badRamp, badGrid, judgedLines, judgedLimits, judgedGrids, judgedRanks, judged}
 use Rattle.judge.proofs.LimitLaws.{name-good, ni-between, nj-between, rank-between, start-most, quantum-most, parameters-between, ramps-most, grids-between}
 use Rattle.abi.specs.Words.{nameWords, quantumIndex, gridIndex}
-use Rattle.abi.specs.Abi.{numberAt, countAt, byteAt, byteOf, listOf, nameOfWords, gridOfWords, groupOfWords, signedMost, stored, wordOf, nameNumber, gridNumbers, numbersOf, KeptName, KeptGrid, KeptHead, KeptGroup, ShapedName, Shaped}
+use Rattle.abi.specs.Abi.{numberAt, countAt, byteAt, byteOf, nameOfWords, gridOfWords, groupOfWords, signedMost, stored, wordOf, nameNumber, numbersOf, KeptName, KeptGrid, KeptHead, ShapedName, Shaped}
 use Rattle.abi.proofs.ListLaws.{getD-listOf}
+use Rattle.abi.proofs.BlankLaws.{name-blank}
+use Rattle.abi.proofs.ClearLaws.{blank-words}
 use Rattle.abi.proofs.WordLaws.{word-byte}
 use Rattle.abi.proofs.EntryLaws.{ramp-of-words, grid-of-words}
 use Rattle.abi.proofs.BackLaws.{head-number, grid-number, head-word, grid-word, unit-number-known, ramp-back, grid-back, head-name-back, quantum-back, parameters-back, ramps-back, grids-back, group-back}
-use Rattle.abi.proofs.KeptLaws.{plain-byte, head-name, fitting-kept, blank-parts, blank-kept, head-kept, grid-kept, accepted-kept}
+use Rattle.abi.proofs.KeptLaws.{plain-byte, head-name, fitting-kept, blank-kept, head-kept, grid-kept, accepted-kept}
 
 -- ---- tests that agree
 
@@ -58,6 +60,9 @@ module _ {A : Type 0} (refused : Refusal → A) where
       ∙ refuse-if-same (some p n) (some q n) number (first q n + c) x y (some-same p q n s) t
 
 -- ---- numbers that were cut
+
+zero-most : {n m : ℕ} → n ≡ 0 → n ≤ m
+zero-most e = omega arith
 
 -- a number that was cut is the greatest signed one: below that it was not cut
 uncut : (z : ℤ) (n m : ℕ) → z ≡ stored n → countOf z ≤ m → m < signedMost → n ≤ signedMost
@@ -151,10 +156,10 @@ module _ (g : Group) (h : Shaped g) where
   blank-uncut : (k : ℕ) → k < gridsMost → gridBlank (gridOfWords ns k) ≡ true → KeptGrid (gridAt g k)
   unfolding gridOfWords
   blank-uncut k l e =
-      let p = blank-parts (gridOfWords ns k) e in
+      let p = blank-words ns k e in
       grid-uncut k l
-      (blank-kept-name ns (gridIndex k 0) (gridAt g k .name) _ (h .names k l) (grid-word g k l) (grid-number g k 3 l (omega arith)) (p .name))
-      (omega (arith, p .ni)) (omega (arith, p .nj)) (omega (arith, p .rank)) (omega (arith, p .start))
+      (blank-kept-name ns (gridIndex k 0) (gridAt g k .name) _ (h .names k l) (grid-word g k l) (grid-number g k 3 l (omega arith)) (ap (λ (d : Grid). nameBlank (d .name)) p ∙ name-blank))
+      (zero-most (ap (λ (d : Grid). d .ni) p)) (zero-most (ap (λ (d : Grid). d .nj) p)) (zero-most (ap (λ (d : Grid). d .rank) p)) (zero-most (ap (λ (d : Grid). d .start) p))
 
   -- a test of a grid that holds of none that was cut
   grid-same : (t : Grid → Bool) → ((k : ℕ) → k < gridsMost → t (gridOfWords ns k) ≡ true → KeptGrid (gridAt g k))

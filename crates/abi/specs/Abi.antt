@@ -1,7 +1,7 @@
 -- A group as the C interface passes it: a list of signed numbers. What is not there counts as 0.
 use Prim.Native.Nat.{ℕ, zero, suc, _+_, _*_, _/_, _%_, _^_, min, _≤_, _<_}
 use mathlib.Core.Path.{_≡_}
-use mathlib.Core.Bool.{Bool, cond, _&&_}
+use mathlib.Core.Bool.{cond}
 use mathlib.Core.List.{List, [], _∷_, _++_}
 use lib.IntN.{ℤ, pos, negsuc}
 use lib.ListN.{length, getD}
@@ -13,7 +13,7 @@ use Rattle.group.specs.declared.Ramp.{Ramp}
 use Rattle.group.specs.declared.Grid.{Grid}
 use Rattle.group.specs.declared.Group.{Group}
 use Rattle.group.specs.Record.{rampAt, gridAt}
-use Rattle.group.specs.Numbers.{nameMost, rampsMost, gridsMost, isZero}
+use Rattle.group.specs.Numbers.{nameMost, rampsMost, gridsMost}
 use Rattle.abi.specs.Words.{lengthIndex, unitIndex, quantumIndex, parametersIndex, rampsIndex, gridsIndex, rampIndex, gridIndex}
 
 -- ---- from the lists to the record
@@ -83,10 +83,6 @@ groupOfWords ns =
       ramp = listOf (rampOfWords ns) rampsMost;
       grid = listOf (gridOfWords ns) gridsMost;
     }
-
--- the four numbers from place k on are all 0
-abbrev pub clearFrom : List ℤ → ℕ → Bool
-clearFrom ns k = isZero (numberAt ns k) && isZero (numberAt ns (k + 1)) && isZero (numberAt ns (k + 2)) && isZero (numberAt ns (k + 3))
 
 -- ---- from the record to the list
 
