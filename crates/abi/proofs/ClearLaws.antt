@@ -15,11 +15,11 @@ use Rattle.group.specs.Numbers.{nameMost, isZero}
 use Rattle.group.specs.Blank.{blankName, blankGrid}
 use Rattle.group.specs.Limits.{gridBlank}
 use Rattle.group.specs.declared.Grid.{Grid}
+use Rattle.group.proofs.BlankLaws.{blank-grid, grid-blank}
 use Rattle.abi.specs.Words.{nameWords, gridIndex}
 use Rattle.abi.specs.Abi.{numberAt, countAt, byteOf, nameOfWords, gridOfWords}
 use Rattle.abi.specs.Clear.{clearFrom}
 use Rattle.abi.proofs.ListLaws.{length-listOf, getD-listOf, listOf-is}
-use Rattle.abi.proofs.BlankLaws.{blank-grid, grid-blank}
 
 -- each of four numbers that are all 0
 clear-at : (ns : List ℤ) (k : ℕ) → clearFrom ns k ≡ true

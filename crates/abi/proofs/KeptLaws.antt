@@ -18,11 +18,11 @@ use Rattle.group.specs.declared.Verdict.the-variants.{Accepted}
 use Rattle.group.specs.Limits.{nameByte, byteFits, nameFits, gridFits, gridBlank, headFits}
 use Rattle.group.specs.Blank.{blankGrid}
 use Rattle.group.specs.Record.{gridAt}
+use Rattle.group.proofs.BlankLaws.{blank-grid}
 use Rattle.judge.specs.Judge.{unusedGrid, judged}
 use Rattle.judge.proofs.Accepted.{accepted}
 use Rattle.judge.proofs.LimitLaws.{name-good, ni-between, nj-between, rank-between, start-most, quantum-most, parameters-between, ramps-most, grids-between}
 use Rattle.abi.specs.Abi.{KeptName, KeptGrid, KeptHead, KeptGroup}
-use Rattle.abi.proofs.BlankLaws.{blank-grid}
 
 letter : (b : ℕ) → nameByte b ≡ true → b < 127
 letter b e =

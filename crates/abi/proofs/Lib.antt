@@ -1,7 +1,6 @@
 -- The laws of a group as words.
 pub mod ListLaws
 pub mod NumberLaws
-pub mod BlankLaws
 pub mod ClearLaws
 pub mod GroupLaws
 pub mod WordLaws

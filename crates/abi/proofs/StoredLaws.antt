@@ -6,58 +6,34 @@ use mathlib.Core.List.{List}
 use native.Mathlib.Nat.{min-eq-left, min-eq-right}
 use native.Mathlib.Decide.{decLt}
 use native.Mathlib.Omega.{arith}
-use borrow.Author.Tests.{ltb-false, leb-true, eqb-true, not-false}
-use lib.Dec.{leb, ltb, eqb}
+use borrow.Author.Tests.{leb-true, eqb-true, not-false}
+use lib.Dec.{leb, eqb}
 use lib.IntN.{ℤ, pos}
 use lib.ListN.{length}
-use Rattle.numbers.specs.First.{first, some, every}
+use Rattle.numbers.specs.First.{some, every}
 use Rattle.numbers.specs.Order.{beyond, countOf}
 use Rattle.numbers.proofs.Bools.{and-left, and-right, same-test}
-use Rattle.numbers.proofs.FirstLaws.{first-same, none-at, every-at}
+use Rattle.numbers.proofs.FirstLaws.{none-by, some-same, every-at}
 use Rattle.group.specs.Numbers.{nameMost, rampsMost, gridsMost, nodesMost, rankMost, startMost, quantumMost, parametersMost}
 use Rattle.group.specs.declared.Name.{Name}
 use Rattle.group.specs.declared.Grid.{Grid}
 use Rattle.group.specs.declared.Group.{Group}
-use Rattle.group.specs.declared.Refusal.{Refusal}
 use Rattle.group.specs.declared.Verdict.the-variants.{Accepted, Refused}
 use Rattle.group.specs.Limits.{byteFits, nameFits, nameBlank, rampFits, rampBlank, gridFits, gridBlank, headNumbersFit, headFits}
 use Rattle.group.specs.Record.{rampAt, gridAt}
-use Rattle.group.specs.Refusals.{refuseIf, refuseFirst}
-use Rattle.group.proofs.RefusalLaws.{if-here, if-past}
+use Rattle.group.specs.Refusals.{refuseIf}
+use Rattle.group.proofs.RefusalLaws.{if-same, stage-same}
+use Rattle.group.proofs.BlankLaws.{name-blank}
 use Rattle.judge.specs.Judge.{unusedRamp, unusedGrid, badRamp, badGrid, judgedLines, judgedLimits, judgedGrids, judgedRanks, judged}
 use Rattle.judge.proofs.LimitLaws.{name-good, ni-between, nj-between, rank-between, start-most, quantum-most, parameters-between, ramps-most, grids-between}
 use Rattle.abi.specs.Words.{nameWords, quantumIndex, gridIndex}
 use Rattle.abi.specs.Abi.{numberAt, countAt, byteAt, byteOf, nameOfWords, gridOfWords, groupOfWords, signedMost, stored, wordOf, nameNumber, numbersOf, KeptName, KeptGrid, KeptHead, ShapedName, Shaped}
 use Rattle.abi.proofs.ListLaws.{getD-listOf}
-use Rattle.abi.proofs.BlankLaws.{name-blank}
 use Rattle.abi.proofs.ClearLaws.{blank-words}
 use Rattle.abi.proofs.WordLaws.{word-byte}
 use Rattle.abi.proofs.EntryLaws.{ramp-of-words, grid-of-words}
 use Rattle.abi.proofs.BackLaws.{head-number, grid-number, head-word, grid-word, unit-number-known, ramp-back, grid-back, head-name-back, quantum-back, parameters-back, ramps-back, grids-back, group-back}
 use Rattle.abi.proofs.KeptLaws.{plain-byte, head-name, fitting-kept, blank-kept, head-kept, grid-kept, accepted-kept}
-
--- ---- tests that agree
-
-some-same : (p q : ℕ → Bool) (n : ℕ) → ((k : ℕ) → k < n → p k ≡ q k) → some p n ≡ some q n
-some-same p q n h = ap (λ (m : ℕ). ltb m n) (first-same p q n h)
-
-some-none : (p : ℕ → Bool) (n k : ℕ) → some p n ≡ false → k < n → p k ≡ false
-some-none p n k e l = none-at p n k (ltb-false (first p n) n e) l
-
--- a stage of either chain refuses alike, and the chains go on alike where neither refuses
-module _ {A : Type 0} (refused : Refusal → A) where
-  refuse-if-same : (s t : Bool) (number place : ℕ) (x y : A) → s ≡ t → (t ≡ false → x ≡ y) → refuseIf refused s number place x ≡ refuseIf refused t number place y
-  refuse-if-same s true number place x y e f = if-here refused s number place x e ∙ sym (if-here refused true number place y refl)
-  refuse-if-same s false number place x y e f = if-past refused s number place x e ∙ f refl ∙ sym (if-past refused false number place y refl)
-
-  refuse-first-same : (p q : ℕ → Bool) (m n number b c : ℕ) (x y : A) → m ≡ n → b ≡ c → ((k : ℕ) → k < n → p k ≡ q k) → (some q n ≡ false → x ≡ y)
-      → refuseFirst refused p m number b x ≡ refuseFirst refused q n number c y
-  unfolding refuseFirst
-  refuse-first-same p q m n number b c x y e f s t =
-      let i = first-same p q n s in
-      (λ j. refuseIf refused (some p (e j)) number (first p (e j) + f j) x)
-      ∙ (λ j. refuseIf refused (some p n) number (i j + c) x)
-      ∙ refuse-if-same (some p n) (some q n) number (first q n + c) x y (some-same p q n s) t
 
 -- ---- numbers that were cut
 
@@ -235,17 +211,17 @@ module _ (g : Group) (h : Shaped g) where
           ramp = h .ramp;
           grid = h .grid;
           kept = λ k l.
-              grid-kept g k (h .names k l .bytes) (some-none (unusedGrid g) gridsMost k u l)
-              (λ m. not-false (gridFits (gridAt g k)) (some-none (badGrid g) (g .grids) k f m));
+              grid-kept g k (h .names k l .bytes) (none-by (unusedGrid g) gridsMost k u l)
+              (λ m. not-false (gridFits (gridAt g k)) (none-by (badGrid g) (g .grids) k f m));
         })
 
     lines-same : some (unusedGrid g) gridsMost ≡ false
         → judgedLines again (judgedGrids again (judgedRanks again Accepted)) ≡ judgedLines g (judgedGrids g (judgedRanks g Accepted))
     unfolding judgedLines
     lines-same u =
-        refuse-first-same Refused (badRamp again) (badRamp g) (again .ramps) (g .ramps) 2 2 2 _ _ (ramps-back g kept) refl bad-ramp-same
+        stage-same Refused (badRamp again) (badRamp g) (again .ramps) (g .ramps) 2 2 2 _ _ (ramps-back g kept) refl bad-ramp-same
         (λ a.
-        refuse-first-same Refused (badGrid again) (badGrid g) (again .grids) (g .grids) 2 (again .ramps + 2) (g .ramps + 2) _ _ (grids-back g kept) (ap (λ (n : ℕ). n + 2) (ramps-back g kept)) bad-grid-same
+        stage-same Refused (badGrid again) (badGrid g) (again .grids) (g .grids) 2 (again .ramps + 2) (g .ramps + 2) _ _ (grids-back g kept) (ap (λ (n : ℕ). n + 2) (ramps-back g kept)) bad-grid-same
         (λ f. ap (λ (x : Group). judgedGrids x (judgedRanks x Accepted)) (all-kept u f)))
 
     unused-same : refuseIf Refused (some (unusedRamp again) rampsMost) 2 1
@@ -253,12 +229,12 @@ module _ (g : Group) (h : Shaped g) where
         ≡ refuseIf Refused (some (unusedRamp g) rampsMost) 2 1
         (refuseIf Refused (some (unusedGrid g) gridsMost) 2 1 (judgedLines g (judgedGrids g (judgedRanks g Accepted))))
     unused-same =
-        refuse-if-same Refused _ _ 2 1 _ _ (some-same (unusedRamp again) (unusedRamp g) rampsMost no-ramp-same)
-        (λ a. refuse-if-same Refused _ _ 2 1 _ _ (some-same (unusedGrid again) (unusedGrid g) gridsMost no-grid-same) lines-same)
+        if-same Refused _ _ 2 1 _ _ (some-same (unusedRamp again) (unusedRamp g) rampsMost no-ramp-same)
+        (λ a. if-same Refused _ _ 2 1 _ _ (some-same (unusedGrid again) (unusedGrid g) gridsMost no-grid-same) lines-same)
 
   pub stored-judged : judged again ≡ judged g
   unfolding judged judgedLimits
-  stored-judged = refuse-if-same Refused _ _ 2 1 _ _ (ap not head-same) (λ a. unused-same (not-false (headFits g) a))
+  stored-judged = if-same Refused _ _ 2 1 _ _ (ap not head-same) (λ a. unused-same (not-false (headFits g) a))
 
   pub stored-back : judged g ≡ Accepted → again ≡ g
   stored-back e = group-back g (accepted-kept g e (h .name .bytes) (h .ramp) (h .grid) (λ k l. h .names k l .bytes))

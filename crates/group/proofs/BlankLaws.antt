@@ -12,11 +12,12 @@ use Rattle.numbers.specs.First.{first, every}
 use Rattle.numbers.proofs.Bools.{and-left, and-right, and-parts, or-cases}
 use Rattle.numbers.proofs.FirstLaws.{every-at}
 use Rattle.numbers.proofs.OrderLaws.{zero-of}
 use Rattle.group.specs.Numbers.{nameMost, isZero}
-use Rattle.group.specs.Blank.{blankName, blankGrid}
-use Rattle.group.specs.Limits.{nameByte, byteFits, nameBlank, gridBlank}
+use Rattle.group.specs.Blank.{blankName, blankRamp, blankGrid}
+use Rattle.group.specs.Limits.{nameByte, byteFits, nameBlank, rampBlank, gridBlank}
 use Rattle.group.specs.declared.Name.{Name}
+use Rattle.group.specs.declared.Ramp.{Ramp}
 use Rattle.group.specs.declared.Grid.{Grid}
 
 -- a byte of no name
 blank-byte : (n : Name) (j : ℕ) → n .len ≡ 0 → byteFits n j ≡ true → getD (n .bytes) j 0 ≡ 0
@@ -36,6 +37,13 @@ blank-name n l e =
     ext-getD 0 (n .bytes) (replicate nameMost 0) (l ∙ sym (length-replicate {A = ℕ} nameMost 0))
     (λ j m. blank-byte n j z (every-at (byteFits n) nameMost j f (omega arith)) ∙ sym (getD-replicate {A = ℕ} nameMost j 0 0 (omega arith))) in
     λ i. record { bytes = b i; len = z i }
+
+pub blank-ramp : (r : Ramp) → rampBlank r ≡ true → r ≡ blankRamp
+blank-ramp r e =
+    let p = and-parts (isZero (r .a) && isZero (r .s0) && isZero (r .b)) (isZero (r .s1)) e in
+    let q = and-parts (isZero (r .a) && isZero (r .s0)) (isZero (r .b)) (p .0) in
+    let s = and-parts (isZero (r .a)) (isZero (r .s0)) (q .0) in
+    λ i. record { a = zero-of (r .a) (s .0) i; s0 = zero-of (r .s0) (s .1) i; b = zero-of (r .b) (q .1) i; s1 = zero-of (r .s1) (p .1) i }
 
 pub blank-grid : (g : Grid) → length (g .name .bytes) ≡ nameMost → gridBlank g ≡ true → g ≡ blankGrid
 unfolding gridBlank
