@@ -48,7 +48,7 @@ plain-byte n k e =
     (λ p. let z = eqb-true b 0 (and-right (leb (n .len) k) (eqb b 0) p) in omega arith)
     (or-cases (ltb k (n .len) && nameByte b) (leb (n .len) k && eqb b 0) e)
 
-pub fitting-name : (n : Name) → length (n .bytes) ≡ nameMost → nameFits n ≡ true → KeptName n
+fitting-name : (n : Name) → length (n .bytes) ≡ nameMost → nameFits n ≡ true → KeptName n
 unfolding nameFits
 fitting-name n b e =
     let l = leb-true (n .len) nameMost (and-right (leb 1 (n .len)) (leb (n .len) nameMost) (and-left (leb 1 (n .len) && leb (n .len) nameMost) (every (byteFits n) nameMost) e)) in
