@@ -9,15 +9,15 @@ use lib.IntN.{ℤ, pos}
 use lib.ListN.{length, List·getD-append}
 use lib.Seq.{getD-append-add}
 use Rattle.numbers.specs.Order.{between, beyond, countOf}
-use Rattle.group.specs.Numbers.{rampsMost, gridsMost}
-use Rattle.abi.specs.Words.{nameWords, headWords, rampWords, gridWords, rampIndex, gridIndex}
+use Rattle.group.specs.Numbers.{nameMost, rampsMost, gridsMost}
+use Rattle.abi.specs.Words.{nameWords, unitIndex, quantumIndex, headWords, rampWords, gridWords, rampIndex, gridIndex}
 use Rattle.group.specs.declared.Name.{Name}
 use Rattle.group.specs.declared.Unit.{Unit}
 use Rattle.group.specs.declared.Unit.the-variants.{ArcSecond, Metre}
 use Rattle.group.specs.declared.Group.{Group}
 use Rattle.group.specs.Blank.{blankRamp}
 use Rattle.group.specs.Record.{noGrid, rampAt, gridAt}
-use Rattle.abi.specs.Abi.{numberAt, countAt, nameOfWords, unitOf, rampOfWords, gridOfWords, groupOfWords, stored, unitNumber, joined, wordOf, nameNumber, rampNumbers, gridNumbers, headNumbers, numbersOf, signedMost, KeptName, KeptGrid, KeptGroup}
+use Rattle.abi.specs.Abi.{byteAt, numberAt, countAt, nameOfWords, unitOf, rampOfWords, gridOfWords, groupOfWords, stored, unitNumber, joined, wordOf, nameNumber, rampNumbers, gridNumbers, headNumbers, numbersOf, signedMost, KeptName, KeptGrid, KeptHead, KeptGroup}
 use Rattle.abi.proofs.ListLaws.{length-joined, getD-joined, listOf-is}
 use Rattle.abi.proofs.WordLaws.{word-most, name-back}
 
@@ -43,7 +43,7 @@ module _ (g : Group) where
   unfolding ramps
   ramps-length = length-joined (λ k. rampNumbers (rampAt g k)) rampWords rampsMost (λ k l. refl)
 
-  head-number : (j : ℕ) → j < headWords → numberAt (numbersOf g) j ≡ numberAt (headNumbers g) j
+  pub head-number : (j : ℕ) → j < headWords → numberAt (numbersOf g) j ≡ numberAt (headNumbers g) j
   unfolding numbersOf ramps grids
   head-number j l = List·getD-append (headNumbers g) (ramps ++ grids) (pos 0) j l
 
@@ -57,7 +57,7 @@ module _ (g : Group) where
       ∙ List·getD-append ramps grids (pos 0) (k * rampWords + j) (omega arith)
       ∙ getD-joined (λ i. rampNumbers (rampAt g i)) rampWords rampsMost (pos 0) (λ i. refl) k j a b
 
-  grid-number : (k j : ℕ) → k < gridsMost → j < gridWords → numberAt (numbersOf g) (gridIndex k j) ≡ numberAt (gridNumbers (gridAt g k)) j
+  pub grid-number : (k j : ℕ) → k < gridsMost → j < gridWords → numberAt (numbersOf g) (gridIndex k j) ≡ numberAt (gridNumbers (gridAt g k)) j
   unfolding numbersOf ramps grids
   grid-number k j a b =
       let n = ramps-length in
@@ -71,22 +71,23 @@ module _ (g : Group) where
   -- the words of a name
   words : (n : Name) (at : ℕ) → KeptName n → ((w : ℕ) → w < nameWords → numberAt (numbersOf g) (at + w) ≡ nameNumber n w) → nameOfWords (numbersOf g) at (n .len) ≡ n
   words n at h e =
-      name-back (numbersOf g) at n (h .bytes) (h .plain)
-      (λ w l. count-back _ (wordOf (n .bytes) w) (word-most (n .bytes) (h .plain) w l) (e w l))
+      let small : (j : ℕ) → j < nameMost → byteAt (n .bytes) j < 256 = λ j l. (let p = h .plain j l in omega arith) in
+      name-back (numbersOf g) at n (h .bytes) small
+      (λ w l. count-back _ (wordOf (n .bytes) w) (word-most (n .bytes) small w l (h .plain (w * 8 + 7) (omega arith))) (e w l))
 
-  head-word : (w : ℕ) → w < nameWords → numberAt (numbersOf g) (0 + w) ≡ nameNumber (g .name) w
+  pub head-word : (w : ℕ) → w < nameWords → numberAt (numbersOf g) (0 + w) ≡ nameNumber (g .name) w
   head-word zero l = head-number 0 (omega arith)
   head-word (suc zero) l = head-number 1 (omega arith)
   head-word (suc (suc zero)) l = head-number 2 (omega arith)
   head-word (suc (suc (suc w))) l = absurd (omega arith)
 
-  grid-word : (k : ℕ) → k < gridsMost → (w : ℕ) → w < nameWords → numberAt (numbersOf g) (gridIndex k 0 + w) ≡ nameNumber (gridAt g k .name) w
+  pub grid-word : (k : ℕ) → k < gridsMost → (w : ℕ) → w < nameWords → numberAt (numbersOf g) (gridIndex k 0 + w) ≡ nameNumber (gridAt g k .name) w
   grid-word k m zero l = ap (numberAt (numbersOf g)) (omega arith) ∙ grid-number k 0 m (omega arith)
   grid-word k m (suc zero) l = ap (numberAt (numbersOf g)) (omega arith) ∙ grid-number k 1 m (omega arith)
   grid-word k m (suc (suc zero)) l = ap (numberAt (numbersOf g)) (omega arith) ∙ grid-number k 2 m (omega arith)
   grid-word k m (suc (suc (suc w))) l = absurd (omega arith)
 
-  ramp-back : (k : ℕ) → k < rampsMost → rampOfWords (numbersOf g) k ≡ rampAt g k
+  pub ramp-back : (k : ℕ) → k < rampsMost → rampOfWords (numbersOf g) k ≡ rampAt g k
   unfolding rampOfWords
   ramp-back k l =
       let a = ramp-number k 0 l (omega arith) in
@@ -95,7 +96,7 @@ module _ (g : Group) where
       let s1 = ramp-number k 3 l (omega arith) in
       λ i. record { a = a i; s0 = s0 i; b = b i; s1 = s1 i }
 
-  grid-back : (k : ℕ) → k < gridsMost → KeptGrid (gridAt g k) → gridOfWords (numbersOf g) k ≡ gridAt g k
+  pub grid-back : (k : ℕ) → k < gridsMost → KeptGrid (gridAt g k) → gridOfWords (numbersOf g) k ≡ gridAt g k
   unfolding gridOfWords
   grid-back k l h =
       let d = gridAt g k in
@@ -122,19 +123,45 @@ module _ (g : Group) where
         start = start i;
       }
 
+  -- the unit that was stored is one of the two
+  pub unit-number-known : between (pos 0) (pos 1) (numberAt (numbersOf g) unitIndex) ≡ true
+  unit-number-known = ap (between (pos 0) (pos 1)) (head-number unitIndex (omega arith)) ∙ unit-known (g .unit)
+
+  -- the group line, number by number
+  module _ (h : KeptHead g) where
+    pub head-name-back : groupOfWords (numbersOf g) .name ≡ g .name
+    unfolding groupOfWords
+    head-name-back =
+        ap (nameOfWords (numbersOf g) 0) (count-back _ (g .name .len) (h .name .len) (head-number 3 (omega arith)))
+        ∙ words (g .name) 0 (h .name) head-word
+
+    pub quantum-back : groupOfWords (numbersOf g) .quantum ≡ g .quantum
+    unfolding groupOfWords
+    quantum-back =
+        ap (λ (t : Bool). cond t (countAt (numbersOf g) quantumIndex) beyond) unit-number-known
+        ∙ count-back _ (g .quantum) (h .quantum) (head-number 5 (omega arith))
+
+    pub parameters-back : groupOfWords (numbersOf g) .parameters ≡ g .parameters
+    unfolding groupOfWords
+    parameters-back = count-back _ (g .parameters) (h .parameters) (head-number 6 (omega arith))
+
+    pub ramps-back : groupOfWords (numbersOf g) .ramps ≡ g .ramps
+    unfolding groupOfWords
+    ramps-back = count-back _ (g .ramps) (h .ramps) (head-number 7 (omega arith))
+
+    pub grids-back : groupOfWords (numbersOf g) .grids ≡ g .grids
+    unfolding groupOfWords
+    grids-back = count-back _ (g .grids) (h .grids) (head-number 8 (omega arith))
+
   pub group-back : KeptGroup g → groupOfWords (numbersOf g) ≡ g
   unfolding groupOfWords
   group-back h =
-      let len = count-back _ (g .name .len) (h .name .len) (head-number 3 (omega arith)) in
-      let name = ap (nameOfWords (numbersOf g) 0) len ∙ words (g .name) 0 (h .name) head-word in
-      let u = head-number 4 (omega arith) in
-      let unit = ap unitOf u ∙ unit-back (g .unit) in
-      let q = count-back _ (g .quantum) (h .quantum) (head-number 5 (omega arith)) in
-      let quantum =
-      ap (λ (t : Bool). cond t (countAt (numbersOf g) 5) beyond) (ap (between (pos 0) (pos 1)) u ∙ unit-known (g .unit)) ∙ q in
-      let parameters = count-back _ (g .parameters) (h .parameters) (head-number 6 (omega arith)) in
-      let rs = count-back _ (g .ramps) (h .ramps) (head-number 7 (omega arith)) in
-      let gs = count-back _ (g .grids) (h .grids) (head-number 8 (omega arith)) in
+      let name = head-name-back (h .head) in
+      let unit = ap unitOf (head-number unitIndex (omega arith)) ∙ unit-back (g .unit) in
+      let quantum = quantum-back (h .head) in
+      let parameters = parameters-back (h .head) in
+      let rs = ramps-back (h .head) in
+      let gs = grids-back (h .head) in
       let ramp = listOf-is (rampOfWords (numbersOf g)) blankRamp rampsMost (g .ramp) (h .ramp) ramp-back in
       let grid = listOf-is (gridOfWords (numbersOf g)) noGrid gridsMost (g .grid) (h .grid) (λ k l. grid-back k l (h .kept k l)) in
       λ i. record {

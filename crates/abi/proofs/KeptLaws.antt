@@ -1,33 +1,35 @@
 -- An accepted group of 8 ramps, 64 grids and names of 24 bytes is read back as it was stored.
 use Prim.Native.Nat.{ℕ, _<_}
-use mathlib.Core.Path.{_≡_, refl, sym, ap, _∙_}
+use mathlib.Core.Path.{_≡_, refl, sym, ap, subst, _∙_}
 use mathlib.Core.Bool.{Bool, true, false, not, _&&_, _||_}
 use mathlib.Core.Logic.{⊎-elim}
 use native.Mathlib.Omega.{arith}
 use borrow.Author.Tests.{leb-true, leb-false, eqb-true, not-false}
 use lib.Dec.{leb, ltb, eqb}
-use lib.ListN.{length, getD}
+use lib.ListN.{length, getD, length-replicate, getD-replicate}
 use Rattle.numbers.specs.First.{every}
 use Rattle.numbers.proofs.Bools.{and-left, and-right, or-cases}
 use Rattle.numbers.proofs.FirstLaws.{every-at}
-use Rattle.group.specs.Numbers.{nameMost, rampsMost, gridsMost, isZero}
+use Rattle.group.specs.Numbers.{nameMost, rampsMost, gridsMost}
 use Rattle.group.specs.declared.Name.{Name}
 use Rattle.group.specs.declared.Grid.{Grid}
 use Rattle.group.specs.declared.Group.{Group}
 use Rattle.group.specs.declared.Verdict.the-variants.{Accepted}
-use Rattle.group.specs.Limits.{nameByte, byteFits, nameFits, nameBlank, gridFits, gridBlank, headFits}
+use Rattle.group.specs.Limits.{nameByte, byteFits, nameFits, gridFits, gridBlank, headFits}
+use Rattle.group.specs.Blank.{blankGrid}
 use Rattle.group.specs.Record.{gridAt}
-use Rattle.judge.specs.Judge.{judged}
+use Rattle.group.proofs.BlankLaws.{blank-grid}
+use Rattle.judge.specs.Judge.{unusedGrid, judged}
 use Rattle.judge.proofs.Accepted.{accepted}
 use Rattle.judge.proofs.LimitLaws.{name-good, ni-between, nj-between, rank-between, start-most, quantum-most, parameters-between, ramps-most, grids-between}
-use Rattle.abi.specs.Abi.{KeptName, KeptGrid, KeptGroup}
+use Rattle.abi.specs.Abi.{KeptName, KeptGrid, KeptHead, KeptGroup}
 
-letter : (b : ℕ) → nameByte b ≡ true → b < 128
+letter : (b : ℕ) → nameByte b ≡ true → b < 127
 letter b e =
     let u = leb 65 b && leb b 90 in
     let l = leb 97 b && leb b 122 in
     let d = leb 48 b && leb b 57 in
-    let upTo : (lo hi : ℕ) → hi < 128 → (leb lo b && leb b hi) ≡ true → b < 128 = λ lo hi h p. (let q = leb-true b hi (and-right (leb lo b) (leb b hi) p) in omega arith) in
+    let upTo : (lo hi : ℕ) → hi < 127 → (leb lo b && leb b hi) ≡ true → b < 127 = λ lo hi h p. (let q = leb-true b hi (and-right (leb lo b) (leb b hi) p) in omega arith) in
     ⊎-elim
     (λ p.
     ⊎-elim
@@ -38,7 +40,7 @@ letter b e =
     (λ p. let z = eqb-true b 45 p in omega arith)
     (or-cases (u || l || d || eqb b 95) (eqb b 45) e)
 
-plain-byte : (n : Name) (k : ℕ) → byteFits n k ≡ true → getD (n .bytes) k 0 < 128
+pub plain-byte : (n : Name) (k : ℕ) → byteFits n k ≡ true → getD (n .bytes) k 0 < 127
 unfolding byteFits
 plain-byte n k e =
     let b = getD (n .bytes) k 0 in
@@ -51,20 +53,13 @@ unfolding nameFits
 fitting-name n b e =
     let l = leb-true (n .len) nameMost (and-right (leb 1 (n .len)) (leb (n .len) nameMost) (and-left (leb 1 (n .len) && leb (n .len) nameMost) (every (byteFits n) nameMost) e)) in
     let h = and-right (leb 1 (n .len) && leb (n .len) nameMost) (every (byteFits n) nameMost) e in
-    record { bytes = b; plain = λ j m. plain-byte n j (every-at (byteFits n) nameMost j h m); len = omega arith }
+    record { bytes = b; plain = λ j m. (let p = plain-byte n j (every-at (byteFits n) nameMost j h m) in omega arith); len = omega arith }
 
-blank-name : (n : Name) → length (n .bytes) ≡ nameMost → nameBlank n ≡ true → KeptName n
-unfolding nameBlank
-blank-name n b e =
-    let l = eqb-true (n .len) 0 (and-left (eqb (n .len) 0) (every (byteFits n) nameMost) e) in
-    let h = and-right (eqb (n .len) 0) (every (byteFits n) nameMost) e in
-    record { bytes = b; plain = λ j m. plain-byte n j (every-at (byteFits n) nameMost j h m); len = omega arith }
-
-head-name : (g : Group) → headFits g ≡ true → nameFits (g .name) ≡ true
+pub head-name : (g : Group) → headFits g ≡ true → nameFits (g .name) ≡ true
 unfolding headFits
 head-name g e = and-left (nameFits (g .name)) _ e
 
-fitting-kept : (d : Grid) → length (d .name .bytes) ≡ nameMost → gridFits d ≡ true → KeptGrid d
+pub fitting-kept : (d : Grid) → length (d .name .bytes) ≡ nameMost → gridFits d ≡ true → KeptGrid d
 fitting-kept d b e =
     record {
       name = fitting-name (d .name) b (name-good d e);
@@ -74,47 +69,48 @@ fitting-kept d b e =
       start = omega (arith, start-most d e);
     }
 
-blank-kept : (d : Grid) → length (d .name .bytes) ≡ nameMost → gridBlank d ≡ true → KeptGrid d
-unfolding gridBlank
-blank-kept d b e =
-    let i = eqb (d .ni) 0 in
-    let j = eqb (d .nj) 0 in
-    let r = eqb (d .rank) 0 in
-    let s = eqb (d .start) 0 in
-    let o = isZero (d .lon .0) && isZero (d .lat .0) && isZero (d .dlon) && isZero (d .dlat) in
-    let head = and-left (nameBlank (d .name) && o) (i && j && r && s) e in
-    let counts = and-right (nameBlank (d .name) && o) (i && j && r && s) e in
-    let name = and-left (nameBlank (d .name)) o head in
+-- the unused grid, which is blank
+blank-kept-grid : KeptGrid blankGrid
+blank-kept-grid =
     record {
-      name = blank-name (d .name) b name;
-      ni = omega (arith, eqb-true (d .ni) 0 (and-left i j (and-left (i && j) r (and-left (i && j && r) s counts))));
-      nj = omega (arith, eqb-true (d .nj) 0 (and-right i j (and-left (i && j) r (and-left (i && j && r) s counts))));
-      rank = omega (arith, eqb-true (d .rank) 0 (and-right (i && j) r (and-left (i && j && r) s counts)));
-      start = omega (arith, eqb-true (d .start) 0 (and-right (i && j && r) s counts));
+      name = record { bytes = length-replicate {A = ℕ} nameMost 0; plain = λ j l. (let z = getD-replicate {A = ℕ} nameMost j 0 0 l in omega arith); len = omega arith };
+      ni = omega arith;
+      nj = omega arith;
+      rank = omega arith;
+      start = omega arith;
     }
 
-module _ (g : Group) (e : judged g ≡ Accepted) where
-  grid-kept : (k : ℕ) → k < gridsMost → length (gridAt g k .name .bytes) ≡ nameMost → KeptGrid (gridAt g k)
-  grid-kept k l b = go (leb (g .grids) k) refl
-    where
-      go : (t : Bool) → leb (g .grids) k ≡ t → KeptGrid (gridAt g k)
-      go true q =
-          blank-kept (gridAt g k) b
-          (not-false (gridBlank (gridAt g k))
-          (sym (ap (λ (t : Bool). t && not (gridBlank (gridAt g k))) q) ∙ accepted g e .no-grid k l))
-      go false q = fitting-kept (gridAt g k) b (accepted g e .grid k (leb-false (g .grids) k q))
+pub blank-kept : (d : Grid) → length (d .name .bytes) ≡ nameMost → gridBlank d ≡ true → KeptGrid d
+blank-kept d b e = subst KeptGrid (sym (blank-grid d b e)) blank-kept-grid
 
-  pub accepted-kept : length (g .name .bytes) ≡ nameMost → length (g .ramp) ≡ rampsMost → length (g .grid) ≡ gridsMost
-      → ((k : ℕ) → k < gridsMost → length (gridAt g k .name .bytes) ≡ nameMost) → KeptGroup g
-  accepted-kept b r d n =
-      let h = accepted g e .head in
-      record {
-        name = fitting-name (g .name) b (head-name g h);
-        ramp = r;
-        grid = d;
-        quantum = omega (arith, quantum-most g h);
-        parameters = omega (arith, parameters-between g h);
-        ramps = omega (arith, ramps-most g h);
-        grids = omega (arith, grids-between g h);
-        kept = λ k l. grid-kept k l (n k l);
-      }
+pub head-kept : (g : Group) → length (g .name .bytes) ≡ nameMost → headFits g ≡ true → KeptHead g
+head-kept g b h =
+    record {
+      name = fitting-name (g .name) b (head-name g h);
+      quantum = omega (arith, quantum-most g h);
+      parameters = omega (arith, parameters-between g h);
+      ramps = omega (arith, ramps-most g h);
+      grids = omega (arith, grids-between g h);
+    }
+
+-- a grid line that fits, or an unused entry that is all zero
+pub grid-kept : (g : Group) (k : ℕ) → length (gridAt g k .name .bytes) ≡ nameMost → unusedGrid g k ≡ false → (k < g .grids → gridFits (gridAt g k) ≡ true)
+    → KeptGrid (gridAt g k)
+grid-kept g k b u f = go (leb (g .grids) k) refl
+  where
+    go : (t : Bool) → leb (g .grids) k ≡ t → KeptGrid (gridAt g k)
+    go true q =
+        blank-kept (gridAt g k) b
+        (not-false (gridBlank (gridAt g k)) (sym (ap (λ (t : Bool). t && not (gridBlank (gridAt g k))) q) ∙ u))
+    go false q = fitting-kept (gridAt g k) b (f (leb-false (g .grids) k q))
+
+pub accepted-kept : (g : Group) → judged g ≡ Accepted → length (g .name .bytes) ≡ nameMost → length (g .ramp) ≡ rampsMost → length (g .grid) ≡ gridsMost
+    → ((k : ℕ) → k < gridsMost → length (gridAt g k .name .bytes) ≡ nameMost) → KeptGroup g
+accepted-kept g e b r d n =
+    let s = accepted g e in
+    record {
+      head = head-kept g b (s .head);
+      ramp = r;
+      grid = d;
+      kept = λ k l. grid-kept g k (n k l) (s .no-grid k l) (s .grid k);
+    }

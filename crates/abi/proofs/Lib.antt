@@ -4,5 +4,7 @@ pub mod NumberLaws
 pub mod ClearLaws
 pub mod GroupLaws
 pub mod WordLaws
+pub mod EntryLaws
 pub mod BackLaws
 pub mod KeptLaws
+pub mod StoredLaws

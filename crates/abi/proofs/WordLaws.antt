@@ -35,16 +35,16 @@ picked bs i (suc (suc (suc (suc (suc (suc zero)))))) l = refl
 picked bs i (suc (suc (suc (suc (suc (suc (suc zero))))))) l = refl
 picked bs i (suc (suc (suc (suc (suc (suc (suc (suc j)))))))) l = absurd (omega arith)
 
-module _ (bs : List ℕ) (plain : (j : ℕ) → j < nameMost → byteAt bs j < 128) where
+module _ (bs : List ℕ) (small : (j : ℕ) → j < nameMost → byteAt bs j < 256) where
   byte : (w j : ℕ) → w < nameWords → j < 8 → byteAt bs (w * 8 + j) < 256
-  byte w j a b = let p = plain (w * 8 + j) (omega arith) in omega arith
+  byte w j a b = small (w * 8 + j) (omega arith)
 
   low : (w : ℕ) → w < nameWords → byteAt bs (w * 8) < 256
-  low w a = let p = plain (w * 8) (omega arith) in omega arith
+  low w a = small (w * 8) (omega arith)
 
-  pub word-most : (w : ℕ) → w < nameWords → wordOf bs w ≤ signedMost
+  pub word-most : (w : ℕ) → w < nameWords → byteAt bs (w * 8 + 7) < 128 → wordOf bs w ≤ signedMost
   unfolding wordOf
-  word-most w l =
+  word-most w l p =
       omega (
         arith,
         low w l,
@@ -54,10 +54,9 @@ module _ (bs : List ℕ) (plain : (j : ℕ) → j < nameMost → byteAt bs j < 1
         byte w 4 l (omega arith),
         byte w 5 l (omega arith),
         byte w 6 l (omega arith),
-        plain (w * 8 + 7) (omega arith),
       )
 
-  word-byte : (w j : ℕ) → w < nameWords → j < 8 → byteOf (wordOf bs w) j ≡ byteAt bs (w * 8 + j)
+  pub word-byte : (w j : ℕ) → w < nameWords → j < 8 → byteOf (wordOf bs w) j ≡ byteAt bs (w * 8 + j)
   unfolding wordOf
   word-byte w j l m =
       eight (byteAt bs (w * 8)) (byteAt bs (w * 8 + 1)) (byteAt bs (w * 8 + 2)) (byteAt bs (w * 8 + 3)) (byteAt bs (w * 8 + 4)) (byteAt bs (w * 8 + 5)) (byteAt bs (w * 8 + 6)) (byteAt bs (w * 8 + 7))
@@ -66,13 +65,13 @@ module _ (bs : List ℕ) (plain : (j : ℕ) → j < nameMost → byteAt bs j < 1
       ∙ picked bs (w * 8) j m
 
 -- a name whose words stand in a list from place k on
-pub name-back : (ns : List ℤ) (k : ℕ) (n : Name) → length (n .bytes) ≡ nameMost → ((j : ℕ) → j < nameMost → byteAt (n .bytes) j < 128)
+pub name-back : (ns : List ℤ) (k : ℕ) (n : Name) → length (n .bytes) ≡ nameMost → ((j : ℕ) → j < nameMost → byteAt (n .bytes) j < 256)
     → ((w : ℕ) → w < nameWords → countAt ns (k + w) ≡ wordOf (n .bytes) w) → nameOfWords ns k (n .len) ≡ n
 unfolding nameOfWords
-name-back ns k n e plain words =
+name-back ns k n e small words =
     let b =
     listOf-is (λ j. byteOf (countAt ns (k + j / 8)) (j % 8)) 0 nameMost (n .bytes) e
     (λ j l.
-    ap (λ (x : ℕ). byteOf x (j % 8)) (words (j / 8) (omega arith)) ∙ word-byte (n .bytes) plain (j / 8) (j % 8) (omega arith) (omega arith)
+    ap (λ (x : ℕ). byteOf x (j % 8)) (words (j / 8) (omega arith)) ∙ word-byte (n .bytes) small (j / 8) (j % 8) (omega arith) (omega arith)
     ∙ ap (byteAt (n .bytes)) (omega arith)) in
     λ i. record { bytes = b i; len = n .len }

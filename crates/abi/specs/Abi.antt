@@ -1,7 +1,7 @@
 -- A group as the C interface passes it: a list of signed numbers. What is not there counts as 0.
 use Prim.Native.Nat.{ℕ, zero, suc, _+_, _*_, _/_, _%_, _^_, min, _≤_, _<_}
 use mathlib.Core.Path.{_≡_}
-use mathlib.Core.Bool.{Bool, cond, _&&_}
+use mathlib.Core.Bool.{cond}
 use mathlib.Core.List.{List, [], _∷_, _++_}
 use lib.IntN.{ℤ, pos, negsuc}
 use lib.ListN.{length, getD}
@@ -13,7 +13,7 @@ use Rattle.group.specs.declared.Ramp.{Ramp}
 use Rattle.group.specs.declared.Grid.{Grid}
 use Rattle.group.specs.declared.Group.{Group}
 use Rattle.group.specs.Record.{rampAt, gridAt}
-use Rattle.group.specs.Numbers.{nameMost, rampsMost, gridsMost, isZero}
+use Rattle.group.specs.Numbers.{nameMost, rampsMost, gridsMost}
 use Rattle.abi.specs.Words.{lengthIndex, unitIndex, quantumIndex, parametersIndex, rampsIndex, gridsIndex, rampIndex, gridIndex}
 
 -- ---- from the lists to the record
@@ -84,10 +84,6 @@ groupOfWords ns =
       grid = listOf (gridOfWords ns) gridsMost;
     }
 
--- the four numbers from place k on are all 0
-abbrev pub clearFrom : List ℤ → ℕ → Bool
-clearFrom ns k = isZero (numberAt ns k) && isZero (numberAt ns (k + 1)) && isZero (numberAt ns (k + 2)) && isZero (numberAt ns (k + 3))
-
 -- ---- from the record to the list
 
 -- the greatest signed number
@@ -152,12 +148,28 @@ pub record KeptGrid (g : Grid) : Type 0 where
   pub rank : g .rank ≤ signedMost
   pub start : g .start ≤ signedMost
 
-pub record KeptGroup (g : Group) : Type 0 where
+-- the group line
+pub record KeptHead (g : Group) : Type 0 where
   pub name : KeptName (g .name)
-  pub ramp : length (g .ramp) ≡ rampsMost
-  pub grid : length (g .grid) ≡ gridsMost
   pub quantum : g .quantum ≤ signedMost
   pub parameters : g .parameters ≤ signedMost
   pub ramps : g .ramps ≤ signedMost
   pub grids : g .grids ≤ signedMost
+
+pub record KeptGroup (g : Group) : Type 0 where
+  pub head : KeptHead g
+  pub ramp : length (g .ramp) ≡ rampsMost
+  pub grid : length (g .grid) ≡ gridsMost
   pub kept : (k : ℕ) → k < gridsMost → KeptGrid (gridAt g k)
+
+-- ---- what every record of the machine has: all ramps and grids, and names of 24 bytes
+
+pub record ShapedName (n : Name) : Type 0 where
+  pub bytes : length (n .bytes) ≡ nameMost
+  pub small : (j : ℕ) → j < nameMost → byteAt (n .bytes) j < 256
+
+pub record Shaped (g : Group) : Type 0 where
+  pub name : ShapedName (g .name)
+  pub ramp : length (g .ramp) ≡ rampsMost
+  pub grid : length (g .grid) ≡ gridsMost
+  pub names : (k : ℕ) → k < gridsMost → ShapedName (gridAt g k .name)

@@ -1,3 +1,4 @@
 -- The definitions of the crate `abi`.
 pub mod Words
 pub mod Abi
+pub mod Clear

@@ -1,14 +1,15 @@
 // A group as the C interface passes it, a list of numbers: from the list to the record and back.
 ghost use mathlib.Core.Path.{_≡_};
-ghost use mathlib.Core.Bool.{true};
 ghost use Prim.Native.Nat.{_+_, _*_, _/_, _%_, _≤_, _<_};
 ghost use lib.ListN.{length, getD};
 ghost use lib.Seq.{sets};
 ghost use Rattle.group.specs.Record.{noGrid};
-ghost use Rattle.group.specs.Blank.{blankGrid, blankRamp};
+ghost use Rattle.group.specs.Blank.{blankRamp};
+ghost use Rattle.group.specs.Limits.{gridBlank};
 ghost use Rattle.group.specs.Numbers.{nameMost, rampsMost, gridsMost};
 ghost use Rattle.abi.specs.Words.{nameWords, headWords, gridsFrom, groupWords};
-ghost use Rattle.abi.specs.Abi.{numberAt, countAt, listOf, byteOf, nameOfWords, unitOf, quantumOf, rampOfWords, gridOfWords, groupOfWords, clearFrom};
+ghost use Rattle.abi.specs.Abi.{numberAt, countAt, listOf, byteOf, nameOfWords, unitOf, quantumOf, rampOfWords, gridOfWords, groupOfWords};
+ghost use Rattle.abi.specs.Clear.{FourTold};
 ghost use Rattle.abi.specs.Abi.{stored, unitNumber, fourOf, nameNumber, rampNumbers, gridNumbers, headNumbers, joined, numbersOf};
 use group::GRIDS_MOST;
 use group::Grid;
@@ -211,7 +212,7 @@ fn grid_of_words(numbers: &[i64; GROUP_WORDS], k: usize) -> Grid
 // Whether the four numbers from place k on are all 0.
 fn four_clear(numbers: &[i64; GROUP_WORDS], k: usize) -> bool
     requires { ⌜ k + 3 < groupWords ⌝ }
-    ensures { λ r. ⌜ r ≡ clearFrom (now (numbers .entry)) k ⌝ }
+    ensures { λ r. ⌜ FourTold (now (numbers .entry)) k r ⌝ }
 {
     let a = numbers[k];
     let b = numbers[k + 1];
@@ -220,10 +221,10 @@ fn four_clear(numbers: &[i64; GROUP_WORDS], k: usize) -> bool
     ((0 <= a) & (a <= 0)) & ((0 <= b) & (b <= 0)) & ((0 <= c) & (c <= 0)) & ((0 <= d) & (d <= 0))
 }
 
-// Whether the twelve numbers of grid k are all 0.
+// Whether grid k is unused: its twelve numbers are all 0.
 fn grid_clear(numbers: &[i64; GROUP_WORDS], k: usize) -> bool
     requires { ⌜ k < gridsMost ⌝ }
-    ensures { λ r. ⌜ (r ≡ true → gridOfWords (now (numbers .entry)) k ≡ blankGrid) ⌝ }
+    ensures { λ r. ⌜ r ≡ gridBlank (gridOfWords (now (numbers .entry)) k) ⌝ }
 {
     four_clear(numbers, k * GRID_WORDS + GRIDS_FROM)
         & four_clear(numbers, k * GRID_WORDS + LON)

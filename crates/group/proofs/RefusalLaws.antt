@@ -6,6 +6,7 @@ use native.Mathlib.Omega.{arith}
 use borrow.Author.Tests.{lt-ltb, le-ltb, eq-eqb, ne-eqb}
 use Rattle.numbers.specs.First.{first, some}
 use Rattle.numbers.proofs.Bools.{true-false}
+use Rattle.numbers.proofs.FirstLaws.{first-same, some-same}
 use Rattle.group.specs.declared.Refusal.{Refusal}
 use Rattle.group.specs.declared.Verdict.{Verdict}
 use Rattle.group.specs.declared.Verdict.the-variants.{Accepted, Refused}
@@ -32,6 +33,20 @@ module _ {A : Type 0} (refused : Refusal → A) where
     pub first-past : some test n ≡ false → refuseFirst refused test n number base next ≡ next
     unfolding refuseFirst
     first-past e = if-past (some test n) number (first test n + base) next e
+
+  -- two stages whose tests agree, and what follows agrees where neither refuses
+  pub if-same : (s t : Bool) (number place : ℕ) (x y : A) → s ≡ t → (t ≡ false → x ≡ y) → refuseIf refused s number place x ≡ refuseIf refused t number place y
+  if-same s true number place x y e f = if-here s number place x e ∙ sym (if-here true number place y refl)
+  if-same s false number place x y e f = if-past s number place x e ∙ f refl ∙ sym (if-past false number place y refl)
+
+  pub stage-same : (p q : ℕ → Bool) (m n number b c : ℕ) (x y : A) → m ≡ n → b ≡ c → ((k : ℕ) → k < n → p k ≡ q k) → (some q n ≡ false → x ≡ y)
+      → refuseFirst refused p m number b x ≡ refuseFirst refused q n number c y
+  unfolding refuseFirst
+  stage-same p q m n number b c x y e f s t =
+      let i = first-same p q n s in
+      (λ j. refuseIf refused (some p (e j)) number (first p (e j) + f j) x)
+      ∙ (λ j. refuseIf refused (some p n) number (i j + c) x)
+      ∙ if-same (some p n) (some q n) number (first q n + c) x y (some-same p q n s) t
 
   -- by the answer of the loop that looks for the first entry
   module _ (test : ℕ → Bool) (n number base : ℕ) (next : A) (i : ℕ) (e : i ≡ first test n) where

@@ -5,29 +5,23 @@ use mathlib.Core.Bool.{Bool, true, false, not, _&&_}
 use mathlib.Core.List.{List, [], _∷_, _++_}
 use native.Mathlib.Decide.{decLt}
 use native.Mathlib.Omega.{arith}
-use lib.Dec.{eqb}
 use lib.ListN.{length, take, drop, getD, replicate, length-replicate, length-drop, getD-replicate, take-append-drop}
 use lib.Seq.{length-take-le, getD-drop, ext-getD}
-use borrow.Author.Tests.{le-leb, lt-leb, eqb-true, not-false}
+use borrow.Author.Tests.{le-leb, lt-leb, not-false}
 use Rattle.numbers.specs.First.{first, some}
-use Rattle.numbers.specs.Order.{within}
 use Rattle.numbers.proofs.FirstLaws.{passed-some}
-use Rattle.numbers.proofs.OrderLaws.{zero-of}
-use Rattle.numbers.proofs.Bools.{and-parts}
-use Rattle.group.specs.Limits.{nameBlank, headFits, rampFits, rampBlank, gridFits, gridBlank}
+use Rattle.group.specs.Limits.{headFits, rampFits, rampBlank, gridFits, gridBlank}
 use Rattle.group.specs.Record.{noGrid, rampAt, gridAt}
 use Rattle.group.specs.Refusals.{refusal}
 use Rattle.group.specs.Blank.{blankRamp, blankGrid}
-use Rattle.group.specs.declared.Ramp.{Ramp}
-use Rattle.group.specs.declared.Grid.{Grid}
 use Rattle.group.specs.declared.Group.{Group}
 use Rattle.group.specs.declared.Verdict.the-variants.{Accepted, Refused}
+use Rattle.group.proofs.BlankLaws.{blank-ramp, blank-grid}
 use Rattle.group.proofs.RefusalLaws.{if-here, if-past, first-here, first-past}
 use Rattle.judge.specs.Judge.{unusedRamp, unusedGrid, badRamp, badGrid, judgedLines, judgedLimits, judgedGrids, judgedRanks, judged}
 use Rattle.judge.proofs.LimitLaws.{ramps-most, grids-between}
 use Rattle.judge.proofs.Accepted.{accepted}
 use Rattle.line.specs.Lines.{rampLine, rampText, gridText}
-use Rattle.line.proofs.NameLaws.{blank-name}
 use Rattle.line.proofs.KindLaws.{RampFormed, HeadFormed, headWithin, ramp-kind, grid-name}
 use Rattle.header.specs.Items.{entries}
 use Rattle.header.specs.Whole.{stopped, gridLines, readLines, groupOfLines, acceptedReading, headOfGroup, headerText}
@@ -38,43 +32,6 @@ use Rattle.header.proofs.LengthLaws.{head-parts}
 use Rattle.header.proofs.TripLaws.{Always, GridsFormed, grid-lines, head-stops, ramp-stops, grid-stops, all-read}
 
 -- ---- blank entries
-
-blank-ramp : (r : Ramp) → rampBlank r ≡ true → r ≡ blankRamp
-blank-ramp r e =
-    let p = and-parts (within 0 (r .a) && within 0 (r .s0) && within 0 (r .b)) (within 0 (r .s1)) e in
-    let q = and-parts (within 0 (r .a) && within 0 (r .s0)) (within 0 (r .b)) (p .0) in
-    let s = and-parts (within 0 (r .a)) (within 0 (r .s0)) (q .0) in
-    λ i. record { a = zero-of (r .a) (s .0) i; s0 = zero-of (r .s0) (s .1) i; b = zero-of (r .b) (q .1) i; s1 = zero-of (r .s1) (p .1) i }
-
-blank-grid : (g : Grid) → length (g .name .bytes) ≡ 24 → gridBlank g ≡ true → g ≡ blankGrid
-unfolding gridBlank
-blank-grid g l e =
-    let o = within 0 (g .lon .0) && within 0 (g .lat .0) && within 0 (g .dlon) && within 0 (g .dlat) in
-    let n = eqb (g .ni) 0 && eqb (g .nj) 0 && eqb (g .rank) 0 && eqb (g .start) 0 in
-    let a = and-parts (nameBlank (g .name) && o) n e in
-    let b = and-parts (nameBlank (g .name)) o (a .0) in
-    let p = and-parts (within 0 (g .lon .0) && within 0 (g .lat .0) && within 0 (g .dlon)) (within 0 (g .dlat)) (b .1) in
-    let q = and-parts (within 0 (g .lon .0) && within 0 (g .lat .0)) (within 0 (g .dlon)) (p .0) in
-    let r = and-parts (within 0 (g .lon .0)) (within 0 (g .lat .0)) (q .0) in
-    let u = and-parts (eqb (g .ni) 0 && eqb (g .nj) 0 && eqb (g .rank) 0) (eqb (g .start) 0) (a .1) in
-    let v = and-parts (eqb (g .ni) 0 && eqb (g .nj) 0) (eqb (g .rank) 0) (u .0) in
-    let w = and-parts (eqb (g .ni) 0) (eqb (g .nj) 0) (v .0) in
-    let m = blank-name (g .name) l (b .0) in
-    let lon = zero-of (g .lon .0) (r .0) in let lat = zero-of (g .lat .0) (r .1) in
-    let dlon = zero-of (g .dlon) (q .1) in let dlat = zero-of (g .dlat) (p .1) in
-    let ni = eqb-true (g .ni) 0 (w .0) in let nj = eqb-true (g .nj) 0 (w .1) in
-    let rank = eqb-true (g .rank) 0 (v .1) in let start = eqb-true (g .start) 0 (u .1) in
-    λ i. record {
-      name = m i;
-      lon = record { 0 = lon i };
-      lat = record { 0 = lat i };
-      dlon = dlon i;
-      dlat = dlat i;
-      ni = ni i;
-      nj = nj i;
-      rank = rank i;
-      start = start i;
-    }
 
 -- entries that are blank behind the count are those that reading makes
 entries-back : {A : Type 0} (size : ℕ) (z d : A) (xs : List A) (n : ℕ) → length xs ≡ size → n ≤ size → ((k : ℕ) → n ≤ k → k < size → getD xs k d ≡ z) → entries size z (take n xs) ≡ xs

@@ -4,9 +4,9 @@ use mathlib.Core.Path.{_≡_, sym, _∙_, ap}
 use mathlib.Core.Bool.{Bool, false, not}
 use mathlib.Core.Logic.{_↔_}
 use native.Mathlib.Omega.{arith}
-use borrow.Author.Tests.{ltb-false, not-false}
-use Rattle.numbers.specs.First.{first, some}
-use Rattle.numbers.proofs.FirstLaws.{none-at, passed-some}
+use borrow.Author.Tests.{not-false}
+use Rattle.numbers.specs.First.{some}
+use Rattle.numbers.proofs.FirstLaws.{none-by, passed-some}
 use Rattle.group.specs.declared.Group.{Group}
 use Rattle.group.specs.declared.Verdict.the-variants.{Accepted, Refused}
 use Rattle.group.specs.Record.{rampAt, gridAt}
@@ -21,10 +21,7 @@ use Rattle.flat.specs.Lists.{Measured}
 use Rattle.judge.specs.Rules.{HeadLimits}
 use Rattle.judge.proofs.LimitLaws.{head-sized, grid-sized, grid-edges, measured}
 
--- a test that some entry passes is false: it is false of each
-none : (p : ℕ → Bool) (n k : ℕ) → some p n ≡ false → k < n → p k ≡ false
-none p n k e l = none-at p n k (ltb-false (first p n) n e) l
-
+-- a test that no entry passes
 some-none : (p : ℕ → Bool) (n : ℕ) → ((k : ℕ) → k < n → p k ≡ false) → some p n ≡ false
 some-none p n h = sym (passed-some p n n (record { bound = omega arith; clear = h }) (omega arith))
 
@@ -61,13 +58,13 @@ module _ (g : Group) (e : judged g ≡ Accepted) where
   accepted =
       record {
         head = not-false (headFits g) (tests .0);
-        ramp = λ k l. not-false (rampFits (rampAt g k)) (none (badRamp g) (g .ramps) k (tests .3) l);
-        grid = λ k l. not-false (gridFits (gridAt g k)) (none (badGrid g) (g .grids) k (tests .4) l);
-        no-ramp = λ k l. none (unusedRamp g) rampsMost k (tests .1) l;
-        no-grid = λ k l. none (unusedGrid g) gridsMost k (tests .2) l;
-        edges = λ k l. not-false (inside (g .parameters) (gridAt g k)) (none (outside g) (g .grids) k (tests .6) l);
-        names = λ i k l m. none (λ j. sameName (gridAt g j .name) (gridAt g i .name)) i k (none (namedEarlier g) (g .grids) i (tests .5) l) m;
-        ranks = λ i k l m. none (λ j. sameRank (gridAt g j) (gridAt g i)) i k (none (rankedEarlier g) (g .grids) i (tests .7) l) m;
+        ramp = λ k l. not-false (rampFits (rampAt g k)) (none-by (badRamp g) (g .ramps) k (tests .3) l);
+        grid = λ k l. not-false (gridFits (gridAt g k)) (none-by (badGrid g) (g .grids) k (tests .4) l);
+        no-ramp = λ k l. none-by (unusedRamp g) rampsMost k (tests .1) l;
+        no-grid = λ k l. none-by (unusedGrid g) gridsMost k (tests .2) l;
+        edges = λ k l. not-false (inside (g .parameters) (gridAt g k)) (none-by (outside g) (g .grids) k (tests .6) l);
+        names = λ i k l m. none-by (λ j. sameName (gridAt g j .name) (gridAt g i .name)) i k (none-by (namedEarlier g) (g .grids) i (tests .5) l) m;
+        ranks = λ i k l m. none-by (λ j. sameRank (gridAt g j) (gridAt g i)) i k (none-by (rankedEarlier g) (g .grids) i (tests .7) l) m;
       }
 
 -- a group is accepted exactly where it is sound

@@ -18,12 +18,11 @@ use Rattle.text.specs.Fields.{same}
 use Rattle.text.proofs.PartLaws.{Free}
 use Rattle.text.proofs.FieldLaws.{false-not-true, same-true}
 use Rattle.group.specs.Numbers.{nameMost}
-use Rattle.group.specs.Limits.{nameByte, byteFits, nameFits, nameBlank}
+use Rattle.group.specs.Limits.{nameByte, byteFits, nameFits}
 use Rattle.group.specs.declared.Name.{Name}
 use Rattle.group.specs.declared.Unit as U
 use Rattle.group.specs.declared.Unit.the-variants.{ArcSecond, Metre}
 use Rattle.line.specs.Names.{allNameBytes, isName, nameOf, nameText, readName, unitText, readUnit}
-use Rattle.group.specs.Blank.{blankName}
 
 -- ---- what a scan of a name meets
 
@@ -157,13 +156,6 @@ module _ (n : Name) (room : length (n .bytes) ≡ nameMost) where
 
   pub readName-text : nameFits n ≡ true → readName (nameText n) ≡ some n
   readName-text e = rw (fits-isName e) (ap some (fits-back e))
-
-  pub blank-name : nameBlank n ≡ true → n ≡ blankName
-  unfolding nameBlank
-  blank-name e =
-      let z : n .len ≡ 0 = eqb-true _ _ (and-left (eqb (n .len) 0) (every (byteFits n) nameMost) e) in
-      let b : n .bytes ≡ replicate nameMost 0 = ap (λ (k : ℕ). drop k (n .bytes)) (sym z) ∙ zeros-behind (omega arith) (and-right (eqb (n .len) 0) (every (byteFits n) nameMost) e) ∙ ap (λ (k : ℕ). replicate (nameMost - k) 0) z in
-      λ i. record { bytes = b i; len = z i }
 
 -- a field that is a name, as text again
 pub name-read : (f : List ℕ) (n : Name) → readName f ≡ some n → nameText n ≡ f

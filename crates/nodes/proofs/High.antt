@@ -1,5 +1,5 @@
 -- The size of a float within the limit as one quotient by 2^32: the digits, moved up by the exponent's field; and its node by its bits.
-use mathlib.Core.Path.{_≡_, refl, sym, ap, _∙_, subst}
+use mathlib.Core.Path.{_≡_, sym, ap, _∙_, subst}
 use mathlib.Core.Bool.{Bool, true, false, not}
 use Prim.Native.Nat.{ℕ, _+_, _-_, _*_, _/_, _%_, _^_, _≤_, _<_, min}
 use native.Mathlib.Nat.{mul-assoc, mul-le-mul, mul-one, le-min, le-of-lt, lt-of-lt-of-le}
@@ -8,8 +8,8 @@ use native.Mathlib.Omega.{arith}
 use lib.Dec.{T, leb, lit≤}
 use lib.Pow.{pow-pos, pow-mono, pow-add, shl-exact, shl-lt}
 use lib.Ieee.{Float, binary32, isNan, fits, ofFields, ofBits, toBits}
-use Rattle.numbers.specs.Round.{gain, nearest}
-use Rattle.numbers.proofs.Nearest.{gain-0, gain-1, gain-tie, nearest-parts, nearest-same, nearest-small, three-ways}
+use Rattle.numbers.specs.Round.{nearest}
+use Rattle.numbers.proofs.Nearest.{nearest-same, nearest-small, three-ways}
 use Rattle.group.specs.Numbers.{quantumMost, valueMost}
 use Rattle.nodes.specs.Load.{signed, marks, refusedFloat, nodeOf}
 use Rattle.nodes.specs.Size.{sizeOf}
@@ -17,24 +17,6 @@ use Rattle.nodes.proofs.Marks.{Read, unmarked}
 use Rattle.nodes.proofs.ScaledLaws.{large, quotient, small}
 use Rattle.nodes.proofs.Fields.{field-zero, field-some, field-ones, sign, sign-bits}
 use Rattle.nodes.proofs.Steps.{uncut, size-limit, node-size}
-
--- just below half a step more, and one more still where the quotient is odd: then cut off
-pub half-added : (n : ℕ) → (n + 2147483647 + n / 4294967296 % 2) / 4294967296 ≡ nearest n (2 ^ 32)
-half-added n =
-    let q = n / 4294967296 in
-    let r = n % 4294967296 in
-    let e : q * 4294967296 + r ≡ n = omega arith in
-    let l : r < 4294967296 = omega arith in
-    by-gain q (gain (2 * r) 4294967296 q) (gain-0 _ _ _) (gain-tie _ _ _) (gain-1 _ _ _) refl
-    ∙ nearest-parts n 4294967296 q r e l
-  where
-    by-gain : (q g : ℕ) → (2 * (n % 4294967296) < 4294967296 → g ≡ 0) → (2 * (n % 4294967296) ≡ 4294967296 → g ≡ n / 4294967296 % 2) → (4294967296 < 2 * (n % 4294967296) → g ≡ 1)
-        → q ≡ n / 4294967296 → (n + 2147483647 + n / 4294967296 % 2) / 4294967296 ≡ q + g
-    by-gain q g f t h e =
-        three-ways (2 * (n % 4294967296)) 4294967296
-        (λ l. let z = f l in omega arith)
-        (λ l. let z = t l in three-ways (n / 4294967296 % 2) 1 (λ m. omega arith) (λ m. omega arith) (λ m. absurd (omega arith)))
-        (λ l. let z = h l in omega arith)
 
 -- digits d at 2^(u - 149), with u - 117 places of the quotient's 32 taken up
 moved : (d u : ℕ) → d < 2 ^ 24 → nearest (d * 2 ^ u) (2 ^ 149) ≡ nearest (d * 2 ^ (u - 117)) (2 ^ 32)

@@ -106,14 +106,6 @@ fn less(a: u32, b: u32) -> u32
     if a < b { 0 } else { a - b }
 }
 
-// n over 2^32 to the nearest whole number, a tie to the even one.
-fn nearest_high(n: u64) -> u64
-    requires { ⌜ n < 2 ^ 63 ⌝ }
-    ensures { λ r. ⌜ r ≡ nearest n (2 ^ 32) ⌝ }
-{
-    (n + 2147483647 + n / 4294967296 % 2) / 4294967296
-}
-
 // The node, in steps of 2^-q, of the float with the bits b, which isn't beyond the limit.
 fn bits_node(b: u32, q: u32) -> i32
     requires { ⌜ (q ≤ quantumMost) × T (not (isNan (ofBits binary32 b))) × (sizeOf q (ofBits binary32 b) ≤ valueMost) ⌝ }
@@ -123,7 +115,7 @@ fn bits_node(b: u32, q: u32) -> i32
     let digits = 8388608 + b % 8388608;
     with_sign(
         2147483648 <= b,
-        nearest_high((digits as u64) << (up as u64)),
+        numbers::nearest_shifted_32((digits as u64) << (up as u64)),
     )
 }
 

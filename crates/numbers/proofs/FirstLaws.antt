@@ -5,9 +5,9 @@ use mathlib.Core.Bool.{Bool, true, false, cond, not, _&&_}
 use native.Mathlib.Omega.{arith}
 use native.Mathlib.Nat.{le-of-suc-le-suc, not-suc-le-zero}
 use borrow.Author.Count.{below-more, below-none}
-use lib.Dec.{leb}
+use lib.Dec.{leb, ltb}
 use native.Mathlib.Decide.{decLt}
-use borrow.Author.Tests.{leb-true, ltb-true, not-false, lt-ltb, le-ltb, le-leb}
+use borrow.Author.Tests.{leb-true, ltb-true, ltb-false, not-false, lt-ltb, le-ltb, le-leb}
 use Rattle.numbers.proofs.Bools.{and-left, and-right, both, same-test, true-false}
 use Rattle.numbers.specs.First.{first, every, some}
 
@@ -91,6 +91,9 @@ first-hit p (suc n) l = hit-step p (first (λ i. p (suc i)) n) n (p zero) refl (
 pub none-at : (p : ℕ → Bool) (n k : ℕ) → n ≤ first p n → k < n → p k ≡ false
 none-at p n k h l = first-before p n k (omega arith)
 
+pub none-by : (p : ℕ → Bool) (n k : ℕ) → some p n ≡ false → k < n → p k ≡ false
+none-by p n k e l = none-at p n k (ltb-false (first p n) n e) l
+
 pub every-at : (p : ℕ → Bool) (n k : ℕ) → every p n ≡ true → k < n → p k ≡ true
 every-at p n k e l = not-false (p k) (none-at (λ i. not (p i)) n k (leb-true _ _ e) l)
 
@@ -121,6 +124,9 @@ every-more p i =
 
 pub every-same : (p q : ℕ → Bool) (n : ℕ) → ((k : ℕ) → k < n → p k ≡ q k) → every p n ≡ every q n
 every-same p q n h = ap (λ (m : ℕ). leb n m) (first-same (λ i. not (p i)) (λ i. not (q i)) n (λ k l. ap not (h k l)))
+
+pub some-same : (p q : ℕ → Bool) (n : ℕ) → ((k : ℕ) → k < n → p k ≡ q k) → some p n ≡ some q n
+some-same p q n h = ap (λ (m : ℕ). ltb m n) (first-same p q n h)
 
 -- one that passes, and some that do
 module _ (p : ℕ → Bool) (n : ℕ) where

@@ -1,4 +1,4 @@
--- The laws of rounding, of signed numbers as unsigned ones, and of the first index at which a test holds.
+-- The laws of rounding, of signed numbers as unsigned ones, of the first index at which a test holds, and of lists of numbers.
 pub mod Bools
 pub mod Nearest
 pub mod RoundZ
@@ -8,3 +8,4 @@ pub mod FirstLaws
 pub mod OrderLaws
 pub mod Lists
 pub mod KeptLaws
+pub mod ShiftLaws

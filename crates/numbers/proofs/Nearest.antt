@@ -215,3 +215,22 @@ nearest-small n d h =
     let z = zero-mul d in
     sym (near-nearest n d 0 (omega arith)
     (record { above = omega arith; below = omega arith; even-above = λ e. refl; even-below = λ e. refl }))
+
+-- just below half a step more, and one more still where the quotient is odd: then cut off
+pub half-added : (n : ℕ) → let q = n / 4294967296 in (n + 2147483647 + (q - (q / 2 + q / 2))) / 4294967296 ≡ nearest n (2 ^ 32)
+half-added n =
+    let q = n / 4294967296 in
+    let r = n % 4294967296 in
+    let e : q * 4294967296 + r ≡ n = omega arith in
+    let l : r < 4294967296 = omega arith in
+    by-gain q (gain (2 * r) 4294967296 q) (gain-0 _ _ _) (gain-tie _ _ _) (gain-1 _ _ _) refl
+    ∙ nearest-parts n 4294967296 q r e l
+  where
+    by-gain : (q g : ℕ) → (2 * (n % 4294967296) < 4294967296 → g ≡ 0) → (2 * (n % 4294967296) ≡ 4294967296 → g ≡ q % 2) → (4294967296 < 2 * (n % 4294967296) → g ≡ 1)
+        → q ≡ n / 4294967296 → (n + 2147483647 + (q - (q / 2 + q / 2))) / 4294967296 ≡ q + g
+    by-gain q g f t h e =
+        let o : q - (q / 2 + q / 2) ≡ q % 2 = omega arith in
+        three-ways (2 * (n % 4294967296)) 4294967296
+        (λ l. let z = f l in omega arith)
+        (λ l. let z = t l in three-ways (q % 2) 1 (λ m. omega arith) (λ m. omega arith) (λ m. absurd (omega arith)))
+        (λ l. let z = h l in omega arith)

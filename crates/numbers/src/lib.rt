@@ -46,6 +46,16 @@ pub fn nearest_shifted(n: u64, k: u64) -> u64
     settle(q, n - (q << k), 1 << k)
 }
 
+// n over 2 to the power 32, to the nearest whole number, a tie to the even one: no test of what is left over.
+pub fn nearest_shifted_32(n: u64) -> u64
+    requires { ⌜ n < 2 ^ 63 ⌝ }
+    ensures { λ r. ⌜ r ≡ nearest n (2 ^ 32) ⌝ }
+{
+    let q = n >> 32;
+    let h = q >> 1;
+    (n + 2147483647 + (q - (h + h))) >> 32
+}
+
 // The size of x, without its sign.
 pub fn magnitude(x: i64) -> u64
     ensures { λ r. ⌜ r ≡ natAbs x ⌝ }

@@ -1,8 +1,7 @@
 -- `grid_clear` meets its contract.
-use mathlib.Core.Path.{sym, _∙_}
+use mathlib.Core.Path.{_∙_}
 use mathlib.Core.Bool.{_&&_}
-use Rattle.numbers.proofs.Bools.{and-left, and-right}
-use Rattle.abi.proofs.ClearLaws.{clear-grid}
+use Rattle.abi.proofs.ClearLaws.{clear-blank}
 use borrow.Author.Needs.{needs}
 use Rattle.abi.proofs.grid_clear.Statement.{statement}
 use Rattle.abi.proofs.grid_clear.Tie as tie
@@ -38,12 +37,7 @@ returns : tie.Need-returns
 returns c =
     let s = c .before .before .before .args in
     let x = c .before .before .four-clear in let y = c .before .four-clear2 in let z = c .four-clear3 in
-    λ e.
-    let xy = and-left (x .result && y .result) (z .result) e in
-    clear-grid (s .numbers .now) (s .k)
-    (sym (x .ensures) ∙ and-left (x .result) (y .result) xy)
-    (sym (y .ensures) ∙ and-right (x .result) (y .result) xy)
-    (sym (z .ensures) ∙ and-right (x .result && y .result) (z .result) e)
+    (λ i. x .ensures .clear i && y .ensures .clear i && z .ensures .clear i) ∙ clear-blank (s .numbers .now) (s .k) (x .ensures .sizes)
 
 pub grid-clear-spec : {M : Type 1} → statement M
 grid-clear-spec =

@@ -12,6 +12,7 @@ use Rattle.group.specs.declared.Grid.{Grid}
 use Rattle.group.specs.Numbers.{gridsMost}
 use Rattle.group.specs.Record.{noGrid}
 use Rattle.abi.specs.Abi.{gridOfWords}
+use Rattle.abi.proofs.ClearLaws.{blank-words}
 use Rattle.abi.proofs.ListLaws.{Begun, begun-none, begun-more, begun-same, filled-all}
 use Rattle.abi.proofs.grids_of.Statement.{statement}
 use Rattle.abi.proofs.grids_of.Tie as tie
@@ -73,7 +74,8 @@ loop-again c =
     let both = not-false (last .result && clear .result) (u .0 .left) in
     subst Next (sym (u .1))
     (begun-same (gridOfWords ns) noGrid _ gridsMost (l .i) (l .grids) (l .inv) (c .before .before .loop-test .taken)
-    (last .ensures (and-left (last .result) (clear .result) both) ∙ sym (clear .ensures (and-right (last .result) (clear .result) both)))))
+    (blank-words ns (gridsMost - 1) (sym (last .ensures) ∙ and-left (last .result) (clear .result) both)
+    ∙ sym (blank-words ns (l .i) (sym (clear .ensures) ∙ and-right (last .result) (clear .result) both)))))
     (c .if1 .came)
 
 returns : tie.Need-returns Inv-loop μ-loop

@@ -23,11 +23,11 @@ less-requires c κs = search needs
 add-digits : tie.Need-add-digits
 add-digits c = search needs
 
-cast-nearest-high : tie.Need-cast-nearest-high
-cast-nearest-high c = search needs
+cast-nearest-shifted-32 : tie.Need-cast-nearest-shifted-32
+cast-nearest-shifted-32 c = search needs
 
-cast-nearest-high-2 : tie.Need-cast-nearest-high-2
-cast-nearest-high-2 c = search needs
+cast-nearest-shifted-32-2 : tie.Need-cast-nearest-shifted-32-2
+cast-nearest-shifted-32-2 c = search needs
 
 -- the size as the digits, so far up
 at-size : (c : tie.After-less) → High (sizeOf (c .before .args .q) (ofBits binary32 (c .before .args .b))) (8388608 + c .before .args .b % 8388608) (c .less .result)
@@ -36,18 +36,18 @@ at-size c =
     let a = s .args in
     subst (High (sizeOf (a .q) (ofBits binary32 (a .b))) (8388608 + a .b % 8388608)) (sym (c .less .ensures)) (high (a .b) (a .q) (s .pre .0) (s .pre .1) (s .pre .2))
 
-shl-nearest-high : tie.Need-shl-nearest-high
-shl-nearest-high c = let r = at-size c .room in omega arith
+shl-nearest-shifted-32 : tie.Need-shl-nearest-shifted-32
+shl-nearest-shifted-32 c = let r = at-size c .room in omega arith
 
 -- no digit is lost
 kept : (c : tie.After-less) → ((8388608 + c .before .args .b % 8388608) * 2 ^ c .less .result % 2 ^ 64 ≡ (8388608 + c .before .args .b % 8388608) * 2 ^ c .less .result) × ((8388608 + c .before .args .b % 8388608) * 2 ^ c .less .result < 2 ^ 63)
 kept c = shifted (8388608 + c .before .args .b % 8388608) (c .less .result) (omega arith) (at-size c .room)
 
-nearest-high-requires : tie.Need-nearest-high-requires
-nearest-high-requires c κs = subst (λ (n : ℕ). n < 2 ^ 63) (sym (kept c .0)) (kept c .1)
+nearest-shifted-32-requires : tie.Need-nearest-shifted-32-requires
+nearest-shifted-32-requires c κs = subst (λ (n : ℕ). n < 2 ^ 63) (sym (kept c .0)) (kept c .1)
 
-sized : (c : tie.After-nearest-high) → c .nearest-high .result ≡ sizeOf (c .before .before .args .q) (ofBits binary32 (c .before .before .args .b))
-sized c = c .nearest-high .ensures ∙ ap (λ (n : ℕ). nearest n (2 ^ 32)) (kept (c .before) .0) ∙ sym (at-size (c .before) .size)
+sized : (c : tie.After-nearest-shifted-32) → c .nearest-shifted-32 .result ≡ sizeOf (c .before .before .args .q) (ofBits binary32 (c .before .before .args .b))
+sized c = c .nearest-shifted-32 .ensures ∙ ap (λ (n : ℕ). nearest n (2 ^ 32)) (kept (c .before) .0) ∙ sym (at-size (c .before) .size)
 
 with-sign-requires : tie.Need-with-sign-requires
 with-sign-requires c κs = let z = sized c in let l = c .before .before .pre .2 in omega arith
@@ -65,9 +65,9 @@ bits-node-spec =
     sub-less
     less-requires
     add-digits
-    cast-nearest-high
-    cast-nearest-high-2
-    shl-nearest-high
-    nearest-high-requires
+    cast-nearest-shifted-32
+    cast-nearest-shifted-32-2
+    shl-nearest-shifted-32
+    nearest-shifted-32-requires
     with-sign-requires
     returns)
