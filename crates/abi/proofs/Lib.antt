@@ -1,10 +1,9 @@
 -- The laws of a group as words.
 pub mod ListLaws
 pub mod NumberLaws
+pub mod ShapeLaws
 pub mod ClearLaws
 pub mod GroupLaws
 pub mod WordLaws
 pub mod EntryLaws
 pub mod BackLaws
-pub mod KeptLaws
-pub mod StoredLaws

@@ -7,7 +7,7 @@ use native.Mathlib.Numerals.{add-one}
 use native.Mathlib.Nat.{suc-mul, mul-le-mul-right, eq-or-lt-of-le}
 use native.Mathlib.Omega.{arith}
 use borrow.Author.Count.{below-more, below-none}
-use lib.ListN.{length, getD, set, take, replicate, length-append, length-set, length-replicate, getD-replicate, drop-of-length-le, List·getD-append}
+use lib.ListN.{length, getD, set, take, length-append, length-set, drop-of-length-le, List·getD-append}
 use lib.Seq.{ext-getD, getD-set-same, getD-set-other, getD-append-add, take-suc, length-take-le, sets, length-sets, sets-eq}
 use Rattle.abi.specs.Abi.{listOf, joined}
 
@@ -148,30 +148,3 @@ module _ {A : Type 0} where
   getD-three a b c d f p q r (suc zero) l = sym q
   getD-three a b c d f p q r (suc (suc zero)) l = sym r
   getD-three a b c d f p q r (suc (suc (suc k))) l = absurd (omega arith)
-
-  -- a list of one value of which a loop has set the first i of n places to f's values
-  pub record Begun (f : ℕ → A) (d x : A) (n i : ℕ) (xs : List A) : Type 0 where
-    pub done : Filled f d n i xs
-    pub left : (k : ℕ) → i ≤ k → k < n → getD xs k d ≡ x
-
-  pub begun-none : (f : ℕ → A) (d x : A) (n : ℕ) → Begun f d x n 0 (replicate n x)
-  begun-none f d x n =
-      record { done = filled-none f d n (replicate n x) (length-replicate n x); left = λ k a b. getD-replicate n k x d b }
-
-  pub begun-more : (f : ℕ → A) (d x : A) (n i : ℕ) (xs : List A) (y : A) → Begun f d x n i xs → i < n → y ≡ f i → Begun f d x n (i + 1) (set xs i y)
-  begun-more f d x n i xs y h l e =
-      record {
-        done = filled-more f d n i xs y (h .done) l e;
-        left = λ k a b. getD-set-other xs i k y d (λ q. omega arith) ∙ h .left k (omega arith) b;
-      }
-
-  pub begun-same : (f : ℕ → A) (d x : A) (n i : ℕ) (xs : List A) → Begun f d x n i xs → i < n → x ≡ f i → Begun f d x n (i + 1) xs
-  begun-same f d x n i xs h l e =
-      record {
-        done =
-            record {
-              size = h .done .size;
-              values = below-more (λ k. getD xs k d ≡ f k) i (h .done .values) (h .left i (omega arith) l ∙ e);
-            };
-        left = λ k a b. h .left k (omega arith) b;
-      }

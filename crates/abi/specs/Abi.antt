@@ -164,12 +164,12 @@ pub record KeptGroup (g : Group) : Type 0 where
 
 -- ---- what every record of the machine has: all ramps and grids, and names of 24 bytes
 
-pub record ShapedName (n : Name) : Type 0 where
+pub record MachineName (n : Name) : Type 0 where
   pub bytes : length (n .bytes) ≡ nameMost
   pub small : (j : ℕ) → j < nameMost → byteAt (n .bytes) j < 256
 
-pub record Shaped (g : Group) : Type 0 where
-  pub name : ShapedName (g .name)
+pub record MachineGroup (g : Group) : Type 0 where
+  pub name : MachineName (g .name)
   pub ramp : length (g .ramp) ≡ rampsMost
   pub grid : length (g .grid) ≡ gridsMost
-  pub names : (k : ℕ) → k < gridsMost → ShapedName (gridAt g k .name)
+  pub names : (k : ℕ) → k < gridsMost → MachineName (gridAt g k .name)

@@ -8,7 +8,7 @@ ghost use Rattle.group.specs.Blank.{blankRamp};
 ghost use Rattle.group.specs.Limits.{gridBlank};
 ghost use Rattle.group.specs.Numbers.{nameMost, rampsMost, gridsMost};
 ghost use Rattle.abi.specs.Words.{nameWords, headWords, gridsFrom, groupWords};
-ghost use Rattle.abi.specs.Abi.{numberAt, countAt, listOf, byteOf, nameOfWords, unitOf, quantumOf, rampOfWords, gridOfWords, groupOfWords};
+ghost use Rattle.abi.specs.Abi.{numberAt, countAt, listOf, byteOf, nameOfWords, unitOf, rampOfWords, gridOfWords, groupOfWords};
 ghost use Rattle.abi.specs.Clear.{FourTold};
 ghost use Rattle.abi.specs.Abi.{stored, unitNumber, fourOf, nameNumber, rampNumbers, gridNumbers, headNumbers, joined, numbersOf};
 use group::GRIDS_MOST;
@@ -25,14 +25,14 @@ use group::Unit;
 // The numbers that hold a name, a group line, a ramp and a grid.
 const NAME_WORDS: usize = NAME_MOST / 8;
 
-const HEAD_WORDS: usize = 9;
+pub const HEAD_WORDS: usize = 9;
 
 const RAMP_WORDS: usize = 4;
 
 const GRID_WORDS: usize = 12;
 
 // Where the grids begin, and the numbers of a group.
-const GRIDS_FROM: usize = HEAD_WORDS + RAMPS_MOST * RAMP_WORDS;
+pub const GRIDS_FROM: usize = HEAD_WORDS + RAMPS_MOST * RAMP_WORDS;
 
 pub const GROUP_WORDS: usize = GRIDS_FROM + GRIDS_MOST * GRID_WORDS;
 
@@ -82,25 +82,8 @@ const SIGNED_MOST: i64 = 9223372036854775807;
 
 const ABOVE: u64 = SIGNED_MOST as u64 + 1;
 
-// Number k of a list, 0 past its end.
-pub fn number_at(numbers: &[i64], k: usize) -> i64
-    ensures { λ r. ⌜ r ≡ numberAt (now (numbers .entry)) k ⌝ }
-{
-    if k < numbers.len() {
-        return numbers[k];
-    }
-    0
-}
-
-// Number k of a list where the record is unsigned.
-pub fn count_at(numbers: &[i64], k: usize) -> u64
-    ensures { λ r. ⌜ r ≡ countAt (now (numbers .entry)) k ⌝ }
-{
-    numbers::count_of(number_at(numbers, k))
-}
-
 // Number k of a group's numbers.
-fn number_in(numbers: &[i64; GROUP_WORDS], k: usize) -> i64
+fn number_at(numbers: &[i64; GROUP_WORDS], k: usize) -> i64
     requires { ⌜ k < groupWords ⌝ }
     ensures { λ r. ⌜ r ≡ numberAt (now (numbers .entry)) k ⌝ }
 {
@@ -108,11 +91,11 @@ fn number_in(numbers: &[i64; GROUP_WORDS], k: usize) -> i64
 }
 
 // The same where the record is unsigned.
-fn count_in(numbers: &[i64; GROUP_WORDS], k: usize) -> u64
+fn count_at(numbers: &[i64; GROUP_WORDS], k: usize) -> u64
     requires { ⌜ k < groupWords ⌝ }
     ensures { λ r. ⌜ r ≡ countAt (now (numbers .entry)) k ⌝ }
 {
-    numbers::count_of(number_in(numbers, k))
+    numbers::count_of(number_at(numbers, k))
 }
 
 // Byte j of eight that a number holds, the lowest first.
@@ -142,9 +125,9 @@ fn name_of_words(numbers: &[i64; GROUP_WORDS], k: usize, len: u64) -> Name
     ensures { λ r. ⌜ r ≡ nameOfWords (now (numbers .entry)) k len ⌝ }
 {
     let bytes = bytes_of([
-        count_in(numbers, k),
-        count_in(numbers, k + 1),
-        count_in(numbers, k + 2),
+        count_at(numbers, k),
+        count_at(numbers, k + 1),
+        count_at(numbers, k + 2),
     ]);
     Name {
         bytes: bytes,
@@ -163,49 +146,77 @@ fn unit_of(x: i64) -> Unit
 }
 
 // Q, beyond its limit if the unit is neither 0 nor 1.
-fn quantum_of(numbers: &[i64; GROUP_WORDS]) -> u64
-    ensures { λ r. ⌜ r ≡ quantumOf (now (numbers .entry)) ⌝ }
+pub fn quantum_of(numbers: &[i64; GROUP_WORDS]) -> u64
+    ensures { λ r. ⌜ r ≡ groupOfWords (now (numbers .entry)) .quantum ⌝ }
 {
-    let u = number_in(numbers, UNIT_INDEX);
+    let u = number_at(numbers, UNIT_INDEX);
     if (0 <= u) & (u <= 1) {
-        return count_in(numbers, QUANTUM_INDEX);
+        return count_at(numbers, QUANTUM_INDEX);
     }
     numbers::BEYOND
 }
 
+// The name of a group's numbers.
+pub fn name_of(numbers: &[i64; GROUP_WORDS]) -> Name
+    ensures { λ r. ⌜ r ≡ groupOfWords (now (numbers .entry)) .name ⌝ }
+{
+    name_of_words(numbers, 0, count_at(numbers, LENGTH_INDEX))
+}
+
+// Its count of parameters.
+pub fn parameter_count(numbers: &[i64; GROUP_WORDS]) -> u64
+    ensures { λ r. ⌜ r ≡ groupOfWords (now (numbers .entry)) .parameters ⌝ }
+{
+    count_at(numbers, PARAMETERS_INDEX)
+}
+
+// Its count of ramps.
+pub fn ramp_count(numbers: &[i64; GROUP_WORDS]) -> u64
+    ensures { λ r. ⌜ r ≡ groupOfWords (now (numbers .entry)) .ramps ⌝ }
+{
+    count_at(numbers, RAMPS_INDEX)
+}
+
+// Its count of grids.
+pub fn grid_count(numbers: &[i64; GROUP_WORDS]) -> u64
+    ensures { λ r. ⌜ r ≡ groupOfWords (now (numbers .entry)) .grids ⌝ }
+{
+    count_at(numbers, GRIDS_INDEX)
+}
+
 // Ramp k of a group's numbers.
-fn ramp_of_words(numbers: &[i64; GROUP_WORDS], k: usize) -> Ramp
+pub fn ramp_of_words(numbers: &[i64; GROUP_WORDS], k: usize) -> Ramp
     requires { ⌜ k < rampsMost ⌝ }
     ensures { λ r. ⌜ r ≡ rampOfWords (now (numbers .entry)) k ⌝ }
 {
     Ramp {
-        a: number_in(numbers, k * RAMP_WORDS + A),
-        s0: number_in(numbers, k * RAMP_WORDS + S0),
-        b: number_in(numbers, k * RAMP_WORDS + B),
-        s1: number_in(numbers, k * RAMP_WORDS + S1),
+        a: number_at(numbers, k * RAMP_WORDS + A),
+        s0: number_at(numbers, k * RAMP_WORDS + S0),
+        b: number_at(numbers, k * RAMP_WORDS + B),
+        s1: number_at(numbers, k * RAMP_WORDS + S1),
     }
 }
 
 // Grid k of a group's numbers.
-fn grid_of_words(numbers: &[i64; GROUP_WORDS], k: usize) -> Grid
+pub fn grid_of_words(numbers: &[i64; GROUP_WORDS], k: usize) -> Grid
     requires { ⌜ k < gridsMost ⌝ }
     ensures { λ r. ⌜ r ≡ gridOfWords (now (numbers .entry)) k ⌝ }
 {
     let name = name_of_words(
         numbers,
         k * GRID_WORDS + GRIDS_FROM,
-        count_in(numbers, k * GRID_WORDS + GRID_LENGTH),
+        count_at(numbers, k * GRID_WORDS + GRID_LENGTH),
     );
     Grid {
         name: name,
-        lon: Longitude(number_in(numbers, k * GRID_WORDS + LON)),
-        lat: Latitude(number_in(numbers, k * GRID_WORDS + LAT)),
-        dlon: number_in(numbers, k * GRID_WORDS + DLON),
-        dlat: number_in(numbers, k * GRID_WORDS + DLAT),
-        ni: count_in(numbers, k * GRID_WORDS + NI),
-        nj: count_in(numbers, k * GRID_WORDS + NJ),
-        rank: count_in(numbers, k * GRID_WORDS + RANK),
-        start: count_in(numbers, k * GRID_WORDS + START),
+        lon: Longitude(number_at(numbers, k * GRID_WORDS + LON)),
+        lat: Latitude(number_at(numbers, k * GRID_WORDS + LAT)),
+        dlon: number_at(numbers, k * GRID_WORDS + DLON),
+        dlat: number_at(numbers, k * GRID_WORDS + DLAT),
+        ni: count_at(numbers, k * GRID_WORDS + NI),
+        nj: count_at(numbers, k * GRID_WORDS + NJ),
+        rank: count_at(numbers, k * GRID_WORDS + RANK),
+        start: count_at(numbers, k * GRID_WORDS + START),
     }
 }
 
@@ -222,7 +233,7 @@ fn four_clear(numbers: &[i64; GROUP_WORDS], k: usize) -> bool
 }
 
 // Whether grid k is unused: its twelve numbers are all 0.
-fn grid_clear(numbers: &[i64; GROUP_WORDS], k: usize) -> bool
+pub fn grid_clear(numbers: &[i64; GROUP_WORDS], k: usize) -> bool
     requires { ⌜ k < gridsMost ⌝ }
     ensures { λ r. ⌜ r ≡ gridBlank (gridOfWords (now (numbers .entry)) k) ⌝ }
 {
@@ -246,20 +257,16 @@ fn ramps_of(numbers: &[i64; GROUP_WORDS]) -> [Ramp; RAMPS_MOST]
     ramps
 }
 
-// The grids of a group's numbers: where the last is unused, each unused one is a copy of it.
+// The grids of a group's numbers.
 fn grids_of(numbers: &[i64; GROUP_WORDS]) -> [Grid; GRIDS_MOST]
     ensures { λ r. ⌜ r ≡ listOf (gridOfWords (now (numbers .entry))) gridsMost ⌝ }
 {
-    let last = grid_of_words(numbers, GRIDS_MOST - 1);
-    let spare = grid_clear(numbers, GRIDS_MOST - 1);
-    let mut grids = [last; GRIDS_MOST];
+    let blank = group::blank_grid();
+    let mut grids = [blank; GRIDS_MOST];
     let mut i = 0;
     while i < GRIDS_MOST {
-        let clear = grid_clear(numbers, i);
-        if !(spare & clear) {
-            let grid = grid_of_words(numbers, i);
-            grids[i] = grid;
-        }
+        let grid = grid_of_words(numbers, i);
+        grids[i] = grid;
         i += 1;
     }
     grids
@@ -269,16 +276,16 @@ fn grids_of(numbers: &[i64; GROUP_WORDS]) -> [Grid; GRIDS_MOST]
 pub fn group_of_words(numbers: &[i64; GROUP_WORDS]) -> Group
     ensures { λ r. ⌜ r ≡ groupOfWords (now (numbers .entry)) ⌝ }
 {
-    let name = name_of_words(numbers, 0, count_in(numbers, LENGTH_INDEX));
+    let name = name_of(numbers);
     let ramp = ramps_of(numbers);
     let grid = grids_of(numbers);
     Group {
         name: name,
-        unit: unit_of(number_in(numbers, UNIT_INDEX)),
+        unit: unit_of(number_at(numbers, UNIT_INDEX)),
         quantum: quantum_of(numbers),
-        parameters: count_in(numbers, PARAMETERS_INDEX),
-        ramps: count_in(numbers, RAMPS_INDEX),
-        grids: count_in(numbers, GRIDS_INDEX),
+        parameters: parameter_count(numbers),
+        ramps: ramp_count(numbers),
+        grids: grid_count(numbers),
         ramp: ramp,
         grid: grid,
     }
@@ -306,18 +313,14 @@ pub fn store_numbers(out: &mut [i64], k: usize, numbers: &[i64])
     }
 }
 
-// A byte, widened.
-fn wide(x: u8) -> u64
-    ensures { λ r. ⌜ (r ≡ x) × (r < 256) ⌝ }
-{
-    x as u64
-}
-
 // Four bytes as one number, the first lowest.
 fn four(a: u8, b: u8, c: u8, d: u8) -> u64
     ensures { λ r. ⌜ (r ≡ fourOf a b c d) × (r < 4294967296) ⌝ }
 {
-    wide(a) + wide(b) * 256 + wide(c) * 65536 + wide(d) * 16777216
+    numbers::wide(a)
+        + numbers::wide(b) * 256
+        + numbers::wide(c) * 65536
+        + numbers::wide(d) * 16777216
 }
 
 // Number w of the three that hold the bytes of a name.

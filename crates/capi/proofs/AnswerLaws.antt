@@ -49,24 +49,27 @@ module _ {A : Type 0} where
   pub passed-over : (t : Bool) (x y : A) → t ≡ false → cond t x y ≡ y
   passed-over t x y e = ap (λ (b : Bool). cond b x y) e
 
-module _ (l : List ℤ) (g : Group) (group : g ≡ groupOfWords l) where
+module _ (l : List ℤ) where
+  abbrev g : Group
+  g = groupOfWords l
+
   pub judge-told : (v : Verdict) (r : Refusal) → v ≡ judged g → r ≡ verdictRefusal v → r ≡ judgeAnswer l
   unfolding judgeAnswer
-  judge-told v r a b = b ∙ ap verdictRefusal (a ∙ ap judged group)
+  judge-told v r a b = b ∙ ap verdictRefusal a
 
   pub lookup-told : (nodes : List ℤ) (lon lat day x y d : ℤ) (f : Lookup) (r : Refusal) (ns : List ℤ)
       → x ≡ lon → y ≡ lat → d ≡ day → f ≡ looked g nodes (pointOf x y) d → r ≡ lookupRefusal f → ns ≡ storedFound f
       → left (r .number) (r .place) ns ≡ lookupAnswer l nodes lon lat day
   unfolding lookupAnswer
   lookup-told nodes lon lat day x y d f r ns ex ey ed a b c =
-      (λ i. record { refusal = b i; lent = (c ∙ found-stored g nodes (pointOf x y) d f a) i }) ∙ ap foundAnswer (a ∙ (λ i. looked (group i) nodes (pointOf (ex i) (ey i)) (ed i)))
+      (λ i. record { refusal = b i; lent = (c ∙ found-stored g nodes (pointOf x y) d f a) i }) ∙ ap foundAnswer (a ∙ (λ i. looked g nodes (pointOf (ex i) (ey i)) (ed i)))
 
   pub in-force-told : (west east south north w e s n : ℤ) (f : InForce) (r : Refusal) (ns : List ℤ)
       → w ≡ west → e ≡ east → s ≡ south → n ≡ north → f ≡ inForceOf g (areaOf w e s n) → r ≡ verdictRefusal (f .verdict) → ns ≡ storedList f
       → left (r .number) (r .place) ns ≡ inForceAnswer l (areaOf west east south north)
   unfolding inForceAnswer
   in-force-told west east south north w e s n f r ns ew ee es en a b c =
-      (λ i. record { refusal = b i; lent = (c ∙ in-force-stored g (areaOf w e s n) f a) i }) ∙ ap listAnswer (a ∙ (λ i. inForceOf (group i) (areaOf (ew i) (ee i) (es i) (en i))))
+      (λ i. record { refusal = b i; lent = (c ∙ in-force-stored g (areaOf w e s n) f a) i }) ∙ ap listAnswer (a ∙ (λ i. inForceOf g (areaOf (ew i) (ee i) (es i) (en i))))
 
   pub write-told : (out after : List ℕ) (w : Written) (r : Refusal) (n : ℕ)
       → w ≡ written g (length out) → after ≡ bytesAfter g out → r ≡ writtenRefusal w → n ≡ writtenCount w
@@ -75,7 +78,6 @@ module _ (l : List ℤ) (g : Group) (group : g ≡ groupOfWords l) where
   write-told out after w r n a b c d =
       (λ i. record { refusal = c i; lent = lentText (d i) (b i) })
       ∙ (λ i. writtenAnswer (a i) (bytesAfter g out))
-      ∙ (λ i. writtenAnswer (written (group i) (length out)) (bytesAfter (group i) out))
 
 module _ (text : List ℕ) (lent : List ℤ) (r : Reading) (e : r ≡ readHeader text) where
   by-verdict : (v : Verdict) → r .verdict ≡ v

@@ -14,7 +14,7 @@ use Rattle.header.proofs.Demand2.{text-read}
 use Rattle.header.proofs.ShapeLaws.{read-shaped}
 use Rattle.abi.specs.Abi.{groupOfWords, numbersOf}
 use Rattle.abi.proofs.BackLaws.{group-back}
-use Rattle.abi.proofs.KeptLaws.{accepted-kept}
+use Rattle.judge.proofs.KeptLaws.{accepted-kept}
 use Rattle.capi.specs.Answers.{readAnswer, writtenAnswer, writeAnswer}
 use Rattle.capi.specs.Demand2.{WrittenBack, ReadBack}
 use Rattle.capi.proofs.Demand1.{reads}

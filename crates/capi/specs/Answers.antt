@@ -23,7 +23,7 @@ use Rattle.abi.specs.Abi.{groupOfWords, numbersOf, stored}
 
 -- the version of the interface: major · 1,000,000 + minor · 1,000 + patch
 abbrev pub version : ℕ
-version = 1000001
+version = 1000002
 
 -- the refusal and what stands in lent memory afterwards
 pub record Answer (A : Type 0) : Type 0 where

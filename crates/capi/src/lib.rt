@@ -33,7 +33,7 @@ use nodes::Loaded;
 use screen::ScreenAnswer;
 
 // The version of the interface: major * 1,000,000 + minor * 1,000 + patch.
-const VERSION: u64 = 1000001;
+const VERSION: u64 = 1000002;
 
 // The numbers of an entry of a list of grids in force, where the entries begin, and the numbers of the list.
 const ENTRY_WORDS: usize = 3;
@@ -75,7 +75,7 @@ fn verdict_refusal(v: Verdict) -> Refusal
 pub extern "C" fn bulhyemik_judge(group: &[i64; GROUP_WORDS], place: &mut u64) -> u64
     ensures { λ r. ⌜ refusal r (now (place .exit)) ≡ judgeAnswer (now (group .entry)) ⌝ }
 {
-    let refusal = verdict_refusal(judge::judge(abi::group_of_words(group)));
+    let refusal = verdict_refusal(judge::judge_words(group));
     *place = refusal.place;
     refusal.number
 }
@@ -135,7 +135,7 @@ pub extern "C" fn bulhyemik_write_header(
 ) -> u64
     ensures { λ r. ⌜ left r (now (place .exit)) (lentText (now (count .exit)) (now (out .exit))) ≡ writeAnswer (now (group .entry)) (now (out .entry)) ⌝ }
 {
-    let w = header::write_header(abi::group_of_words(group), out);
+    let w = header::write_words(group, out);
     let refusal = written_refusal(w);
     *count = written_count(w);
     *place = refusal.place;
@@ -189,7 +189,7 @@ pub extern "C" fn bulhyemik_lookup(
         lon: Longitude(lon),
         lat: Latitude(lat),
     };
-    let found = lookup::lookup(abi::group_of_words(group), nodes, point, day);
+    let found = lookup::look_words(group, nodes, point, day);
     let numbers = found_numbers(found);
     let refusal = lookup_refusal(found);
     *fix = numbers;
@@ -246,7 +246,7 @@ pub extern "C" fn bulhyemik_grids_in_force(
             north: Latitude(north),
         },
     };
-    let found = inforce::grids_in_force(abi::group_of_words(group), area);
+    let found = inforce::force_words(group, area);
     let verdict = found.verdict;
     let numbers = list_numbers(found);
     let refusal = verdict_refusal(verdict);
@@ -283,15 +283,15 @@ pub extern "C" fn bulhyemik_load_nodes(
 }
 
 // A lookup's answer of the number that it returned, the place that it left and the numbers that it filled.
-fn lookup_of(number: u64, at: u64, fix: &[i64]) -> Lookup
+fn lookup_of(number: u64, at: u64, fix: &[i64; 4]) -> Lookup
     ensures { λ r. ⌜ r ≡ lookupOf number at (now (fix .entry)) ⌝ }
 {
     if number == 0 {
         return Lookup::Fix(Fix {
-            grid: abi::count_at(fix, 0),
-            first: abi::number_at(fix, 1),
-            second: abi::number_at(fix, 2),
-            third: abi::number_at(fix, 3),
+            grid: numbers::count_of(fix[0]),
+            first: fix[1],
+            second: fix[2],
+            third: fix[3],
         });
     }
     Lookup::Refused(Refusal {

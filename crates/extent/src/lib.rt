@@ -1,8 +1,8 @@
 // Where a grid lies: its extent, its node range and refusal 4; and its sides as unsigned numbers, which loops walk.
 ghost use mathlib.Core.Path.{_≡_};
-ghost use Prim.Native.Nat.{_≤_};
-ghost use Rattle.group.specs.Numbers.{parametersMost};
-ghost use Rattle.extent.specs.Extent.{lonAxis, latAxis, farEdge, spanOf, lonSpan, latSpan, nodeEnd, inside};
+ghost use Prim.Native.Nat.{_+_, _*_, _≤_};
+ghost use Rattle.group.specs.Numbers.{parametersMost, nodesMost, startMost};
+ghost use Rattle.extent.specs.Extent.{lonAxis, latAxis, farEdge, spanOf, lonSpan, latSpan, inside};
 ghost use Rattle.extent.specs.Sizes.{Reach, Sized};
 ghost use Rattle.extent.specs.Sides.{lonFromLeast, latFromLeast, sidesOf};
 use group::Grid;
@@ -111,12 +111,12 @@ fn lat_span(g: Grid) -> LatSpan
     }
 }
 
-// The position in the node list behind a grid's last node, of np parameters.
-pub fn node_end(g: Grid, np: u64) -> u64
-    requires { ⌜ (np ≤ parametersMost) × Sized g ⌝ }
-    ensures { λ r. ⌜ r ≡ nodeEnd np g ⌝ }
+// The position in the node list behind the last of ni · nj nodes of np parameters, from START on.
+pub fn node_end(start: u64, ni: u64, nj: u64, np: u64) -> u64
+    requires { ⌜ (start ≤ startMost) × (ni ≤ nodesMost) × (nj ≤ nodesMost) × (np ≤ parametersMost) ⌝ }
+    ensures { λ r. ⌜ r ≡ start + ni * nj * np ⌝ }
 {
-    g.start + g.ni * g.nj * np
+    start + ni * nj * np
 }
 
 // Whether a grid's far edges are within the limits and its node range within the longest list.
@@ -126,7 +126,7 @@ pub fn grid_inside(g: Grid, np: u64) -> bool
 {
     let x = far_edge(lon_axis(g));
     let y = far_edge(lat_axis(g));
-    let end = node_end(g, np);
+    let end = node_end(g.start, g.ni, g.nj, np);
     ((group::LON_EDGE_LEAST <= x) & (x <= group::LON_EDGE_MOST))
         & ((group::LAT_EDGE_LEAST <= y) & (y <= group::LAT_EDGE_MOST))
         & (end <= group::LIST_MOST)

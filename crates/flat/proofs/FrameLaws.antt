@@ -1,12 +1,11 @@
--- Frames stored in a flat list: what is stored for a grid is read back, the frames of the grids before it stay, and so does all behind it.
+-- Frames stored in a flat list: what is stored for a grid is read back, and the frames of the grids before it stay.
 use Prim.Native.Nat.{ℕ, _+_, _*_, _<_}
 use mathlib.Core.Path.{_≡_, _∙_}
 use mathlib.Core.List.{List}
 use native.Mathlib.Omega.{arith}
 use lib.ListN.{length, set, length-set}
 use lib.Seq.{getD-set-same, getD-set-other}
-use Rattle.numbers.specs.Lists.{at, Kept}
-use Rattle.numbers.proofs.KeptLaws.{kept-more, kept-set}
+use Rattle.numbers.specs.Lists.{at}
 use Rattle.flat.specs.declared.Frame.{Frame}
 use Rattle.flat.specs.Frames.{frameAt, putFrame}
 
@@ -107,17 +106,3 @@ module _ (frames : List ℕ) (k : ℕ) (f : Frame) (room : k * 7 + 6 < length fr
         nj = put-other (j * 7 + 5) (λ n h e. omega arith) i;
         start = put-other (j * 7 + 6) (λ n h e. omega arith) i;
       }
-
-pub frame-kept : (first frames : List ℕ) (k : ℕ) (f : Frame) → Kept (k * 7) first frames → Kept ((k + 1) * 7) first (putFrame frames k f)
-frame-kept first frames k f h =
-    let m : Kept ((k + 1) * 7) first frames = kept-more h (omega arith) in
-    let a : Kept ((k + 1) * 7) first (set frames (k * 7) (f .lon)) = kept-set (k * 7) (f .lon) m (omega arith) in
-    kept-set (k * 7 + 6) (f .start)
-    (kept-set (k * 7 + 5) (f .nj)
-    (kept-set (k * 7 + 4) (f .ni)
-    (kept-set (k * 7 + 3) (f .dlat)
-    (kept-set (k * 7 + 2) (f .dlon) (kept-set (k * 7 + 1) (f .lat) a (omega arith)) (omega arith))
-    (omega arith))
-    (omega arith))
-    (omega arith))
-    (omega arith)

@@ -21,6 +21,10 @@ frameOf g =
       start = g .start;
     }
 
+-- the position in the node list behind its last node, of np parameters
+abbrev pub frameEnd : ℕ → Frame → ℕ
+frameEnd np f = f .start + f .ni * f .nj * np
+
 -- the frame of grid k in the list
 unfoldable pub frameAt : List ℕ → ℕ → Frame
 frameAt frames k =

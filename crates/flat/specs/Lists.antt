@@ -1,47 +1,36 @@
--- The flat lists of a group's first n grids and of its first n ramps: what stands in each, and what filling them relies on.
+-- The flat lists of a group's first n grids: what stands in each, what storing one grid leaves, and the room for them.
 use Prim.Native.Nat.{ℕ, _*_, _≤_, _<_}
 use mathlib.Core.Path.{_≡_}
 use mathlib.Core.List.{List}
-use lib.IntN.{ℤ}
-use lib.ListN.{length}
-use Rattle.numbers.specs.Lists.{at, Kept}
+use lib.ListN.{length, set}
+use Rattle.numbers.specs.Lists.{at}
+use Rattle.group.specs.declared.Grid.{Grid}
 use Rattle.group.specs.declared.Group.{Group}
-use Rattle.group.specs.Numbers.{parametersMost, gridsMost}
-use Rattle.group.specs.Record.{rampAt, gridAt}
-use Rattle.extent.specs.Extent.{nodeEnd}
-use Rattle.extent.specs.Sizes.{Sized}
+use Rattle.group.specs.Numbers.{gridsMost}
+use Rattle.group.specs.Record.{gridAt}
 use Rattle.extent.specs.Sides.{sidesOf}
-use Rattle.flat.specs.Rects.{rectAt}
-use Rattle.flat.specs.Frames.{frameOf, frameAt}
-use Rattle.flat.specs.Ramps.{rampIn}
-
--- counts within their limits, and sizes that keep each grid's far edges and its node range within 64 bits
-pub record Measured (g : Group) : Type 0 where
-  pub grids : g .grids ≤ gridsMost
-  pub parameters : g .parameters ≤ parametersMost
-  pub sized : (k : ℕ) → k < g .grids → Sized (gridAt g k)
+use Rattle.flat.specs.Rects.{rectAt, putRect}
+use Rattle.flat.specs.Frames.{frameOf, frameAt, putFrame}
 
 -- the sides and the ranks
 pub record Sided (g : Group) (n : ℕ) (sides ranks : List ℕ) : Type 0 where
   pub side : (k : ℕ) → k < n → rectAt sides k ≡ sidesOf (gridAt g k)
   pub rank : (k : ℕ) → k < n → at ranks k ≡ gridAt g k .rank
 
--- all of them filled in, with what stood behind
-abbrev pub SidesFilled : Group → (sides ranks sidesAfter ranksAfter : List ℕ) → Type 0
-SidesFilled g sides ranks sidesAfter ranksAfter =
-    Sided g (g .grids) sidesAfter ranksAfter × Kept (g .grids * 4) sides sidesAfter × Kept (g .grids) ranks ranksAfter
-
--- the ends of the node ranges
-abbrev pub Ended : Group → ℕ → List ℕ → Type 0
-Ended g n ends = (k : ℕ) → k < n → at ends k ≡ nodeEnd (g .parameters) (gridAt g k)
-
 -- the frames
 abbrev pub Framed : Group → ℕ → List ℕ → Type 0
 Framed g n frames = (k : ℕ) → k < n → frameAt frames k ≡ frameOf (gridAt g k)
 
--- the ramps
-abbrev pub Ramped : Group → ℕ → List ℤ → Type 0
-Ramped g n ramps = (k : ℕ) → k < n → rampIn ramps k ≡ rampAt g k
+-- all of them
+pub record Flat (g : Group) (n : ℕ) (sides ranks frames : List ℕ) : Type 0 where
+  pub sided : Sided g n sides ranks
+  pub framed : Framed g n frames
+
+-- the lists behind the storing of a grid as grid k
+pub record Flattened (g : Grid) (k : ℕ) (sides ranks frames sidesAfter ranksAfter framesAfter : List ℕ) : Type 0 where
+  pub sides-put : sidesAfter ≡ putRect sides k (sidesOf g)
+  pub rank-put : ranksAfter ≡ set ranks k (g .rank)
+  pub frame-put : framesAfter ≡ putFrame frames k (frameOf g)
 
 -- the owner, a grid counted from 0, of each of the first n rectangles: each grid owns one
 abbrev pub Owned : ℕ → List ℕ → Type 0
@@ -52,3 +41,8 @@ pub record Room (sides ranks : List ℕ) (n : ℕ) : Type 0 where
   pub few : n ≤ gridsMost
   pub sides-room : n * 4 ≤ length sides
   pub ranks-room : n ≤ length ranks
+
+-- room for all three lists of n grids
+pub record FlatRoom (sides ranks frames : List ℕ) (n : ℕ) : Type 0 where
+  pub room : Room sides ranks n
+  pub frames-room : n * 7 ≤ length frames

@@ -4,10 +4,10 @@ ghost use mathlib.Core.Bool.{not, _&&_, _||_};
 ghost use lib.Dec.{leb, ltb, eqb};
 ghost use lib.IntN.{pos};
 ghost use Rattle.numbers.specs.First.{every};
-ghost use Rattle.group.specs.Numbers.{nameMost, isZero};
+ghost use Rattle.group.specs.Numbers.{nameMost};
 ghost use Rattle.group.specs.Blank.{blankName, blankRamp, blankGrid, blankGroup};
-ghost use Rattle.group.specs.Limits.{nameByte, byteFits, nameFits, nameBlank, rampFits, rampBlank};
-ghost use Rattle.group.specs.Limits.{originFits, countsFit, headNumbersFit, gridFits, gridBlank};
+ghost use Rattle.group.specs.Limits.{nameByte, byteFits, nameFits, rampFits, rampBlank};
+ghost use Rattle.group.specs.Limits.{originFits, countsFit, headNumbersFit, gridFits};
 ghost use Rattle.group.specs.Refusals.{inTable};
 
 // Milliarcseconds (mas) in a degree.
@@ -207,20 +207,6 @@ pub fn name_fits(name: Name) -> bool
     (1 <= name.len) & (name.len <= NAME_MOST as u64) & bytes
 }
 
-// Whether a name is that of an unused entry.
-fn name_blank(name: Name) -> bool
-    ensures { λ r. ⌜ r ≡ nameBlank name ⌝ }
-{
-    let mut clear = true;
-    let mut i: usize = 0;
-    while i < NAME_MOST {
-        let b = name.bytes[i];
-        clear = clear & (b == 0);
-        i += 1;
-    }
-    (name.len == 0) & clear
-}
-
 // Whether the numbers of a group line are within their limits.
 pub fn head_numbers_fit(quantum: u64, parameters: u64, ramps: u64, grids: u64) -> bool
     ensures { λ r. ⌜ r ≡ headNumbersFit (pos quantum) (pos parameters) (pos ramps) (pos grids) ⌝ }
@@ -279,30 +265,6 @@ pub fn grid_fits(g: Grid) -> bool
     ensures { λ r. ⌜ r ≡ gridFits g ⌝ }
 {
     name_fits(g.name) & origin_fits(g) & counts_fit(g)
-}
-
-// Whether a grid's signed numbers are all 0.
-fn origin_blank(g: Grid) -> bool
-    ensures { λ r. ⌜ r ≡ (isZero (g .lon .0) && isZero (g .lat .0) && isZero (g .dlon) && isZero (g .dlat)) ⌝ }
-{
-    ((0 <= g.lon.0) & (g.lon.0 <= 0))
-        & ((0 <= g.lat.0) & (g.lat.0 <= 0))
-        & ((0 <= g.dlon) & (g.dlon <= 0))
-        & ((0 <= g.dlat) & (g.dlat <= 0))
-}
-
-// Whether a grid's other numbers are all 0.
-fn counts_blank(g: Grid) -> bool
-    ensures { λ r. ⌜ r ≡ (eqb (g .ni) 0 && eqb (g .nj) 0 && eqb (g .rank) 0 && eqb (g .start) 0) ⌝ }
-{
-    (g.ni == 0) & (g.nj == 0) & (g.rank == 0) & (g.start == 0)
-}
-
-// Whether a grid is an unused entry.
-pub fn grid_blank(g: Grid) -> bool
-    ensures { λ r. ⌜ r ≡ gridBlank g ⌝ }
-{
-    name_blank(g.name) & origin_blank(g) & counts_blank(g)
 }
 
 // The empty name.

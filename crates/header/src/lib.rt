@@ -3,6 +3,7 @@ ghost use mathlib.Core.Path.{_≡_};
 ghost use Prim.Native.Nat.{_+_, _≤_};
 ghost use lib.ListN.{length, take, drop, replicate};
 ghost use Rattle.group.specs.Numbers.{rampsMost, gridsMost};
+ghost use Rattle.abi.specs.Abi.{groupOfWords};
 ghost use Rattle.text.specs.Parts.{split};
 ghost use Rattle.text.specs.Wrote.{Wrote};
 ghost use Rattle.judge.specs.Judge.{judged};
@@ -13,6 +14,7 @@ ghost use Rattle.header.specs.Answers.{refusedRamps, refusedGrids, Ramps
 ghost use Rattle.header.specs.Whole.{refusedReading, linesReading, gridLines, afterRampsOf, readLines, headerText};
 ghost use Rattle.header.specs.Header.{readHeader, written, bytesAfter};
 ghost use Rattle.header.specs.Writing.{Wide};
+use abi::GROUP_WORDS;
 use group::Grid;
 use group::Group;
 use group::Ramp;
@@ -300,13 +302,12 @@ fn put_group(group: Group, out: &mut [u8]) -> usize
     put_grids(grid, group.grids, out, q)
 }
 
-// Writes a group as header text and answers the count of bytes, at most 6604; what stands behind them stays. A group that isn't
-// accepted is refused by 2 to 5, then an output that is too short by 12; nothing is written then.
-pub fn write_header(group: Group, out: &mut [u8]) -> Written
+// Writes a group of this verdict, as `write_header` says.
+fn write_judged(verdict: Verdict, group: Group, out: &mut [u8]) -> Written
+    requires { ⌜ verdict ≡ judged group ⌝ }
     ensures answer { λ r. ⌜ r ≡ written group (length (now (out .entry))) ⌝ }
     ensures bytes { λ r. ⌜ now (out .exit) ≡ bytesAfter group (now (out .entry)) ⌝ }
 {
-    let verdict = judge::judge(group);
     if let Verdict::Refused(refusal) = verdict {
         return Written::Refused(refusal);
     }
@@ -320,4 +321,21 @@ pub fn write_header(group: Group, out: &mut [u8]) -> Written
     }
     line::put_front(&bytes, n, out, 0);
     Written::Count(n)
+}
+
+// Writes a group handed over as a list of numbers, as `write_header` says.
+pub fn write_words(words: &[i64; GROUP_WORDS], out: &mut [u8]) -> Written
+    ensures answer { λ r. ⌜ r ≡ written (groupOfWords (now (words .entry))) (length (now (out .entry))) ⌝ }
+    ensures bytes { λ r. ⌜ now (out .exit) ≡ bytesAfter (groupOfWords (now (words .entry))) (now (out .entry)) ⌝ }
+{
+    write_judged(judge::judge_words(words), abi::group_of_words(words), out)
+}
+
+// Writes a group as header text and answers the count of bytes, at most 6604; what stands behind them stays. A group that isn't
+// accepted is refused by 2 to 5, then an output that is too short by 12; nothing is written then.
+pub fn write_header(group: Group, out: &mut [u8]) -> Written
+    ensures answer { λ r. ⌜ r ≡ written group (length (now (out .entry))) ⌝ }
+    ensures bytes { λ r. ⌜ now (out .exit) ≡ bytesAfter group (now (out .entry)) ⌝ }
+{
+    write_judged(judge::judge(group), group, out)
 }

@@ -1,5 +1,5 @@
 -- An accepted group's flat lists are sound, and the list over them is that of the grids chosen in the group.
-use Prim.Native.Nat.{ℕ, _*_, _≤_}
+use Prim.Native.Nat.{ℕ, _≤_}
 use mathlib.Core.Path.{_≡_, sym, _∙_, ap, ap₂}
 use mathlib.Core.Bool.{true}
 use mathlib.Core.List.{List}
@@ -11,7 +11,7 @@ use Rattle.group.specs.declared.Verdict.the-variants.{Accepted}
 use Rattle.group.specs.Numbers.{gridsMost, rankMost, lonZero, latZero}
 use Rattle.group.specs.Record.{gridAt}
 use Rattle.judge.specs.Judge.{judged}
-use Rattle.flat.specs.Lists.{Sided}
+use Rattle.flat.specs.Lists.{Sided, Room}
 use Rattle.judge.proofs.Accepted.{accepted-head}
 use Rattle.numbers.specs.Lists.{at}
 use Rattle.numbers.proofs.Lists.{at-mem, mem-at, pairs-at}
@@ -51,9 +51,9 @@ module _ (g : Group) (e : judged g ≡ Accepted) where
       }
 
   module _ (sides ranks : List ℕ) (s : Sided g (g .grids) sides ranks) where
-    pub group-flat : gridsMost * 4 ≤ length sides → gridsMost ≤ length ranks → FlatSound sides ranks (g .grids)
-    group-flat h k =
-        let n = accepted-head g e .grids in
+    pub group-flat : Room sides ranks gridsMost → FlatSound sides ranks (g .grids)
+    group-flat r =
+        let n = accepted-head g e .grids in let h = r .sides-room in let k = r .ranks-room in
         record {
           room = record { few = n; sides-room = omega arith; ranks-room = omega arith };
           apart = flat-apart g e sides ranks s;

@@ -1,15 +1,16 @@
 // Grids in force: which grids of a group are chosen at one or more coordinates of an area, and where first.
 ghost use mathlib.Core.Path.{_≡_};
 ghost use mathlib.Core.Bool.{true};
-ghost use Prim.Native.Nat.{_<_, _≤_, _*_, _^_};
-ghost use lib.ListN.{length};
+ghost use Prim.Native.Nat.{_<_, _^_};
 ghost use Rattle.group.specs.Numbers.{gridsMost};
-ghost use Rattle.flat.specs.Lists.{Sided};
+ghost use Rattle.abi.specs.Abi.{groupOfWords};
+ghost use Rattle.flat.specs.Lists.{Sided, Room};
 ghost use Rattle.judge.specs.Judge.{judged};
 ghost use Rattle.inforce.specs.Area.{lonFits, latFits, areaFits, areaFromLeast};
 ghost use Rattle.inforce.specs.Flat.{FlatSound, flatListing};
 ghost use Rattle.inforce.specs.InForce.{inForceIn, shownEntry, blankEntry, acceptedList, refusedBy, inForceOf};
 ghost use Rattle.inforce.specs.Handed.{shownList, Narrow};
+use abi::GROUP_WORDS;
 use coverage::Entry;
 use coverage::Listing;
 use extent::LatSpan;
@@ -160,30 +161,30 @@ fn refused_by(r: Refusal) -> InForce
     }
 }
 
-// The list of an accepted group, whose grids' sides and ranks stand in the lists, and an admitted area.
-fn list_in(group: Group, sides: &[u64], ranks: &[u64], area: Area) -> InForce
-    requires { ⌜ (judged group ≡ Verdict.Accepted) × (areaFits area ≡ true) × Sided group (group .grids) (now sides) (now ranks)
-        × (gridsMost * 4 ≤ length (now sides)) × (gridsMost ≤ length (now ranks)) ⌝ }
-    ensures { λ r. ⌜ r ≡ acceptedList (inForceIn group area) ⌝ }
+// The list of an accepted group, whose grids' sides and ranks are these, and an admitted area.
+fn list_in(words: &[i64; GROUP_WORDS], sides: &[u64], ranks: &[u64], area: Area) -> InForce
+    requires { ⌜ (judged (groupOfWords (now words)) ≡ Verdict.Accepted) × (areaFits area ≡ true)
+        × Sided (groupOfWords (now words)) (groupOfWords (now words) .grids) (now sides) (now ranks) × Room (now sides) (now ranks) gridsMost ⌝ }
+    ensures { λ r. ⌜ r ≡ acceptedList (inForceIn (groupOfWords (now (words .entry))) area) ⌝ }
 {
-    let n = group.grids as usize;
+    let n = abi::grid_count(words) as usize;
     let l = list_flat(sides, ranks, n, area_from_least(area));
     shown_list(l)
 }
 
-// The grids in force in an area: each grid chosen at one or more of its coordinates, best rank first, with the southmost, then westmost
-// such coordinate. Refusals 2 to 5 of the group, then 10: a side outside the limits, west above east or south above north.
-pub fn grids_in_force(group: Group, area: Area) -> InForce
-    ensures { λ r. ⌜ r ≡ inForceOf group area ⌝ }
+// The grids in force of a group handed over as a list of numbers, as `grids_in_force` says.
+pub fn force_words(words: &[i64; GROUP_WORDS], area: Area) -> InForce
+    ensures { λ r. ⌜ r ≡ inForceOf (groupOfWords (now (words .entry))) area ⌝ }
 {
     let mut sides = [0u64; flat::SIDES];
     let mut ranks = [0u64; GRIDS_MOST];
-    let verdict = judge::judge_into(group, &mut sides, &mut ranks);
+    let mut frames = [0u64; flat::FRAMES];
+    let verdict = judge::judge_into(words, &mut sides, &mut ranks, &mut frames);
     match verdict {
         Verdict::Refused(r) => refused_by(r),
         Verdict::Accepted => {
             if area_fits(area) {
-                list_in(group, &sides, &ranks, area)
+                list_in(words, &sides, &ranks, area)
             } else {
                 refused_by(Refusal {
                     number: 10,
@@ -192,4 +193,13 @@ pub fn grids_in_force(group: Group, area: Area) -> InForce
             }
         }
     }
+}
+
+// The grids in force in an area: each grid chosen at one or more of its coordinates, best rank first, with the southmost, then westmost
+// such coordinate. Refusals 2 to 5 of the group, then 10: a side outside the limits, west above east or south above north.
+pub fn grids_in_force(group: Group, area: Area) -> InForce
+    ensures { λ r. ⌜ r ≡ inForceOf group area ⌝ }
+{
+    let words = abi::numbers_of(group);
+    force_words(&words, area)
 }

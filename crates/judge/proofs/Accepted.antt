@@ -17,9 +17,8 @@ use Rattle.extent.specs.Extent.{inside}
 use Rattle.extent.specs.Sizes.{Sized}
 use Rattle.extent.specs.Sides.{Edges}
 use Rattle.judge.specs.Judge.{unusedRamp, unusedGrid, badRamp, badGrid, sameName, namedEarlier, outside, sameRank, rankedEarlier, judgedLines, judgedLimits, judgedGrids, judgedRanks, judged, Sound}
-use Rattle.flat.specs.Lists.{Measured}
 use Rattle.judge.specs.Rules.{HeadLimits}
-use Rattle.judge.proofs.LimitLaws.{head-sized, grid-sized, grid-edges, measured}
+use Rattle.judge.proofs.LimitLaws.{head-sized, grid-sized, grid-edges}
 
 -- a test that no entry passes
 some-none : (p : ℕ → Bool) (n : ℕ) → ((k : ℕ) → k < n → p k ≡ false) → some p n ≡ false
@@ -75,10 +74,6 @@ module _ (g : Group) (e : judged g ≡ Accepted) where
   -- what is accepted, in sizes
   pub accepted-head : HeadLimits g
   accepted-head = head-sized g (accepted g e .head)
-
-  -- what filling the flat lists relies on
-  pub accepted-measured : Measured g
-  accepted-measured = measured g accepted-head (record { fits = accepted g e .grid })
 
   pub accepted-sized : (k : ℕ) → k < g .grids → Sized (gridAt g k)
   accepted-sized k l = grid-sized (gridAt g k) (accepted g e .grid k l)

@@ -1,19 +1,24 @@
 -- What the judge's loops rely on and show; and the flat comparison of grids as the comparison that document 01 asks for.
 use Prim.Native.Nat.{ℕ, _<_, _≤_}
 use mathlib.Core.Path.{_≡_, sym, _∙_, ap}
-use mathlib.Core.Bool.{Bool, false, not, _&&_}
+use mathlib.Core.Bool.{false, not, _&&_}
 use mathlib.Core.List.{List}
 use native.Mathlib.Omega.{arith}
-use borrow.Author.Tests.{le-leb, lt-leb, not-false}
-use lib.Dec.{ltb}
+use borrow.Author.Tests.{lt-leb, not-false}
+use lib.Dec.{leb}
+use lib.IntN.{ℤ}
 use Rattle.numbers.specs.First.{first, some}
-use Rattle.numbers.proofs.FirstLaws.{none-at, first-same}
+use Rattle.numbers.proofs.FirstLaws.{none-at, first-same, some-same}
+use Rattle.group.specs.declared.Ramp.{Ramp}
 use Rattle.group.specs.declared.Group.{Group}
 use Rattle.group.specs.Record.{gridAt}
-use Rattle.group.specs.Limits.{gridFits, gridBlank}
+use Rattle.group.specs.Numbers.{rampsMost, gridsMost}
+use Rattle.group.specs.Limits.{rampFits, rampBlank, gridBlank}
+use Rattle.abi.specs.Abi.{rampOfWords, gridOfWords, groupOfWords}
+use Rattle.abi.proofs.EntryLaws.{ramp-of-words, grid-of-words}
 use Rattle.extent.specs.Extent.{inside}
-use Rattle.judge.specs.Judge.{unusedGrid, badGrid, outside, sameName, sameRank}
-use Rattle.judge.specs.Rules.{rampBreaks, GridLimits}
+use Rattle.judge.specs.Judge.{unusedRamp, unusedGrid, badRamp, outside, sameName, sameRank}
+use Rattle.judge.specs.Rules.{rampTest, GridLimits}
 use Rattle.judge.specs.Keys.{keysOf, KeysListed, clash, sharesEarlier, Comparable}
 use Rattle.judge.specs.declared.RampRule.the-variants as R
 use Rattle.judge.specs.declared.Shared.{Shared}
@@ -21,22 +26,29 @@ use Rattle.judge.specs.declared.Shared.the-variants as S
 use Rattle.judge.proofs.LimitLaws.{name-good, name-bytes, grid-edges}
 use Rattle.judge.proofs.KeyLaws.{clash-name, clash-rank}
 
--- an entry before the count is no unused one
-pub ramp-kept : (g : Group) (k : ℕ) → k < g .ramps → rampBreaks R.Unused g k ≡ false
-ramp-kept g k l = rw (lt-leb (g .ramps) k l)
+-- the entries of a group that a list of numbers stands for: what the loops over that list found is what is judged
+module _ (ns : List ℤ) where
+  -- an entry before the count is no unused one
+  pub ramp-used : (m k : ℕ) → k < m → rampTest R.Unused (leb m k) (rampOfWords ns k) ≡ false
+  ramp-used m k l = rw (lt-leb m k l)
 
-pub grid-kept : (g : Group) (k : ℕ) → k < g .grids → unusedGrid g k ≡ false
-grid-kept g k l = rw (lt-leb (g .grids) k l)
+  pub unused-ramps : {m i : ℕ} → m ≡ groupOfWords ns .ramps → i ≡ first (λ k. rampTest R.Unused (leb m k) (rampOfWords ns k)) rampsMost
+      → i ≡ first (unusedRamp (groupOfWords ns)) rampsMost
+  unused-ramps {m} e f =
+      f ∙ first-same _ _ rampsMost (λ k l. let r = sym (ramp-of-words ns k l) in λ j. leb (e j) k && not (rampBlank (r j)))
 
--- one behind it is, where it is not all zero
-pub unused-test : (g : Group) (k : ℕ) (t v : Bool) → g .grids ≤ k → t ≡ gridBlank (gridAt g k) → not t ≡ v → unusedGrid g k ≡ v
-unused-test g k t v h e w = ap (λ (b : Bool). b && not (gridBlank (gridAt g k))) (le-leb (g .grids) k h) ∙ ap not (sym e) ∙ w
+  pub bad-ramps : {m i : ℕ} → m ≡ groupOfWords ns .ramps → m ≤ rampsMost → i ≡ first (λ k. rampTest R.Limits (leb m k) (rampOfWords ns k)) m
+      → i ≡ first (badRamp (groupOfWords ns)) (groupOfWords ns .ramps)
+  bad-ramps {m} e h f =
+      f ∙ first-same _ (badRamp (groupOfWords ns)) m (λ k l. ap (λ (r : Ramp). not (rampFits r)) (sym (ramp-of-words ns k (omega arith))))
+      ∙ ap (first (badRamp (groupOfWords ns))) e
 
--- what the loops that found nothing say of each grid
-pub grids-fit : (g : Group) (i : ℕ) → i ≡ first (badGrid g) (g .grids) → g .grids ≤ i → GridLimits g
-grids-fit g i e h =
-    record { fits = λ k l. not-false (gridFits (gridAt g k)) (none-at (badGrid g) (g .grids) k (omega arith) l) }
+  pub unused-grids : {n i : ℕ} → n ≡ groupOfWords ns .grids → i ≡ first (λ k. leb n k && not (gridBlank (gridOfWords ns k))) gridsMost
+      → i ≡ first (unusedGrid (groupOfWords ns)) gridsMost
+  unused-grids {n} e f =
+      f ∙ first-same _ _ gridsMost (λ k l. let d = sym (grid-of-words ns k l) in λ j. leb (e j) k && not (gridBlank (d j)))
 
+-- where no grid is outside the limits, the sides are true distances
 pub comparable : (g : Group) → GridLimits g → (i : ℕ) → i ≡ first (outside g) (g .grids) → g .grids ≤ i → Comparable S.Rank g
 comparable g f i e h k l =
     grid-edges (gridAt g k) (f .fits k l) (g .parameters)
@@ -44,9 +56,6 @@ comparable g f i e h k l =
 
 -- comparing keys is comparing grids
 module _ (g : Group) (f : GridLimits g) (fours keys : List ℕ) where
-  some-same : (p q : ℕ → Bool) (k : ℕ) → ((j : ℕ) → j < k → p j ≡ q j) → some p k ≡ some q k
-  some-same p q k h = ap (λ (m : ℕ). ltb m k) (first-same p q k h)
-
   same-sharing : (s : Shared) → Comparable s g → KeysListed (λ k. keysOf s (gridAt g k)) (g .grids) fours keys
       → first (λ k. some (clash s fours keys k) k) (g .grids) ≡ first (sharesEarlier s g) (g .grids)
   same-sharing S.Name u m =

@@ -1,6 +1,10 @@
 -- The laws of the judge.
 pub mod LimitLaws
 pub mod KeyLaws
+pub mod ScanLaws
 pub mod JudgeLaws
+pub mod GridStages
 pub mod Accepted
 pub mod TableLaws
+pub mod KeptLaws
+pub mod StoredLaws

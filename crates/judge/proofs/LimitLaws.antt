@@ -17,15 +17,13 @@ use Rattle.group.specs.declared.Name.{Name}
 use Rattle.group.specs.declared.Grid.{Grid}
 use Rattle.group.specs.declared.Group.{Group}
 use Rattle.group.specs.Numbers.{lonEdgeMost, latEdgeMost, lonEdgeFits, latEdgeFits, nameMost, quantumMost, parametersMost, rampsMost, gridsMost, nodesLeast, nodesMost, rankMost, startMost}
-use Rattle.group.specs.Record.{gridAt}
 use Rattle.group.specs.Limits.{nameByte, byteFits, nameFits, spacingFits, originFits, countsFit, gridFits, headNumbersFit, headFits}
 use Rattle.group.proofs.LimitLaws.{spacing-size}
 use Rattle.extent.specs.Extent.{inside}
 use Rattle.extent.specs.Sizes.{Sized}
 use Rattle.extent.specs.Sides.{Edges}
 use Rattle.extent.proofs.SideLaws.{edges-within}
-use Rattle.flat.specs.Lists.{Measured}
-use Rattle.judge.specs.Rules.{HeadLimits, GridLimits}
+use Rattle.judge.specs.Rules.{HeadLimits}
 
 -- three and four tests in a row
 module _ (a b c : Bool) (e : (a && b && c) ≡ true) where
@@ -191,7 +189,3 @@ module _ (g : Group) (e : headFits g ≡ true) where
 
   pub head-sized : HeadLimits g
   head-sized = record { ramps = ramps-most; grids = grids-between .1; parameters = parameters-between .1 }
-
--- what filling the flat lists relies on
-pub measured : (g : Group) → HeadLimits g → GridLimits g → Measured g
-measured g h f = record { grids = h .grids; parameters = h .parameters; sized = λ k l. grid-sized (gridAt g k) (f .fits k l) }

@@ -1,4 +1,4 @@
 -- What the contracts of `judge` cite.
 pub mod Judge
-pub mod Rules
 pub mod Keys
+pub mod Rules

@@ -1,27 +1,33 @@
--- The tests of ramp entries that one loop serves, by their rule; what the loops over grids may rely on, and what they leave.
-use Prim.Native.Nat.{ℕ, _<_, _≤_}
+-- The tests of ramp entries that one loop serves, by their rule; what the pass over the grids may rely on, and what it finds and leaves.
+use Prim.Native.Nat.{ℕ, _*_, _<_, _≤_}
 use mathlib.Core.Path.{_≡_}
 use mathlib.Core.Bool.{Bool, true, not, _&&_}
 use mathlib.Core.List.{List}
-use lib.Dec.{leb}
+use lib.ListN.{length}
+use Rattle.numbers.specs.First.{first}
 use Rattle.group.specs.declared.Ramp.{Ramp}
 use Rattle.group.specs.declared.Group.{Group}
 use Rattle.group.specs.declared.Verdict.{Verdict}
-use Rattle.group.specs.declared.Verdict.the-variants.{Accepted}
-use Rattle.group.specs.Record.{rampAt, gridAt}
+use Rattle.group.specs.declared.Verdict.the-variants.{Accepted, Refused}
+use Rattle.group.specs.Record.{gridAt}
+use Rattle.group.specs.Refusals.{refuseFirst}
 use Rattle.group.specs.Numbers.{parametersMost, rampsMost, gridsMost}
 use Rattle.group.specs.Limits.{rampFits, rampBlank, gridFits}
-use Rattle.flat.specs.Lists.{Sided}
+use Rattle.extent.specs.Extent.{inside}
+use Rattle.flat.specs.Lists.{Flat}
 use Rattle.judge.specs.declared.RampRule.{RampRule}
 use Rattle.judge.specs.declared.RampRule.the-variants as R
+use Rattle.judge.specs.Judge.{badGrid, judgedGrids, judgedRanks}
+use Rattle.judge.specs.Keys.{nameKeys, KeysListed}
 
 -- one ramp, behind the count or not
 abbrev pub rampTest : RampRule → Bool → Ramp → Bool
 rampTest R.Unused behind r = behind && not (rampBlank r)
 rampTest R.Limits behind r = not (rampFits r)
 
-abbrev pub rampBreaks : RampRule → Group → ℕ → Bool
-rampBreaks rule g k = rampTest rule (leb (g .ramps) k) (rampAt g k)
+-- 2 of the grid lines, of which the first is line `from`, then 3 to 5
+unfoldable pub judgedFrom : ℕ → Group → Verdict
+judgedFrom from g = refuseFirst Refused (badGrid g) (g .grids) 2 from (judgedGrids g (judgedRanks g Accepted))
 
 -- what a group line within its limits says of the loops behind it
 pub record HeadLimits (g : Group) : Type 0 where
@@ -33,6 +39,18 @@ pub record HeadLimits (g : Group) : Type 0 where
 pub record GridLimits (g : Group) : Type 0 where
   pub fits : (k : ℕ) → k < g .grids → gridFits (gridAt g k) ≡ true
 
--- what the judge leaves in the lent lists: the sides and ranks of an accepted group's grids
-abbrev pub Left : Verdict → Group → (sides ranks : List ℕ) → Type 0
-Left v g sides ranks = v ≡ Accepted → Sided g (g .grids) sides ranks
+-- room for the keys of n grids
+pub record KeyRoom (fours keys : List ℕ) (n : ℕ) : Type 0 where
+  pub fours-room : n * 4 ≤ length fours
+  pub keys-room : n ≤ length keys
+
+-- what one pass over n grids, each within its limits, finds and leaves
+pub record Scanned (g : Group) (np n edge : ℕ) (fours keys sides ranks frames : List ℕ) : Type 0 where
+  pub fits : (k : ℕ) → k < n → gridFits (gridAt g k) ≡ true
+  pub first-outside : edge ≡ first (λ k. not (inside np (gridAt g k))) n
+  pub names : KeysListed (λ k. nameKeys (gridAt g k .name)) n fours keys
+  pub flat : Flat g n sides ranks frames
+
+-- what the judge leaves in the lent lists: those of an accepted group's grids
+abbrev pub Left : Verdict → Group → (sides ranks frames : List ℕ) → Type 0
+Left v g sides ranks frames = v ≡ Accepted → Flat g (g .grids) sides ranks frames

@@ -1,27 +1,25 @@
-// The judge of a group handed over as a record: refusals 2 to 5.
+// The judge of a group handed over as a record or as a list of numbers: refusals 2 to 5.
 ghost use mathlib.Core.Path.{_≡_};
-ghost use mathlib.Core.Bool.{false, _&&_};
+ghost use mathlib.Core.Bool.{true, false, cond, not, _&&_};
 ghost use Prim.Native.Nat.{ℕ, _+_, _*_, _<_, _≤_};
-ghost use lib.Dec.{leb};
-ghost use lib.IntN.{pos};
-ghost use lib.ListN.{length, set, getD};
+ghost use lib.Dec.{leb, eqb};
+ghost use lib.ListN.{length, set};
 ghost use Rattle.numbers.specs.First.{first, some};
-ghost use Rattle.group.specs.declared.Verdict.the-variants.{Accepted};
-ghost use Rattle.group.specs.Blank.{blankRamp};
-ghost use Rattle.group.specs.Record.{gridAt};
-ghost use Rattle.group.specs.Numbers.{rampsMost, gridsMost};
-ghost use Rattle.group.specs.Limits.{nameFits, headNumbersFit};
-ghost use Rattle.flat.specs.Lists.{Sided};
-ghost use Rattle.judge.specs.Judge.{unusedGrid, badGrid, namedEarlier, outside, rankedEarlier, judgedLines, judgedGrids, judgedRanks, judged};
-ghost use Rattle.judge.specs.Rules.{rampTest, HeadLimits, GridLimits, Left};
-ghost use Rattle.judge.specs.Keys.{wordAt, nameKeys, putFour, KeysListed, agree, clash, Comparable};
+ghost use Rattle.group.specs.Numbers.{parametersMost, rampsMost, gridsMost};
+ghost use Rattle.group.specs.Limits.{gridFits, gridBlank, headFits};
+ghost use Rattle.abi.specs.Abi.{rampOfWords, gridOfWords, groupOfWords};
+ghost use Rattle.extent.specs.Extent.{inside};
+ghost use Rattle.flat.specs.Lists.{FlatRoom, Flattened};
+ghost use Rattle.judge.specs.Judge.{badGrid, judged};
+ghost use Rattle.judge.specs.Rules.{rampTest, HeadLimits, judgedFrom, KeyRoom, Scanned, Left};
+ghost use Rattle.judge.specs.Keys.{wordAt, nameKeys, putFour, agree, clash};
+use abi::GROUP_WORDS;
 use group::Grid;
 use group::Group;
 use group::Name;
 use group::Ramp;
 use group::Refusal;
 use group::Verdict;
-use group::grid_blank;
 use group::grid_fits;
 use group::head_numbers_fit;
 use group::name_fits;
@@ -57,6 +55,13 @@ struct Keys {
     d: u64,
 }
 
+// What one pass over the grids finds: the first whose line is outside its limits, and the first whose far edge or node range is; each is
+// the count of grids if there is none.
+struct Scan {
+    bad: u64,
+    edge: u64,
+}
+
 // Whether a ramp breaks a rule.
 fn ramp_breaks(rule: RampRule, r: Ramp, behind: bool) -> bool
     ensures { λ t. ⌜ t ≡ rampTest rule behind r ⌝ }
@@ -71,14 +76,14 @@ fn ramp_breaks(rule: RampRule, r: Ramp, behind: bool) -> bool
 }
 
 // The first of n ramp entries that breaks a rule, n if none does; those before one are known to keep it.
-fn first_ramp(rule: RampRule, ramps: [Ramp; group::RAMPS_MOST], used: u64, from: u64, n: u64) -> u64
-    requires { ⌜ (from ≤ n) × (n ≤ rampsMost) × ((k : ℕ) → k < from → rampTest rule (leb used k) (getD ramps k blankRamp) ≡ false) ⌝ }
-    ensures { λ r. ⌜ r ≡ first (λ k. rampTest rule (leb used k) (getD ramps k blankRamp)) n ⌝ }
+fn first_ramp(rule: RampRule, words: &[i64; GROUP_WORDS], used: u64, from: u64, n: u64) -> u64
+    requires { ⌜ (from ≤ n) × (n ≤ rampsMost) × ((k : ℕ) → k < from → rampTest rule (leb used k) (rampOfWords (now words) k) ≡ false) ⌝ }
+    ensures { λ r. ⌜ r ≡ first (λ k. rampTest rule (leb used k) (rampOfWords (now (words .entry)) k)) n ⌝ }
 {
     let mut i: u64 = from;
     while i < n {
         let at = i as usize;
-        let r = ramps[at];
+        let r = abi::ramp_of_words(words, at);
         if ramp_breaks(rule, r, used <= i) {
             return i;
         }
@@ -87,64 +92,20 @@ fn first_ramp(rule: RampRule, ramps: [Ramp; group::RAMPS_MOST], used: u64, from:
     i
 }
 
-// The first grid entry behind the count that is not all zero, the count of entries if none is.
-fn first_unused(group: Group) -> u64
-    requires { ⌜ HeadLimits group ⌝ }
-    ensures { λ r. ⌜ r ≡ first (unusedGrid group) gridsMost ⌝ }
+// The first grid entry from one on that is not all zero, the count of entries if none is.
+fn first_unused(words: &[i64; GROUP_WORDS], from: u64) -> u64
+    requires { ⌜ from ≤ gridsMost ⌝ }
+    ensures { λ r. ⌜ r ≡ first (λ k. leb from k && not (gridBlank (gridOfWords (now (words .entry)) k))) gridsMost ⌝ }
 {
-    let mut i: u64 = group.grids;
+    let mut i: u64 = from;
     while i < GRIDS {
         let at = i as usize;
-        let g = group.grid[at];
-        if !grid_blank(g) {
+        if !abi::grid_clear(words, at) {
             return i;
         }
         i += 1;
     }
     i
-}
-
-// The first grid whose line is outside its limits, the count of grids if none is.
-fn first_bad(group: Group) -> u64
-    requires { ⌜ HeadLimits group ⌝ }
-    ensures { λ r. ⌜ r ≡ first (badGrid group) (group .grids) ⌝ }
-{
-    let n = group.grids;
-    let mut i: u64 = 0;
-    while i < n {
-        let at = i as usize;
-        let g = group.grid[at];
-        if !grid_fits(g) {
-            return i;
-        }
-        i += 1;
-    }
-    i
-}
-
-// The first grid with a far edge outside the limits or a node range that ends too late, the count of grids if none is.
-fn first_outside(group: Group) -> u64
-    requires { ⌜ HeadLimits group × GridLimits group ⌝ }
-    ensures { λ r. ⌜ r ≡ first (outside group) (group .grids) ⌝ }
-{
-    let n = group.grids;
-    let np = group.parameters;
-    let mut i: u64 = 0;
-    while i < n {
-        let at = i as usize;
-        let g = group.grid[at];
-        if !extent::grid_inside(g, np) {
-            return i;
-        }
-        i += 1;
-    }
-    i
-}
-
-fn wide(b: u8) -> u64
-    ensures { λ r. ⌜ (r ≡ b) × (r < 256) ⌝ }
-{
-    b as u64
 }
 
 // The eight bytes of a name from one on, as one number.
@@ -156,7 +117,7 @@ fn word(name: Name, from: usize) -> u64
     let mut i: usize = 0;
     while i < 8 {
         let b = name.bytes[from + i];
-        w = w * 256 + wide(b);
+        w = w * 256 + numbers::wide(b);
         i += 1;
     }
     w
@@ -188,20 +149,70 @@ fn put_keys(fours: &mut [u64], keys: &mut [u64], i: usize, m: Keys)
     keys[i] = m.key;
 }
 
-// Stores the keys of the names of a group's grids, the first in a list of its own.
-fn fill_names(group: Group, fours: &mut [u64], keys: &mut [u64])
-    requires { ⌜ (group .grids ≤ gridsMost) × (gridsMost * 4 ≤ length (now fours)) × (gridsMost ≤ length (now keys)) ⌝ }
-    ensures { λ _. ⌜ KeysListed (λ k. nameKeys (gridAt group k .name)) (group .grids) (now (fours .exit)) (now (keys .exit)) ⌝ }
+// Stores what the lists have of a grid whose line is within its limits, as that of grid k, and answers whether its far edges and its node
+// range are within theirs.
+fn list_grid(
+    g: Grid,
+    np: u64,
+    k: usize,
+    fours: &mut [u64],
+    keys: &mut [u64],
+    sides: &mut [u64],
+    ranks: &mut [u64],
+    frames: &mut [u64],
+) -> bool
+    requires { ⌜ (gridFits g ≡ true) × (np ≤ parametersMost) × KeyRoom (now fours) (now keys) (k + 1)
+        × FlatRoom (now sides) (now ranks) (now frames) (k + 1) ⌝ }
+    ensures { λ r. ⌜ (r ≡ inside np g) × (now (fours .exit) ≡ putFour (now (fours .entry)) k (nameKeys (g .name)))
+        × (now (keys .exit) ≡ set (now (keys .entry)) k (g .name .len))
+        × Flattened g k (now (sides .entry)) (now (ranks .entry)) (now (frames .entry)) (now (sides .exit)) (now (ranks .exit)) (now (frames .exit)) ⌝ }
 {
-    let n = group.grids;
+    let m = name_keys(g.name);
+    put_keys(fours, keys, k, m);
+    flat::flatten(g, k, sides, ranks, frames);
+    extent::grid_inside(g, np)
+}
+
+// The first of i + 1 grids that is not within the limits of 4, if of i it was `edge`, and whether the last is.
+fn edge_after(edge: u64, i: u64, inside: bool) -> u64
+    requires { ⌜ i < gridsMost ⌝ }
+    ensures { λ r. ⌜ r ≡ cond (eqb edge i && inside) (i + 1) edge ⌝ }
+{
+    if (edge == i) & inside {
+        return i + 1;
+    }
+    edge
+}
+
+// One pass over n grids, to the first whose line is outside its limits: judges 2 and 4 and fills the lists.
+fn scan_grids(
+    words: &[i64; GROUP_WORDS],
+    n: u64,
+    np: u64,
+    fours: &mut [u64],
+    keys: &mut [u64],
+    sides: &mut [u64],
+    ranks: &mut [u64],
+    frames: &mut [u64],
+) -> Scan
+    requires { ⌜ (np ≤ parametersMost) × KeyRoom (now fours) (now keys) n × FlatRoom (now sides) (now ranks) (now frames) n ⌝ }
+    ensures { λ r. ⌜ (r .bad ≡ first (badGrid (groupOfWords (now (words .entry)))) n)
+        × (n ≤ r .bad → Scanned (groupOfWords (now (words .entry))) np n (r .edge)
+        (now (fours .exit)) (now (keys .exit)) (now (sides .exit)) (now (ranks .exit)) (now (frames .exit))) ⌝ }
+{
+    let mut edge: u64 = 0;
     let mut i: u64 = 0;
     while i < n {
         let at = i as usize;
-        let g = group.grid[at];
-        let m = name_keys(g.name);
-        put_keys(fours, keys, at, m);
+        let g = abi::grid_of_words(words, at);
+        if !grid_fits(g) {
+            return Scan { bad: i, edge: edge };
+        }
+        let inside = list_grid(g, np, at, fours, keys, sides, ranks, frames);
+        edge = edge_after(edge, i, inside);
         i += 1;
     }
+    Scan { bad: i, edge: edge }
 }
 
 // Whether the keys of grids j and k agree.
@@ -268,49 +279,43 @@ fn first_clash(shared: Shared, fours: &[u64], keys: &[u64], n: u64) -> u64
     i
 }
 
-// The first grid of a group whose name stands earlier, the count of grids if there is none.
-fn first_named(group: Group) -> u64
-    requires { ⌜ HeadLimits group × GridLimits group ⌝ }
-    ensures { λ r. ⌜ r ≡ first (namedEarlier group) (group .grids) ⌝ }
+// Refusal 2 of the grid lines, of which the first is line `from`, then 3 to 5; what it leaves in the lists, `judge_into` says.
+fn judge_grids(
+    words: &[i64; GROUP_WORDS],
+    from: u64,
+    sides: &mut [u64],
+    ranks: &mut [u64],
+    frames: &mut [u64],
+) -> Verdict
+    requires { ⌜ HeadLimits (groupOfWords (now words)) × (from ≤ rampsMost + 2) × FlatRoom (now sides) (now ranks) (now frames) gridsMost ⌝ }
+    ensures { λ r. ⌜ (r ≡ judgedFrom from (groupOfWords (now (words .entry))))
+        × Left r (groupOfWords (now (words .entry))) (now (sides .exit)) (now (ranks .exit)) (now (frames .exit)) ⌝ }
 {
+    let n = abi::grid_count(words);
+    let np = abi::parameter_count(words);
     let mut fours = [0u64; FOURS];
     let mut keys = [0u64; group::GRIDS_MOST];
-    fill_names(group, &mut fours, &mut keys);
-    first_clash(Shared::Name, &fours, &keys, group.grids)
-}
-
-// The first grid of a group that shares a coordinate and its rank with an earlier one, the count of grids if none does; the lists are
-// left with the sides and ranks of all.
-fn first_ranked(group: Group, sides: &mut [u64], ranks: &mut [u64]) -> u64
-    requires { ⌜ HeadLimits group × GridLimits group × Comparable Shared.Rank group
-        × (gridsMost * 4 ≤ length (now sides)) × (gridsMost ≤ length (now ranks)) ⌝ }
-    ensures { λ r. ⌜ (r ≡ first (rankedEarlier group) (group .grids)) × Sided group (group .grids) (now (sides .exit)) (now (ranks .exit)) ⌝ }
-{
-    flat::fill_sides(group, sides, ranks);
-    first_clash(Shared::Rank, sides, ranks, group.grids)
-}
-
-// Refusals 3 to 5, of a group whose numbers are within their limits; what it leaves in the lists, `judge_into` says.
-fn judge_grids(group: Group, sides: &mut [u64], ranks: &mut [u64]) -> Verdict
-    requires { ⌜ HeadLimits group × GridLimits group × (gridsMost * 4 ≤ length (now sides)) × (gridsMost ≤ length (now ranks)) ⌝ }
-    ensures { λ r. ⌜ (r ≡ judgedGrids group (judgedRanks group Accepted)) × Left r group (now (sides .exit)) (now (ranks .exit)) ⌝ }
-{
-    let n = group.grids;
-    let name = first_named(group);
+    let found = scan_grids(words, n, np, &mut fours, &mut keys, sides, ranks, frames);
+    if found.bad < n {
+        return Verdict::Refused(Refusal {
+            number: 2,
+            place: found.bad + from,
+        });
+    }
+    let name = first_clash(Shared::Name, &fours, &keys, n);
     if name < n {
         return Verdict::Refused(Refusal {
             number: 3,
             place: name + 1,
         });
     }
-    let edge = first_outside(group);
-    if edge < n {
+    if found.edge < n {
         return Verdict::Refused(Refusal {
             number: 4,
-            place: edge + 1,
+            place: found.edge + 1,
         });
     }
-    let rank = first_ranked(group, sides, ranks);
+    let rank = first_clash(Shared::Rank, sides, ranks, n);
     if rank < n {
         return Verdict::Refused(Refusal {
             number: 5,
@@ -320,78 +325,75 @@ fn judge_grids(group: Group, sides: &mut [u64], ranks: &mut [u64]) -> Verdict
     Verdict::Accepted
 }
 
-// Refusal 2 behind the group line, then 3 to 5.
-fn judge_lines(group: Group, sides: &mut [u64], ranks: &mut [u64]) -> Verdict
-    requires { ⌜ HeadLimits group × (gridsMost * 4 ≤ length (now sides)) × (gridsMost ≤ length (now ranks)) ⌝ }
-    ensures { λ r. ⌜ (r ≡ judgedLines group (judgedGrids group (judgedRanks group Accepted))) × Left r group (now (sides .exit)) (now (ranks .exit)) ⌝ }
+// Whether a group's name is well formed and the numbers of its line are within their limits.
+fn head_fits(words: &[i64; GROUP_WORDS]) -> bool
+    ensures { λ r. ⌜ r ≡ headFits (groupOfWords (now (words .entry))) ⌝ }
 {
-    let m = group.ramps;
-    let ramps = group.ramp;
-    let ramp = first_ramp(RampRule::Limits, ramps, m, 0, m);
+    let name = name_fits(abi::name_of(words));
+    let numbers = head_numbers_fit(
+        abi::quantum_of(words),
+        abi::parameter_count(words),
+        abi::ramp_count(words),
+        abi::grid_count(words),
+    );
+    name & numbers
+}
+
+// What a group handed over as a list of numbers is judged, as `judge` says; of an accepted group the lists are left with the sides, ranks
+// and frames of its grids, for the call that goes on with it.
+pub fn judge_into(
+    words: &[i64; GROUP_WORDS],
+    sides: &mut [u64],
+    ranks: &mut [u64],
+    frames: &mut [u64],
+) -> Verdict
+    requires { ⌜ FlatRoom (now sides) (now ranks) (now frames) gridsMost ⌝ }
+    ensures { λ r. ⌜ (r ≡ judged (groupOfWords (now (words .entry))))
+        × Left r (groupOfWords (now (words .entry))) (now (sides .exit)) (now (ranks .exit)) (now (frames .exit)) ⌝ }
+{
+    if !head_fits(words) {
+        return Verdict::Refused(Refusal {
+            number: 2,
+            place: 1,
+        });
+    }
+    let m = abi::ramp_count(words);
+    if first_ramp(RampRule::Unused, words, m, m, RAMPS) < RAMPS {
+        return Verdict::Refused(Refusal {
+            number: 2,
+            place: 1,
+        });
+    }
+    if first_unused(words, abi::grid_count(words)) < GRIDS {
+        return Verdict::Refused(Refusal {
+            number: 2,
+            place: 1,
+        });
+    }
+    let ramp = first_ramp(RampRule::Limits, words, m, 0, m);
     if ramp < m {
         return Verdict::Refused(Refusal {
             number: 2,
             place: ramp + 2,
         });
     }
-    let n = group.grids;
-    let grid = first_bad(group);
-    if grid < n {
-        return Verdict::Refused(Refusal {
-            number: 2,
-            place: grid + (m + 2),
-        });
-    }
-    judge_grids(group, sides, ranks)
+    judge_grids(words, m + 2, sides, ranks, frames)
 }
 
-// Whether a group's name is well formed and the numbers of its line are within their limits.
-fn head_fits(name: Name, quantum: u64, parameters: u64, ramps: u64, grids: u64) -> bool
-    ensures { λ r. ⌜ r ≡ (nameFits name && headNumbersFit (pos quantum) (pos parameters) (pos ramps) (pos grids)) ⌝ }
+// The same, where the call needs no lists.
+pub fn judge_words(words: &[i64; GROUP_WORDS]) -> Verdict
+    ensures { λ r. ⌜ r ≡ judged (groupOfWords (now (words .entry))) ⌝ }
 {
-    name_fits(name) & head_numbers_fit(quantum, parameters, ramps, grids)
-}
-
-// What a group handed over as a record is judged, as `judge` says; of an accepted group the sides and ranks of all grids are left in the
-// two lists, for the call that goes on with it.
-pub fn judge_into(group: Group, sides: &mut [u64], ranks: &mut [u64]) -> Verdict
-    requires { ⌜ (gridsMost * 4 ≤ length (now sides)) × (gridsMost ≤ length (now ranks)) ⌝ }
-    ensures { λ r. ⌜ (r ≡ judged group) × Left r group (now (sides .exit)) (now (ranks .exit)) ⌝ }
-{
-    if !head_fits(
-        group.name,
-        group.quantum,
-        group.parameters,
-        group.ramps,
-        group.grids,
-    ) {
-        return Verdict::Refused(Refusal {
-            number: 2,
-            place: 1,
-        });
-    }
-    let m = group.ramps;
-    let ramps = group.ramp;
-    if first_ramp(RampRule::Unused, ramps, m, m, RAMPS) < RAMPS {
-        return Verdict::Refused(Refusal {
-            number: 2,
-            place: 1,
-        });
-    }
-    if first_unused(group) < GRIDS {
-        return Verdict::Refused(Refusal {
-            number: 2,
-            place: 1,
-        });
-    }
-    judge_lines(group, sides, ranks)
+    let mut sides = [0u64; flat::SIDES];
+    let mut ranks = [0u64; group::GRIDS_MOST];
+    let mut frames = [0u64; flat::FRAMES];
+    judge_into(words, &mut sides, &mut ranks, &mut frames)
 }
 
 // What a group handed over as a record is judged: accepted, or the refusal of the lowest number from 2 to 5 with its place.
 pub fn judge(group: Group) -> Verdict
     ensures { λ r. ⌜ r ≡ judged group ⌝ }
 {
-    let mut sides = [0u64; flat::SIDES];
-    let mut ranks = [0u64; group::GRIDS_MOST];
-    judge_into(group, &mut sides, &mut ranks)
+    let words = abi::numbers_of(group);
+    judge_words(&words)
 }

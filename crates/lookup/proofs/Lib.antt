@@ -3,6 +3,7 @@ pub mod OffsetLaws
 pub mod FixAtLaws
 pub mod ChosenLaws
 pub mod BridgeLaws
+pub mod RampLaws
 pub mod StageLaws
 pub mod TableLaws
 pub mod BestLaws

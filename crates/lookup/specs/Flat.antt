@@ -4,10 +4,15 @@ use mathlib.Core.Path.{_≡_}
 use mathlib.Core.Bool.{true}
 use mathlib.Core.List.{List}
 use lib.IntN.{ℤ}
-use lib.ListN.{length}
-use Rattle.group.specs.Numbers.{gridsMost}
+use lib.ListN.{length, take, drop}
+use Rattle.group.specs.declared.Group.{Group}
+use Rattle.group.specs.Numbers.{nodesMost, startMost, gridsMost}
+use Rattle.group.specs.Limits.{rampFits}
+use Rattle.abi.specs.Words.{headWords, gridsFrom}
 use Rattle.flat.specs.declared.Frame.{Frame}
 use Rattle.flat.specs.Frames.{frameAt}
+use Rattle.flat.specs.Ramps.{rampIn}
+use Rattle.flat.specs.Lists.{Flat, FlatRoom}
 use Rattle.numbers.specs.Lists.{at}
 use Rattle.choice.specs.Rect.{rectHolds}
 use Rattle.choice.specs.Holder.{holder}
@@ -40,6 +45,23 @@ pub record Chosen (frames : List ℕ) (c np count x y : ℕ) : Type 0 where
   pub room : c * 7 ≤ length frames
   pub inside : 0 < c → InsideGrid (offsetIn (frameAt frames (c - 1)) np x y)
   pub listed : 0 < c → RangeListed (offsetIn (frameAt frames (c - 1)) np x y) count
+
+-- a group's flat lists, in lists of such lengths that they have room for every grid that a group can have
+pub record Laid (g : Group) (sides ranks frames : List ℕ) : Type 0 where
+  pub flat : Flat g (g .grids) sides ranks frames
+  pub room : FlatRoom sides ranks frames gridsMost
+
+-- counts of nodes and a START in the first n frames that keep the ends of node ranges within 64 bits
+abbrev pub FramesSized : List ℕ → ℕ → Type 0
+FramesSized frames n = (k : ℕ) → k < n → (frameAt frames k .ni ≤ nodesMost) × (frameAt frames k .nj ≤ nodesMost) × (frameAt frames k .start ≤ startMost)
+
+-- the numbers of all ramps among those of a group
+abbrev pub rampRows : List ℤ → List ℤ
+rampRows numbers = take (gridsFrom - headWords) (drop headWords numbers)
+
+-- the first n of them are within their limits
+abbrev pub RampsFit : List ℤ → ℕ → Type 0
+RampsFit numbers n = (k : ℕ) → k < n → rampFits (rampIn (rampRows numbers) k) ≡ true
 
 -- 7, 8 or 11, or the fix, from rectangles in the order of their owners' ranks
 abbrev pub fixRanked : (rows owners frames : List ℕ) (count np : ℕ) → List ℤ → ℤ → (x y : ℕ) → Lookup

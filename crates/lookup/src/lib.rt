@@ -1,8 +1,8 @@
 // The lookup: what a group of grids says of a point on a day.
+use abi::GROUP_WORDS;
 use fix::Lookup;
 use fix::Offset;
 use flat::Frame;
-use group::Grid;
 use group::Group;
 use group::Point;
 use group::Refusal;
@@ -12,20 +12,20 @@ ghost use mathlib.Core.Bool.{true};
 ghost use Prim.Native.Nat.{_*_, _≤_};
 ghost use lib.Dec.{ltb};
 ghost use lib.IntN.{natAbs};
-ghost use lib.ListN.{length, getD};
+ghost use lib.ListN.{length};
 ghost use Rattle.numbers.specs.First.{first};
-ghost use Rattle.group.specs.Numbers.{dayFits, factorMost, gridsMost};
-ghost use Rattle.flat.specs.Frames.{frameOf, frameAt};
-ghost use Rattle.flat.specs.Lists.{Sided, Room};
+ghost use Rattle.group.specs.Numbers.{parametersMost, rampsMost, dayFits, factorMost};
+ghost use Rattle.abi.specs.Words.{groupWords};
+ghost use Rattle.abi.specs.Abi.{groupOfWords};
+ghost use Rattle.flat.specs.Frames.{frameAt, frameEnd};
+ghost use Rattle.flat.specs.Lists.{Room};
 ghost use Rattle.numbers.specs.Lists.{at};
 ghost use Rattle.choice.specs.Rect.{rectHolds};
 ghost use Rattle.choice.specs.Choice.{chosen};
-ghost use Rattle.fix.specs.Fix.{fixIn};
-ghost use Rattle.fix.specs.Inside.{InsideGrid, RangeListed};
 ghost use Rattle.judge.specs.Judge.{judged};
-ghost use Rattle.day.specs.Day.{factorOf};
+ghost use Rattle.day.specs.Flat.{factorIn};
 ghost use Rattle.lookup.specs.Lookup.{pointFits, fixAt, fixOf, lookedIn, looked, LookupReady};
-ghost use Rattle.lookup.specs.Flat.{distance, offsetIn, Chosen, fixRanked, LaidRows};
+ghost use Rattle.lookup.specs.Flat.{distance, offsetIn, Chosen, Laid, FramesSized, rampRows, RampsFit, fixRanked, LaidRows};
 
 // The distance of two numbers.
 fn distance(a: u64, b: u64) -> u64
@@ -78,15 +78,6 @@ fn chosen_flat(sides: &[u64], ranks: &[u64], grids: usize, x: u64, y: u64) -> u6
     choice::chosen_at(&sides[..m], &ranks[..grids], x, y)
 }
 
-// The fix of a point (x, y), given as distances in mas from the least longitude and latitude, in a grid that holds it, numbered c from 1.
-fn fix_grid(g: Grid, c: u64, np: u64, nodes: &[i32], factor: i64, x: u64, y: u64) -> Lookup
-    requires { ⌜ InsideGrid (offsetIn (frameOf g) np x y) × RangeListed (offsetIn (frameOf g) np x y) (length (now nodes)) × (natAbs factor ≤ factorMost) ⌝ }
-    ensures { λ r. ⌜ r ≡ fixIn (offsetIn (frameOf g) np x y) (now (nodes .entry)) factor c ⌝ }
-{
-    let l = offset_in(flat::frame_of(g), np, x, y);
-    fix::fix_in(l, nodes, factor, c)
-}
-
 // The lookup of one point (x, y), given as distances in mas from the least longitude and latitude, in an accepted group of which
 // the flat lists are made once, for many points: refusal 7, 8 or 11, or the fix. The rectangles stand in the order of their owners'
 // ranks, best first: the owner of the first that holds the point is chosen; a grid may own several.
@@ -108,15 +99,16 @@ pub fn look_ranked(
     fix_chosen(frames, c, np, nodes, factor, x, y)
 }
 
-// The first of n grids whose node range ends behind so many nodes, n if none does.
-fn first_short(ends: &[u64], n: u64, count: u64) -> u64
-    requires { ⌜ n ≤ length (now ends) ⌝ }
-    ensures { λ r. ⌜ r ≡ first (λ k. ltb count (getD (now (ends .entry)) k 0)) n ⌝ }
+// The first of n grids whose node range, of np parameters, ends behind so many nodes, n if none does.
+fn first_short(frames: &[u64], n: u64, np: u64, count: u64) -> u64
+    requires { ⌜ (n * 7 ≤ length (now frames)) × (np ≤ parametersMost) × FramesSized (now frames) n ⌝ }
+    ensures { λ r. ⌜ r ≡ first (λ k. ltb count (frameEnd np (frameAt (now (frames .entry)) k))) n ⌝ }
 {
     let mut i: u64 = 0;
     while i < n {
         let at = i as usize;
-        if count < ends[at] {
+        let f = flat::frame_at(frames, at);
+        if count < extent::node_end(f.start, f.ni, f.nj, np) {
             return i;
         }
         i += 1;
@@ -139,57 +131,50 @@ fn day_fits(day: i64) -> bool
     (group::DAY_LEAST <= day) & (day <= group::DAY_MOST)
 }
 
-// The factor of an accepted group's ramps on a day within the limit, in millionths.
-fn factor_on(group: Group, day: i64) -> i64
-    requires { ⌜ (judged group ≡ Verdict.Accepted) × (dayFits day ≡ true) ⌝ }
-    ensures { λ r. ⌜ r ≡ factorOf (group .ramp) (group .ramps) day ⌝ }
+// The factor of the first ramps of a group's numbers, so many, on a day within the limit, in millionths.
+fn factor_on(numbers: &[i64], ramps: u64, day: i64) -> i64
+    requires { ⌜ (groupWords ≤ length (now numbers)) × (ramps ≤ rampsMost) × RampsFit (now numbers) ramps × (dayFits day ≡ true) ⌝ }
+    ensures { λ r. ⌜ r ≡ factorIn (rampRows (now (numbers .entry))) ramps day ⌝ }
 {
-    let mut ramps = [0i64; flat::RAMPS];
-    flat::fill_ramps(group, &mut ramps);
-    day::day_factor(&ramps, group.ramps as usize, day)
+    let from = abi::HEAD_WORDS;
+    let to = abi::GRIDS_FROM;
+    day::day_factor(&numbers[from..to], ramps as usize, day)
 }
 
-// The lookup in an accepted group, whose grids' sides and ranks stand in the lists, of a point and a day within the limits, with every
-// node range within the list: refusal 7, 8 or 11, or the fix.
+// The lookup in an accepted group, whose flat lists are these, of a point and a day within the limits, with every node range within the
+// list: refusal 7, 8 or 11, or the fix.
 fn look_in(
-    group: Group,
+    words: &[i64; GROUP_WORDS],
     sides: &[u64],
     ranks: &[u64],
+    frames: &[u64],
     nodes: &[i32],
     point: Point,
     day: i64,
 ) -> Lookup
-    requires { ⌜ LookupReady group (length (now nodes)) point day × Sided group (group .grids) (now sides) (now ranks)
-        × (gridsMost * 4 ≤ length (now sides)) × (gridsMost ≤ length (now ranks)) ⌝ }
-    ensures { λ r. ⌜ r ≡ fixOf group (now (nodes .entry)) point day ⌝ }
+    requires { ⌜ LookupReady (groupOfWords (now words)) (length (now nodes)) point day
+        × Laid (groupOfWords (now words)) (now sides) (now ranks) (now frames) ⌝ }
+    ensures { λ r. ⌜ r ≡ fixOf (groupOfWords (now (words .entry))) (now (nodes .entry)) point day ⌝ }
 {
     let x = extent::lon_from_least(point.lon);
     let y = extent::lat_from_least(point.lat);
-    let c = chosen_flat(sides, ranks, group.grids as usize, x, y);
-    if c == 0 {
-        return Lookup::Refused(Refusal {
-            number: 7,
-            place: 0,
-        });
-    }
-    let factor = factor_on(group, day);
-    let at = (c - 1) as usize;
-    let g = group.grid[at];
-    fix_grid(g, c, group.parameters, nodes, factor, x, y)
+    let c = chosen_flat(sides, ranks, abi::grid_count(words) as usize, x, y);
+    let factor = factor_on(words, abi::ramp_count(words), day);
+    fix_chosen(frames, c, abi::parameter_count(words), nodes, factor, x, y)
 }
 
-// The lookup in an accepted group, whose grids' sides and ranks stand in the lists: refusal 6, 9, 13, 7, 8 or 11, or the fix.
+// The lookup in an accepted group, whose flat lists are these: refusal 6, 9, 13, 7, 8 or 11, or the fix.
 fn look_accepted(
-    group: Group,
+    words: &[i64; GROUP_WORDS],
     sides: &[u64],
     ranks: &[u64],
+    frames: &[u64],
     nodes: &[i32],
     point: Point,
     day: i64,
 ) -> Lookup
-    requires { ⌜ (judged group ≡ Verdict.Accepted) × Sided group (group .grids) (now sides) (now ranks)
-        × (gridsMost * 4 ≤ length (now sides)) × (gridsMost ≤ length (now ranks)) ⌝ }
-    ensures { λ r. ⌜ r ≡ lookedIn group (now (nodes .entry)) point day ⌝ }
+    requires { ⌜ (judged (groupOfWords (now words)) ≡ Verdict.Accepted) × Laid (groupOfWords (now words)) (now sides) (now ranks) (now frames) ⌝ }
+    ensures { λ r. ⌜ r ≡ lookedIn (groupOfWords (now (words .entry))) (now (nodes .entry)) point day ⌝ }
 {
     if !point_fits(point) {
         return Lookup::Refused(Refusal {
@@ -203,17 +188,29 @@ fn look_accepted(
             place: 0,
         });
     }
-    let mut ends = [0u64; group::GRIDS_MOST];
-    flat::fill_ends(group, &mut ends);
-    let n = group.grids;
-    let short = first_short(&ends, n, nodes.len() as u64);
+    let n = abi::grid_count(words);
+    let short = first_short(frames, n, abi::parameter_count(words), nodes.len() as u64);
     if short < n {
         return Lookup::Refused(Refusal {
             number: 13,
             place: short + 1,
         });
     }
-    look_in(group, sides, ranks, nodes, point, day)
+    look_in(words, sides, ranks, frames, nodes, point, day)
+}
+
+// What a group handed over as a list of numbers says of a point on a day, as `lookup` says.
+pub fn look_words(words: &[i64; GROUP_WORDS], nodes: &[i32], point: Point, day: i64) -> Lookup
+    ensures { λ r. ⌜ r ≡ looked (groupOfWords (now (words .entry))) (now (nodes .entry)) point day ⌝ }
+{
+    let mut sides = [0u64; flat::SIDES];
+    let mut ranks = [0u64; group::GRIDS_MOST];
+    let mut frames = [0u64; flat::FRAMES];
+    let verdict = judge::judge_into(words, &mut sides, &mut ranks, &mut frames);
+    match verdict {
+        Verdict::Refused(r) => Lookup::Refused(r),
+        Verdict::Accepted => look_accepted(words, &sides, &ranks, &frames, nodes, point, day),
+    }
 }
 
 // What a group says of a point on a day: the number of the chosen grid and its results in steps, or the first refusal of 2 to 5
@@ -223,11 +220,6 @@ fn look_accepted(
 pub fn lookup(group: Group, nodes: &[i32], point: Point, day: i64) -> Lookup
     ensures { λ r. ⌜ r ≡ looked group (now (nodes .entry)) point day ⌝ }
 {
-    let mut sides = [0u64; flat::SIDES];
-    let mut ranks = [0u64; group::GRIDS_MOST];
-    let verdict = judge::judge_into(group, &mut sides, &mut ranks);
-    match verdict {
-        Verdict::Refused(r) => Lookup::Refused(r),
-        Verdict::Accepted => look_accepted(group, &sides, &ranks, nodes, point, day),
-    }
+    let words = abi::numbers_of(group);
+    look_words(&words, nodes, point, day)
 }

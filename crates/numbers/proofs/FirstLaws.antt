@@ -1,13 +1,13 @@
 -- What a loop that looks for the first index shows, once for every test.
 use Prim.Native.Nat.{ℕ, zero, suc, _+_, _<_, _≤_, zero-le, suc-le-suc}
 use mathlib.Core.Path.{_≡_, refl, sym, _∙_, ap, subst}
-use mathlib.Core.Bool.{Bool, true, false, cond, not, _&&_}
+use mathlib.Core.Bool.{Bool, true, false, cond, not, _&&_, and-false}
 use native.Mathlib.Omega.{arith}
 use native.Mathlib.Nat.{le-of-suc-le-suc, not-suc-le-zero}
 use borrow.Author.Count.{below-more, below-none}
-use lib.Dec.{leb, ltb}
+use lib.Dec.{ltb, eqb}
 use native.Mathlib.Decide.{decLt}
-use borrow.Author.Tests.{leb-true, ltb-true, ltb-false, not-false, lt-ltb, le-ltb, le-leb}
+use borrow.Author.Tests.{leb-true, ltb-true, ltb-false, not-false, lt-ltb, le-ltb, le-leb, eq-eqb, ne-eqb}
 use Rattle.numbers.proofs.Bools.{and-left, and-right, both, same-test, true-false}
 use Rattle.numbers.specs.First.{first, every, some}
 
@@ -87,6 +87,24 @@ unfolding first
 first-hit p zero l = absurd (not-suc-le-zero l)
 first-hit p (suc n) l = hit-step p (first (λ i. p (suc i)) n) n (p zero) refl (λ m. first-hit (λ i. p (suc i)) n m) l
 
+-- of one index more
+pub first-more : (p : ℕ → Bool) (n : ℕ) → first p (n + 1) ≡ cond (eqb (first p n) n && not (p n)) (n + 1) (first p n)
+first-more p n =
+    elim (decLt (first p n) n) [
+      | yes lt ↦
+          first-at p (n + 1) (first p n) (omega arith) (λ k l. first-before p n k l) (first-hit p n lt)
+          ∙ sym (ap (λ (b : Bool). cond (b && not (p n)) (n + 1) (first p n)) (ne-eqb (first p n) n (λ e. omega arith)))
+      | no ge ↦ let e : first p n ≡ n = omega (arith, first-le p n) in step (p n) refl e
+    ]
+  where
+    step : (b : Bool) → p n ≡ b → first p n ≡ n → first p (n + 1) ≡ cond (eqb (first p n) n && not (p n)) (n + 1) (first p n)
+    step true t e =
+        first-at p (n + 1) n (omega arith) (λ k l. first-before p n k (omega arith)) t ∙ sym e
+        ∙ sym (ap (λ (c : Bool). cond c (n + 1) (first p n)) (ap (λ (d : Bool). eqb (first p n) n && not d) t ∙ and-false (eqb (first p n) n)))
+    step false t e =
+        first-none p (n + 1) (below-more (λ k. p k ≡ false) n (λ k l. first-before p n k (omega arith)) t)
+        ∙ sym (ap (λ (c : Bool). cond c (n + 1) (first p n)) (ap (λ (d : Bool). eqb (first p n) n && not d) t ∙ ap (λ (d : Bool). d && true) (eq-eqb (first p n) n e)))
+
 -- from a test that is false of all, what it says of one
 pub none-at : (p : ℕ → Bool) (n k : ℕ) → n ≤ first p n → k < n → p k ≡ false
 none-at p n k h l = first-before p n k (omega arith)
@@ -121,9 +139,6 @@ every-more p i =
     (λ e.
     all-every p (i + 1)
     (below-more (λ k. p k ≡ true) i (λ k l. every-at p i k (and-left (every p i) (p i) e) l) (and-right (every p i) (p i) e)))
-
-pub every-same : (p q : ℕ → Bool) (n : ℕ) → ((k : ℕ) → k < n → p k ≡ q k) → every p n ≡ every q n
-every-same p q n h = ap (λ (m : ℕ). leb n m) (first-same (λ i. not (p i)) (λ i. not (q i)) n (λ k l. ap not (h k l)))
 
 pub some-same : (p q : ℕ → Bool) (n : ℕ) → ((k : ℕ) → k < n → p k ≡ q k) → some p n ≡ some q n
 some-same p q n h = ap (λ (m : ℕ). ltb m n) (first-same p q n h)

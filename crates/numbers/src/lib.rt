@@ -116,6 +116,13 @@ pub fn lowered(a: u64, b: u64) -> i64
     a as i64 - b as i64
 }
 
+// A byte as a wider number.
+pub fn wide(b: u8) -> u64
+    ensures { λ r. ⌜ (r ≡ b) × (r < 256) ⌝ }
+{
+    b as u64
+}
+
 // The greater of two numbers.
 pub fn larger(a: u64, b: u64) -> u64
     ensures { λ r. ⌜ r ≡ max a b ⌝ }

@@ -1,16 +1,13 @@
 -- `group_of_words` meets its contract.
 use mathlib.Core.Path.{ap, _∙_}
 use borrow.Author.Needs.{needs}
-use Rattle.abi.specs.Abi.{nameOfWords, unitOf, groupOfWords}
+use Rattle.abi.specs.Abi.{unitOf, groupOfWords}
 use Rattle.abi.proofs.NumberLaws.{told}
 use Rattle.abi.proofs.group_of_words.Statement.{statement}
 use Rattle.abi.proofs.group_of_words.Tie as tie
 
-count-in-requires : tie.Need-count-in-requires
-count-in-requires c κs = search needs
-
-name-of-words-requires : tie.Need-name-of-words-requires
-name-of-words-requires c κs = search needs
+name-of-requires : tie.Need-name-of-requires
+name-of-requires c κs = search needs
 
 ramps-of-requires : tie.Need-ramps-of-requires
 ramps-of-requires c κs = search needs
@@ -18,8 +15,8 @@ ramps-of-requires c κs = search needs
 grids-of-requires : tie.Need-grids-of-requires
 grids-of-requires c κs = search needs
 
-number-in-requires : tie.Need-number-in-requires
-number-in-requires c κs = search needs
+number-at-requires : tie.Need-number-at-requires
+number-at-requires c κs = search needs
 
 unit-of-requires : tie.Need-unit-of-requires
 unit-of-requires c κs = search needs
@@ -27,26 +24,26 @@ unit-of-requires c κs = search needs
 quantum-of-requires : tie.Need-quantum-of-requires
 quantum-of-requires c κs = search needs
 
-count-in-requires-2 : tie.Need-count-in-requires-2
-count-in-requires-2 c κs = search needs
+parameter-count-requires : tie.Need-parameter-count-requires
+parameter-count-requires c κs = search needs
 
-count-in-requires-3 : tie.Need-count-in-requires-3
-count-in-requires-3 c κs = search needs
+ramp-count-requires : tie.Need-ramp-count-requires
+ramp-count-requires c κs = search needs
 
-count-in-requires-4 : tie.Need-count-in-requires-4
-count-in-requires-4 c κs = search needs
+grid-count-requires : tie.Need-grid-count-requires
+grid-count-requires c κs = search needs
 
 returns : tie.Need-returns
 unfolding groupOfWords
 returns c =
-    let name = c .before .before .before .before .before .before .before .before .name-of-words .ensures ∙ ap (nameOfWords _ _) (c .before .before .before .before .before .before .before .before .before .count-in .ensures) in
-    let unit = c .before .before .before .before .unit-of .ensures ∙ ap unitOf (told (c .before .before .before .before .before .number-in .ok) (c .before .before .before .before .before .number-in .ensures)) in
+    let name = c .before .before .before .before .before .before .before .before .name-of .ensures in
+    let unit = c .before .before .before .before .unit-of .ensures ∙ ap unitOf (told (c .before .before .before .before .before .number-at .ok) (c .before .before .before .before .before .number-at .ensures)) in
     let ramp = c .before .before .before .before .before .before .before .ramps-of .ensures in
     let grid = c .before .before .before .before .before .before .grids-of .ensures in
     let quantum = c .before .before .before .quantum-of .ensures in
-    let parameters = c .before .before .count-in2 .ensures in
-    let ramps = c .before .count-in3 .ensures in
-    let grids = c .count-in4 .ensures in
+    let parameters = c .before .before .parameter-count .ensures in
+    let ramps = c .before .ramp-count .ensures in
+    let grids = c .grid-count .ensures in
     λ i. record {
       name = name i;
       unit = unit i;
@@ -62,14 +59,13 @@ pub group-of-words-spec : {M : Type 1} → statement M
 group-of-words-spec =
     tie.close
     (tie.spec
-    count-in-requires
-    name-of-words-requires
+    name-of-requires
     ramps-of-requires
     grids-of-requires
-    number-in-requires
+    number-at-requires
     unit-of-requires
     quantum-of-requires
-    count-in-requires-2
-    count-in-requires-3
-    count-in-requires-4
+    parameter-count-requires
+    ramp-count-requires
+    grid-count-requires
     returns)

@@ -11,20 +11,20 @@ use borrow.Author.Needs.{needs}
 use Rattle.abi.proofs.name_of_words.Statement.{statement}
 use Rattle.abi.proofs.name_of_words.Tie as tie
 
-count-in-requires : tie.Need-count-in-requires
-count-in-requires c κs = search needs
+count-at-requires : tie.Need-count-at-requires
+count-at-requires c κs = search needs
 
-add-count-in : tie.Need-add-count-in
-add-count-in c = search needs
+add-count-at : tie.Need-add-count-at
+add-count-at c = search needs
 
-count-in-requires-2 : tie.Need-count-in-requires-2
-count-in-requires-2 c κs = search needs
+count-at-requires-2 : tie.Need-count-at-requires-2
+count-at-requires-2 c κs = search needs
 
-add-count-in-2 : tie.Need-add-count-in-2
-add-count-in-2 c = search needs
+add-count-at-2 : tie.Need-add-count-at-2
+add-count-at-2 c = search needs
 
-count-in-requires-3 : tie.Need-count-in-requires-3
-count-in-requires-3 c κs = search needs
+count-at-requires-3 : tie.Need-count-at-requires-3
+count-at-requires-3 c κs = search needs
 
 bytes-of-requires : tie.Need-bytes-of-requires
 bytes-of-requires c κs = search needs
@@ -34,7 +34,7 @@ unfolding nameOfWords
 returns c =
     let s = c .before .before .before .before .args in
     let ns = s .numbers .now in
-    let x = c .before .before .before .count-in in let y = c .before .before .count-in2 in let z = c .before .count-in3 in
+    let x = c .before .before .before .count-at in let y = c .before .before .count-at2 in let z = c .before .count-at3 in
     let from : s .k + 0 ≡ s .k = omega arith in
     let words = getD-three (x .result) (y .result) (z .result) 0 (λ q. countAt ns (s .k + q)) (ap (countAt ns) from ∙ sym (x .ensures)) (sym (y .ensures)) (sym (z .ensures)) in
     let bytes = c .bytes-of .ensures
@@ -46,10 +46,10 @@ pub name-of-words-spec : {M : Type 1} → statement M
 name-of-words-spec =
     tie.close
     (tie.spec
-    count-in-requires
-    add-count-in
-    count-in-requires-2
-    add-count-in-2
-    count-in-requires-3
+    count-at-requires
+    add-count-at
+    count-at-requires-2
+    add-count-at-2
+    count-at-requires-3
     bytes-of-requires
     returns)

@@ -5,11 +5,8 @@ use borrow.Author.Needs.{needs}
 use Rattle.capi.proofs.bulhyemik_grids_in_force.Statement.{statement}
 use Rattle.capi.proofs.bulhyemik_grids_in_force.Tie as tie
 
-group-of-words-requires : tie.Need-group-of-words-requires
-group-of-words-requires c κs = search needs
-
-grids-in-force-requires : tie.Need-grids-in-force-requires
-grids-in-force-requires c κs = search needs
+force-words-requires : tie.Need-force-words-requires
+force-words-requires c κs = search needs
 
 list-numbers-requires : tie.Need-list-numbers-requires
 list-numbers-requires c κs = search needs
@@ -19,16 +16,15 @@ verdict-refusal-requires c κs = search needs
 
 returns : tie.Need-returns
 returns c =
-    let start = c .before .before .before .before in
+    let start = c .before .before .before in
     let s = start .args in
-    in-force-told (s .group .now) _ (c .before .before .before .group-of-words .ensures) (s .west) (s .east) (s .south) (s .north) _ _ _ _ _ _ _ (toZ-ofZ (start .fits .west)) (toZ-ofZ (start .fits .east)) (toZ-ofZ (start .fits .south)) (toZ-ofZ (start .fits .north)) (c .before .before .grids-in-force .ensures) (c .verdict-refusal .ensures) (c .before .list-numbers .ensures)
+    in-force-told (s .group .now) (s .west) (s .east) (s .south) (s .north) _ _ _ _ _ _ _ (toZ-ofZ (start .fits .west)) (toZ-ofZ (start .fits .east)) (toZ-ofZ (start .fits .south)) (toZ-ofZ (start .fits .north)) (c .before .before .force-words .ensures) (c .verdict-refusal .ensures) (c .before .list-numbers .ensures)
 
 pub bulhyemik-grids-in-force-spec : {M : Type 1} → statement M
 bulhyemik-grids-in-force-spec =
     tie.close
     (tie.spec
-    group-of-words-requires
-    grids-in-force-requires
+    force-words-requires
     list-numbers-requires
     verdict-refusal-requires
     returns)

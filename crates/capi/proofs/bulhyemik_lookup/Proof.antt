@@ -5,11 +5,8 @@ use borrow.Author.Needs.{needs}
 use Rattle.capi.proofs.bulhyemik_lookup.Statement.{statement}
 use Rattle.capi.proofs.bulhyemik_lookup.Tie as tie
 
-group-of-words-requires : tie.Need-group-of-words-requires
-group-of-words-requires c κs = search needs
-
-lookup-requires : tie.Need-lookup-requires
-lookup-requires c κs = search needs
+look-words-requires : tie.Need-look-words-requires
+look-words-requires c κs = search needs
 
 found-numbers-requires : tie.Need-found-numbers-requires
 found-numbers-requires c κs = search needs
@@ -19,16 +16,15 @@ lookup-refusal-requires c κs = search needs
 
 returns : tie.Need-returns
 returns c =
-    let start = c .before .before .before .before in
+    let start = c .before .before .before in
     let s = start .args in
-    lookup-told (s .group .now) _ (c .before .before .before .group-of-words .ensures) (s .nodes .now) (s .lon) (s .lat) (s .day) _ _ _ _ _ _ (toZ-ofZ (start .fits .lon)) (toZ-ofZ (start .fits .lat)) (toZ-ofZ (start .fits .day)) (c .before .before .lookup .ensures) (c .lookup-refusal .ensures) (c .before .found-numbers .ensures)
+    lookup-told (s .group .now) (s .nodes .now) (s .lon) (s .lat) (s .day) _ _ _ _ _ _ (toZ-ofZ (start .fits .lon)) (toZ-ofZ (start .fits .lat)) (toZ-ofZ (start .fits .day)) (c .before .before .look-words .ensures) (c .lookup-refusal .ensures) (c .before .found-numbers .ensures)
 
 pub bulhyemik-lookup-spec : {M : Type 1} → statement M
 bulhyemik-lookup-spec =
     tie.close
     (tie.spec
-    group-of-words-requires
-    lookup-requires
+    look-words-requires
     found-numbers-requires
     lookup-refusal-requires
     returns)

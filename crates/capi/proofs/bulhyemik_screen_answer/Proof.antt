@@ -27,9 +27,9 @@ screen-refusal-requires c κs = search needs
 
 returns : tie.Need-returns
 returns c =
-    let start = c .before .before .before .before .before .before .before in
+    let start = c .before .before .before .before .before .before in
     let s = start .args in
-    shifts-told (s .quantum) (s .parameters) (s .number) (s .at) (s .fix .now) _ _ _ (c .before .before .before .before .before .before .count-of .ensures ∙ ap countOf (toZ-ofZ (start .fits .quantum))) (c .before .before .before .before .before .count-of2 .ensures ∙ ap countOf (toZ-ofZ (start .fits .parameters)))
+    shifts-told (s .quantum) (s .parameters) (s .number) (s .at) (s .fix .now) _ _ _ (c .before .before .before .before .before .count-of .ensures ∙ ap countOf (toZ-ofZ (start .fits .quantum))) (c .before .before .before .before .count-of2 .ensures ∙ ap countOf (toZ-ofZ (start .fits .parameters)))
     (c .before .before .before .lookup-of .ensures) _ _ _ (c .before .before .screen-answer .ensures) (c .screen-refusal .ensures) (c .before .shift-floats .ensures)
 
 pub bulhyemik-screen-answer-spec : {M : Type 1} → statement M

@@ -27,9 +27,9 @@ screen-refusal-requires c κs = search needs
 
 returns : tie.Need-returns
 returns c =
-    let start = c .before .before .before .before .before .before .before .before in
+    let start = c .before .before .before .before .before .before .before in
     let s = start .args in
-    record-told (s .quantum) (s .parameters) (s .number) (s .at) (s .fix .now) _ _ _ (c .before .before .before .before .before .before .before .count-of .ensures ∙ ap countOf (toZ-ofZ (start .fits .quantum))) (c .before .before .before .before .before .before .count-of2 .ensures ∙ ap countOf (toZ-ofZ (start .fits .parameters)))
+    record-told (s .quantum) (s .parameters) (s .number) (s .at) (s .fix .now) _ _ _ (c .before .before .before .before .before .before .count-of .ensures ∙ ap countOf (toZ-ofZ (start .fits .quantum))) (c .before .before .before .before .before .count-of2 .ensures ∙ ap countOf (toZ-ofZ (start .fits .parameters)))
     (c .before .before .before .before .lookup-of .ensures) (s .lon) (s .lat) _ _ _ _ _ (toZ-ofZ (start .fits .lon)) (toZ-ofZ (start .fits .lat)) (c .before .before .before .screen-answer .ensures) (c .before .screen-refusal .ensures) (c .before .before .record-of .ensures)
 
 pub bulhyemik-screen-record-spec : {M : Type 1} → statement M

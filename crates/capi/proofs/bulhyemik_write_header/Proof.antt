@@ -4,11 +4,8 @@ use borrow.Author.Needs.{needs}
 use Rattle.capi.proofs.bulhyemik_write_header.Statement.{statement}
 use Rattle.capi.proofs.bulhyemik_write_header.Tie as tie
 
-group-of-words-requires : tie.Need-group-of-words-requires
-group-of-words-requires c κs = search needs
-
-write-header-requires : tie.Need-write-header-requires
-write-header-requires c κs = search needs
+write-words-requires : tie.Need-write-words-requires
+write-words-requires c κs = search needs
 
 written-refusal-requires : tie.Need-written-refusal-requires
 written-refusal-requires c κs = search needs
@@ -21,16 +18,15 @@ same-length c = search needs
 
 returns : tie.Need-returns
 returns c =
-    let s = c .before .before .before .before .before .before .before .before .args in
-    let w = c .before .before .before .before .write-header .ensures in
-    write-told (s .group .now) _ (c .before .before .before .before .before .before .group-of-words .ensures) (s .out .now) _ _ _ _ (w .0) (w .1) (c .before .written-refusal .ensures) (c .written-count .ensures)
+    let s = c .before .before .before .before .before .before .before .args in
+    let w = c .before .before .before .before .write-words .ensures in
+    write-told (s .group .now) (s .out .now) _ _ _ _ (w .0) (w .1) (c .before .written-refusal .ensures) (c .written-count .ensures)
 
 pub bulhyemik-write-header-spec : {M : Type 1} → statement M
 bulhyemik-write-header-spec =
     tie.close
     (tie.spec
-    group-of-words-requires
-    write-header-requires
+    write-words-requires
     written-refusal-requires
     written-count-requires
     same-length

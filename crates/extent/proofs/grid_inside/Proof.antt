@@ -22,7 +22,7 @@ far-edge-requires-2 : tie.Need-far-edge-requires-2
 far-edge-requires-2 c κs = subst Reach (sym (c .lat-axis .ensures)) (c .before .before .before .pre .1 .lat)
 
 node-end-requires : tie.Need-node-end-requires
-node-end-requires c κs = c .before .before .before .before .pre
+node-end-requires c κs = let p = c .before .before .before .before .pre in (p .1 .first, p .1 .lon .most, p .1 .lat .most, p .0)
 
 returns : tie.Need-returns
 unfolding inside

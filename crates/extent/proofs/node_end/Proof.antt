@@ -1,37 +1,28 @@
--- `node_end` meets its contract: the product and the sum fit 64 bits.
-use Prim.Native.Nat.{ℕ, _*_, _≤_}
+-- `node_end` meets its contract: the products and the sum fit 64 bits.
+use Prim.Native.Nat.{_*_, _≤_}
 use native.Mathlib.Omega.{arith}
 use native.Mathlib.Nat.{mul-le-mul}
 use borrow.Author.Needs.{needs}
-use Rattle.group.specs.declared.Grid.{Grid}
 use Rattle.group.specs.Numbers.{nodesMost, parametersMost}
-use Rattle.extent.specs.Sizes.{Sized}
 use Rattle.extent.proofs.node_end.Statement.{statement}
 use Rattle.extent.proofs.node_end.Tie as tie
 
 -- the counts of nodes and of values
-module _ (g : Grid) (z : Sized g) where
-  nodes : g .ni * g .nj ≤ nodesMost * nodesMost
-  nodes = mul-le-mul (z .lon .most) (z .lat .most)
+module _ (s : tie.Start) where
+  nodes : s .args .ni * s .args .nj ≤ nodesMost * nodesMost
+  nodes = mul-le-mul (s .pre .1) (s .pre .2)
 
-  values : (np : ℕ) → np ≤ parametersMost → g .ni * g .nj * np ≤ nodesMost * nodesMost * parametersMost
-  values np h = mul-le-mul nodes h
+  values : s .args .ni * s .args .nj * s .args .np ≤ nodesMost * nodesMost * parametersMost
+  values = mul-le-mul nodes (s .pre .3)
 
 mul-result : tie.Need-mul-result
-mul-result c =
-    let h = nodes (c .before .args .g) (c .before .pre .1) in
-    record { fits = omega arith }
+mul-result c = let h = nodes c in record { fits = omega arith }
 
 mul-result-2 : tie.Need-mul-result-2
-mul-result-2 c =
-    let h = values (c .before .args .g) (c .before .pre .1) (c .before .args .np) (c .before .pre .0) in
-    record { fits = omega arith }
+mul-result-2 c = let h = values c in record { fits = omega arith }
 
 add-result : tie.Need-add-result
-add-result c =
-    let h = values (c .before .before .args .g) (c .before .before .pre .1) (c .before .before .args .np) (c .before .before .pre .0) in
-    let k = c .before .before .pre .1 .first in
-    record { fits = omega arith }
+add-result c = let h = values c in let k = c .pre .0 in record { fits = omega arith }
 
 returns : tie.Need-returns
 returns c = search needs

@@ -1,82 +1,31 @@
--- `grids_in_force` meets its contract, refusal by refusal.
-use mathlib.Core.Path.{_∙_, sym}
-use native.Mathlib.Omega.{arith}
-use Rattle.inforce.proofs.StageLaws.{in-force-group, in-force-10, in-force-listed}
+-- `grids_in_force` meets its contract: a record that is stored as numbers has the same grids in force.
+use mathlib.Core.Path.{ap, _∙_}
+use mathlib.Core.Bool.{not}
+use mathlib.Core.List.{List}
+use lib.IntN.{ℤ}
+use Rattle.group.specs.Refusals.{refuseIf}
+use Rattle.abi.specs.Abi.{groupOfWords}
+use Rattle.abi.proofs.ShapeLaws.{machine-shaped}
+use Rattle.judge.proofs.StoredLaws.{stored-told}
+use Rattle.inforce.specs.Area.{areaFits}
+use Rattle.inforce.specs.InForce.{inForceIn, acceptedList, refusedBy, inForceOf}
 use borrow.Author.Needs.{needs}
 use Rattle.inforce.proofs.grids_in_force.Statement.{statement}
 use Rattle.inforce.proofs.grids_in_force.Tie as tie
 
-slice-aggregate-judge-into : tie.Need-slice-aggregate-judge-into
-slice-aggregate-judge-into c = search needs
+numbers-of-requires : tie.Need-numbers-of-requires
+numbers-of-requires c κs = search needs
 
-slice-aggregate-judge-into-2 : tie.Need-slice-aggregate-judge-into-2
-slice-aggregate-judge-into-2 c = search needs
-
-judge-into-requires : tie.Need-judge-into-requires
-judge-into-requires c κs = search needs
-
-enum-known-verdict : tie.Need-enum-known-verdict
-enum-known-verdict c = search needs
-
-refused-by-requires : tie.Need-refused-by-requires
-refused-by-requires c κs = search needs
-
-enum-told : tie.Need-enum-told
-enum-told c = search needs
-
-area-fits-requires : tie.Need-area-fits-requires
-area-fits-requires c κs = search needs
-
-slice-aggregate-list-in : tie.Need-slice-aggregate-list-in
-slice-aggregate-list-in c = search needs
-
-slice-aggregate-list-in-2 : tie.Need-slice-aggregate-list-in-2
-slice-aggregate-list-in-2 c = search needs
-
-list-in-requires : tie.Need-list-in-requires
-list-in-requires c κs =
-    let j = c .before .before .before .before .before .before .before .before .judge-into in let v = c .before .before .before .before .enum-told .given .1 in (
-      sym (j .ensures .0) ∙ v,
-      sym (c .before .before .before .area-fits .ensures) ∙ c .before .before .if1 .taken,
-      j .ensures .1 v,
-      omega (arith, j .kept .1 .0),
-      omega (arith, j .kept .1 .1 .0),
-    )
-
-refused-by-requires-2 : tie.Need-refused-by-requires-2
-refused-by-requires-2 c κs = search needs
+force-words-requires : tie.Need-force-words-requires
+force-words-requires c κs = search needs
 
 returns : tie.Need-returns
+unfolding inForceOf
 returns c =
-    c .refused-by .ensures ∙ sym (in-force-group _ _ _ (sym (c .before .before .before .before .before .before .judge-into .ensures .0) ∙ c .before .before .verdict .given .1))
-
-returns-2 : tie.Need-returns-2
-returns-2 c =
-    c .list-in .ensures
-    ∙ sym (in-force-listed _ _ (sym (c .before .before .before .before .before .before .before .before .before .judge-into .ensures .0) ∙ c .before .before .before .before .before .enum-told .given .1)
-    (sym (c .before .before .before .before .area-fits .ensures) ∙ c .before .before .before .if1 .taken))
-
-returns-3 : tie.Need-returns-3
-returns-3 c =
-    c .refused-by2 .ensures
-    ∙ sym (in-force-10 _ _ (sym (c .before .before .before .before .before .before .before .judge-into .ensures .0) ∙ c .before .before .before .enum-told .given .1)
-    (sym (c .before .before .area-fits .ensures) ∙ c .before .if1 .left))
+    let s = c .before .before .before in let a = s .args in
+    c .force-words .ensures ∙ ap (λ (ns : List ℤ). inForceOf (groupOfWords ns) (a .area)) (c .before .before .numbers-of .ensures)
+    ∙ stored-told (a .group) (machine-shaped (a .group) _ (s .good .0)) refusedBy
+    (λ g. refuseIf refusedBy (not (areaFits (a .area))) 10 0 (acceptedList (inForceIn g (a .area))))
 
 pub grids-in-force-spec : {M : Type 1} → statement M
-grids-in-force-spec =
-    tie.close
-    (tie.spec
-    slice-aggregate-judge-into
-    slice-aggregate-judge-into-2
-    judge-into-requires
-    enum-known-verdict
-    refused-by-requires
-    enum-told
-    area-fits-requires
-    slice-aggregate-list-in
-    slice-aggregate-list-in-2
-    list-in-requires
-    refused-by-requires-2
-    returns
-    returns-2
-    returns-3)
+grids-in-force-spec = tie.close (tie.spec numbers-of-requires force-words-requires returns)

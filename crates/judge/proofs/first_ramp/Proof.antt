@@ -1,38 +1,41 @@
 -- `first_ramp` meets its contract, by the loop of FirstLaws.
 use Prim.Native.Nat.{_-_}
-use mathlib.Core.Path.{_∙_, sym}
+use mathlib.Core.Path.{_≡_, ap, _∙_, sym}
 use borrow.Author.Needs.{needs}
 use native.Mathlib.Omega.{arith}
 use Rattle.numbers.proofs.FirstLaws.{Passed, passed-more, passed-end, passed-found}
 use lib.Dec.{leb}
-use lib.ListN.{getD}
-use Rattle.group.specs.Blank.{blankRamp}
+use Rattle.abi.specs.Abi.{rampOfWords}
 use Rattle.judge.specs.Rules.{rampTest}
 use Rattle.judge.proofs.first_ramp.Statement.{statement}
 use Rattle.judge.proofs.first_ramp.Tie as tie
 
 abbrev Inv-loop : tie.InvT-loop
-Inv-loop rule used from n ramps i₀ i = Passed (λ k. rampTest rule (leb used k) (getD ramps k blankRamp)) n i
+Inv-loop rule words used from n i₀ i = Passed (λ k. rampTest rule (leb used k) (rampOfWords words k)) n i
 
 abbrev μ-loop : tie.MeasureT-loop
-μ-loop rule used from n ramps i₀ i = n - i
+μ-loop rule words used from n i₀ i = n - i
 
 loop-holds : tie.Need-loop-holds Inv-loop μ-loop
 loop-holds c = record { bound = c .pre .0; clear = c .pre .2 }
 
-mul-r : tie.Need-mul-r Inv-loop μ-loop
-mul-r c = omega arith
-
-array-copy-out-r : tie.Need-array-copy-out-r Inv-loop μ-loop
-array-copy-out-r c = omega arith
+ramp-of-words-requires : tie.Need-ramp-of-words-requires Inv-loop μ-loop
+ramp-of-words-requires c κs = let s = c .before .before in omega (arith, s .pre .1)
 
 ramp-breaks-requires : tie.Need-ramp-breaks-requires Inv-loop μ-loop
 ramp-breaks-requires c κs = search needs
 
+-- what the test answers of the entry that was read
+tested : (c : tie.After-ramp-breaks Inv-loop μ-loop) → let s = c .before .before .before .before in
+    c .ramp-breaks .result ≡ rampTest (s .args .rule) (leb (s .args .used) (c .before .before .before .loop .i)) (rampOfWords (s .args .words .now) (c .before .before .before .loop .i))
+tested c =
+    let s = c .before .before .before .before in
+    c .ramp-breaks .ensures ∙ ap (rampTest (s .args .rule) (leb (s .args .used) (c .before .before .before .loop .i))) (c .before .ramp-of-words .ensures)
+
 returns : tie.Need-returns Inv-loop μ-loop
 returns c =
     passed-found _ _ _ (c .before .before .before .before .loop .inv) (c .before .before .before .loop-test .taken)
-    (sym (c .before .ramp-breaks .ensures) ∙ c .if1 .taken)
+    (sym (tested (c .before)) ∙ c .if1 .taken)
 
 add-i : tie.Need-add-i Inv-loop μ-loop
 add-i c = omega arith
@@ -43,7 +46,7 @@ loop-less c = omega arith
 loop-again : tie.Need-loop-again Inv-loop μ-loop
 loop-again c =
     passed-more _ _ _ (c .before .before .before .before .loop .inv) (c .before .before .before .loop-test .taken)
-    (sym (c .before .ramp-breaks .ensures) ∙ c .if1 .left)
+    (sym (tested (c .before)) ∙ c .if1 .left)
 
 returns-2 : tie.Need-returns-2 Inv-loop μ-loop
 returns-2 c = passed-end _ _ _ (c .before .loop .inv) (c .loop-test .left)
@@ -55,8 +58,7 @@ first-ramp-spec =
     Inv-loop
     μ-loop
     loop-holds
-    mul-r
-    array-copy-out-r
+    ramp-of-words-requires
     ramp-breaks-requires
     returns
     add-i

@@ -1,16 +1,27 @@
 -- `look_in` meets its contract: the flat lists say what the record says.
-use Prim.Native.Nat.{_≤_}
+use Prim.Native.Nat.{_*_, _≤_}
 use mathlib.Core.Path.{_≡_, sym, ap, _∙_, subst}
 use native.Mathlib.Omega.{arith}
 use lib.IntN.{ℤ, natAbs}
+use lib.ListN.{length}
 use mir.Syntax.{w64}
 use mir.Val.{toZ, ofZ}
 use mir.ValLaws.{toZ-ofZ}
-use Rattle.group.specs.Numbers.{dayFits, factorMost, gridsMost}
+use Rattle.group.specs.declared.Group.{Group}
+use Rattle.group.specs.Numbers.{dayFits, factorMost}
+use Rattle.abi.specs.Abi.{groupOfWords}
+use Rattle.numbers.specs.Lists.{at}
+use Rattle.choice.specs.Rect.{rectHolds}
+use Rattle.choice.specs.Choice.{chosen}
+use Rattle.flat.specs.Frames.{frameAt}
 use Rattle.judge.proofs.Accepted.{accepted, accepted-head}
 use Rattle.day.specs.Day.{factorOf}
+use Rattle.day.specs.Flat.{factorIn}
 use Rattle.day.proofs.DayLaws.{factor-bound}
-use Rattle.lookup.proofs.BridgeLaws.{told-most, told-none, told-placed, told-listed, told-fix}
+use Rattle.lookup.specs.Lookup.{fixAt}
+use Rattle.lookup.specs.Flat.{offsetIn, rampRows, RampsFit}
+use Rattle.lookup.proofs.BridgeLaws.{told-chosen, told-fix}
+use Rattle.lookup.proofs.RampLaws.{rows-fit, rows-factor}
 use borrow.Author.Needs.{needs}
 use Rattle.lookup.proofs.look_in.Statement.{statement}
 use Rattle.lookup.proofs.look_in.Tie as tie
@@ -21,56 +32,72 @@ lon-from-least-requires c κs = search needs
 lat-from-least-requires : tie.Need-lat-from-least-requires
 lat-from-least-requires c κs = search needs
 
+grid-count-requires : tie.Need-grid-count-requires
+grid-count-requires c κs = search needs
+
+-- at the start: the group that the numbers stand for
+module _ (s : tie.Start) where
+  abbrev g : Group
+  g = groupOfWords (s .args .words .now)
+
+  few : g .grids * 7 ≤ length (s .args .frames .now)
+  few = omega (arith, accepted-head g (s .pre .0 .accepted) .grids, s .pre .1 .room .frames-room)
+
 chosen-flat-requires : tie.Need-chosen-flat-requires
 chosen-flat-requires c κs =
-    let s = c .before .before .before .before in let n = accepted-head (s .args .t1) (s .pre .0 .accepted) .grids in
-    record { few = n; sides-room = omega (arith, s .pre .2); ranks-room = omega (arith, s .pre .3) }
+    let s = c .before .before .before .before .before .before in let n = accepted-head (g s) (s .pre .0 .accepted) .grids in let e = c .grid-count .ensures in
+    let r = s .pre .1 .room .room in
+    record { few = omega (arith, n, e); sides-room = omega (arith, n, e, r .sides-room); ranks-room = omega (arith, n, e, r .ranks-room) }
 
-abbrev entry : tie.After-chosen-flat → tie.Start
-entry c = c .before .before .before .before .before
-
-most : (c : tie.After-chosen-flat) → c .chosen-flat .result ≤ gridsMost
-most c = told-most (entry c .args .t1) (entry c .args .nodes .now) (entry c .args .point) (entry c .args .day) (entry c .pre .0) _ _ (entry c .pre .1) (c .before .before .lon-from-least .ensures) (c .before .lat-from-least .ensures) _ (c .chosen-flat .ensures)
-
-returns : tie.Need-returns
-returns c =
-    let q = c .before in
-    told-none (entry q .args .t1) (entry q .args .nodes .now) (entry q .args .point) (entry q .args .day) (entry q .pre .0) _ _ (entry q .pre .1) (q .before .before .lon-from-least .ensures) (q .before .lat-from-least .ensures) _ (q .chosen-flat .ensures) (c .if1 .taken)
+ramp-count-requires : tie.Need-ramp-count-requires
+ramp-count-requires c κs = search needs
 
 factor-on-requires : tie.Need-factor-on-requires
 factor-on-requires c κs =
-    let s = entry (c .before) in (s .pre .0 .accepted, ap dayFits (toZ-ofZ w64 (s .args .day) (s .fits .day)) ∙ s .pre .0 .day)
-
-factor : (c : tie.After-factor-on) → let s = entry (c .before .before) in
-    toZ w64 (ofZ w64 (c .factor-on .result)) ≡ factorOf (s .args .t1 .ramp) (s .args .t1 .ramps) (s .args .day)
-factor c =
-    let s = entry (c .before .before) in
-    toZ-ofZ w64 (c .factor-on .result) (record { sfits = c .factor-on .ok }) ∙ c .factor-on .ensures
-    ∙ ap (factorOf (s .args .t1 .ramp) (s .args .t1 .ramps)) (toZ-ofZ w64 (s .args .day) (s .fits .day))
-
-sub-at : tie.Need-sub-at
-sub-at c = search needs
-
-mul-g : tie.Need-mul-g
-mul-g c = omega (arith, most (c .before .before), c .before .if1 .left)
-
-element-copy-out-g : tie.Need-element-copy-out-g
-element-copy-out-g c = omega (arith, most (c .before .before), c .before .if1 .left)
-
-fix-grid-requires : tie.Need-fix-grid-requires
-fix-grid-requires c κs =
-    let q = c .before .before .before in let s = entry q in let g = s .args .t1 in let p = s .pre .0 .accepted in (
-      told-placed (entry q .args .t1) (entry q .args .nodes .now) (entry q .args .point) (entry q .args .day) (entry q .pre .0) _ _ (entry q .pre .1) (q .before .before .lon-from-least .ensures) (q .before .lat-from-least .ensures) _ (q .chosen-flat .ensures) (c .before .before .if1 .left),
-      told-listed (entry q .args .t1) (entry q .args .nodes .now) (entry q .args .point) (entry q .args .day) (entry q .pre .0) _ _ (entry q .pre .1) (q .before .before .lon-from-least .ensures) (q .before .lat-from-least .ensures) _ (q .chosen-flat .ensures) (c .before .before .if1 .left),
-      subst (λ (z : ℤ). natAbs z ≤ factorMost) (sym (factor (c .before)))
-          (factor-bound (g .ramp) (s .args .day) (g .ramps) (accepted-head g p .ramps) (accepted g p .ramp)),
+    let s = c .before .before .before .before .before .before .before .before .before in let a = s .pre .0 .accepted in let e = c .ramp-count .ensures in (
+      (search needs),
+      omega (arith, accepted-head (g s) a .ramps, e),
+      subst (RampsFit (s .args .words .now)) (sym e) (rows-fit (s .args .words .now) a),
+      ap dayFits (toZ-ofZ w64 (s .args .day) (s .fits .day)) ∙ s .pre .0 .day,
     )
 
-returns-2 : tie.Need-returns-2
-returns-2 c =
-    let q = c .before .before .before .before in
-    c .fix-grid .ensures
-    ∙ told-fix (entry q .args .t1) (entry q .args .nodes .now) (entry q .args .point) (entry q .args .day) (entry q .pre .0) _ _ (entry q .pre .1) (q .before .before .lon-from-least .ensures) (q .before .lat-from-least .ensures) _ (q .chosen-flat .ensures) (c .before .before .before .if1 .left) (factor (c .before .before))
+parameter-count-requires : tie.Need-parameter-count-requires
+parameter-count-requires c κs = search needs
+
+-- behind the factor
+module _ (c : tie.After-factor-on) where
+  abbrev entry : tie.Start
+  entry = c .before .before .before .before .before .before .before .before .before .before
+
+  factor : toZ w64 (ofZ w64 (c .factor-on .result)) ≡ factorOf (g entry .ramp) (g entry .ramps) (entry .args .day)
+  factor =
+      toZ-ofZ w64 (c .factor-on .result) (record { sfits = c .factor-on .ok }) ∙ c .factor-on .ensures
+      ∙ (λ i. factorIn (rampRows (entry .args .words .now)) (c .before .ramp-count .ensures i) (toZ-ofZ w64 (entry .args .day) (entry .fits .day) i))
+      ∙ rows-factor (entry .args .words .now) (entry .pre .0 .accepted) (entry .args .day)
+
+  choice : c .before .before .before .chosen-flat .result
+      ≡ chosen (λ k. rectHolds (entry .args .sides .now) k (c .before .before .before .before .before .before .lon-from-least .result) (c .before .before .before .before .before .lat-from-least .result)) (at (entry .args .ranks .now)) (g entry .grids)
+  choice =
+      c .before .before .before .chosen-flat .ensures
+      ∙ ap (chosen (λ k. rectHolds (entry .args .sides .now) k (c .before .before .before .before .before .before .lon-from-least .result) (c .before .before .before .before .before .lat-from-least .result)) (at (entry .args .ranks .now)))
+      (c .before .before .before .before .grid-count .ensures)
+
+fix-chosen-requires : tie.Need-fix-chosen-requires
+fix-chosen-requires c κs =
+    let q = c .before in let s = entry q in let a = s .pre .0 .accepted in (
+      rw (c .parameter-count .ensures)
+          (told-chosen (g s) (s .args .nodes .now) (s .args .point) (s .args .day) (s .pre .0) _ _ _ (s .pre .1 .flat) (q .before .before .before .before .before .before .lon-from-least .ensures) (q .before .before .before .before .before .lat-from-least .ensures) _ (choice q) (few s)),
+      subst (λ (z : ℤ). natAbs z ≤ factorMost) (sym (factor q))
+          (factor-bound (g s .ramp) (s .args .day) (g s .ramps) (accepted-head (g s) a .ramps) (accepted (g s) a .ramp)),
+    )
+
+returns : tie.Need-returns
+returns c =
+    let p = c .before in let q = p .before in let s = entry q in
+    let x = q .before .before .before .before .before .before .lon-from-least .result in let y = q .before .before .before .before .before .lat-from-least .result in
+    c .fix-chosen .ensures
+    ∙ (λ i. fixAt (q .before .before .before .chosen-flat .result) (λ k. offsetIn (frameAt (s .args .frames .now) k) (p .parameter-count .ensures i) x y) (s .args .nodes .now) (toZ w64 (ofZ w64 (q .factor-on .result))))
+    ∙ told-fix (g s) (s .args .nodes .now) (s .args .point) (s .args .day) (s .pre .0) _ _ _ (s .pre .1 .flat) (q .before .before .before .before .before .before .lon-from-least .ensures) (q .before .before .before .before .before .lat-from-least .ensures) _ (choice q) (factor q)
 
 pub look-in-spec : {M : Type 1} → statement M
 look-in-spec =
@@ -78,11 +105,10 @@ look-in-spec =
     (tie.spec
     lon-from-least-requires
     lat-from-least-requires
+    grid-count-requires
     chosen-flat-requires
-    returns
+    ramp-count-requires
     factor-on-requires
-    sub-at
-    mul-g
-    element-copy-out-g
-    fix-grid-requires
-    returns-2)
+    parameter-count-requires
+    fix-chosen-requires
+    returns)

@@ -1,63 +1,29 @@
--- `lookup` meets its contract.
-use mathlib.Core.Path.{sym, ap, _∙_}
-use native.Mathlib.Omega.{arith}
+-- `lookup` meets its contract: a record that is stored as numbers is looked up as it was.
+use mathlib.Core.Path.{_∙_}
 use mir.Syntax.{w64}
 use mir.ValLaws.{toZ-ofZ}
-use Rattle.lookup.specs.Lookup.{lookedIn}
-use Rattle.lookup.proofs.StageLaws.{looked-group, looked-accepted}
+use Rattle.abi.specs.Abi.{groupOfWords}
+use Rattle.abi.proofs.ShapeLaws.{machine-shaped}
+use Rattle.judge.proofs.StoredLaws.{stored-told}
+use Rattle.fix.specs.declared.Lookup.the-variants as L
+use Rattle.lookup.specs.Lookup.{lookedIn, looked}
 use borrow.Author.Needs.{needs}
 use Rattle.lookup.proofs.lookup.Statement.{statement}
 use Rattle.lookup.proofs.lookup.Tie as tie
 
-slice-aggregate-judge-into : tie.Need-slice-aggregate-judge-into
-slice-aggregate-judge-into c = search needs
+numbers-of-requires : tie.Need-numbers-of-requires
+numbers-of-requires c κs = search needs
 
-slice-aggregate-judge-into-2 : tie.Need-slice-aggregate-judge-into-2
-slice-aggregate-judge-into-2 c = search needs
-
-judge-into-requires : tie.Need-judge-into-requires
-judge-into-requires c κs = search needs
-
-enum-known-verdict : tie.Need-enum-known-verdict
-enum-known-verdict c = search needs
-
-enum-told : tie.Need-enum-told
-enum-told c = search needs
-
-slice-aggregate-look-accepted : tie.Need-slice-aggregate-look-accepted
-slice-aggregate-look-accepted c = search needs
-
-slice-aggregate-look-accepted-2 : tie.Need-slice-aggregate-look-accepted-2
-slice-aggregate-look-accepted-2 c = search needs
-
-look-accepted-requires : tie.Need-look-accepted-requires
-look-accepted-requires c κs =
-    let j = c .before .before .before .before .before .before .judge-into in let v = c .before .before .enum-told .given .1 in
-    (sym (j .ensures .0) ∙ v, j .ensures .1 v, omega (arith, j .kept .1 .0), omega (arith, j .kept .1 .1 .0))
+look-words-requires : tie.Need-look-words-requires
+look-words-requires c κs = search needs
 
 returns : tie.Need-returns
+unfolding looked
 returns c =
-    let a = c .before .before .before .before .before .before .before .before .args in
-    sym (looked-group (a .group) (a .nodes .now) (a .point) (a .day) _ (sym (c .before .before .before .before .before .judge-into .ensures .0) ∙ c .before .verdict .given .1))
-
-returns-2 : tie.Need-returns-2
-returns-2 c =
-    let s = c .before .before .before .before .before .before .before .before .before .before in let a = s .args in
-    c .look-accepted .ensures
-    ∙ ap (lookedIn (a .group) (a .nodes .now) (a .point)) (toZ-ofZ w64 (a .day) (s .fits .day))
-    ∙ sym (looked-accepted (a .group) (a .nodes .now) (a .point) (a .day) (sym (c .before .before .before .before .before .before .before .judge-into .ensures .0) ∙ c .before .before .before .enum-told .given .1))
+    let s = c .before .before .before in let a = s .args in
+    c .look-words .ensures
+    ∙ (λ i. looked (groupOfWords (c .before .before .numbers-of .ensures i)) (a .nodes .now) (a .point) (toZ-ofZ w64 (a .day) (s .fits .day) i))
+    ∙ stored-told (a .group) (machine-shaped (a .group) _ (s .good .0)) L.Refused (λ g. lookedIn g (a .nodes .now) (a .point) (a .day))
 
 pub lookup-spec : {M : Type 1} → statement M
-lookup-spec =
-    tie.close
-    (tie.spec
-    slice-aggregate-judge-into
-    slice-aggregate-judge-into-2
-    judge-into-requires
-    enum-known-verdict
-    enum-told
-    slice-aggregate-look-accepted
-    slice-aggregate-look-accepted-2
-    look-accepted-requires
-    returns
-    returns-2)
+lookup-spec = tie.close (tie.spec numbers-of-requires look-words-requires returns)
