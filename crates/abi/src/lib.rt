@@ -27,7 +27,7 @@ const NAME_WORDS: usize = NAME_MOST / 8;
 
 pub const HEAD_WORDS: usize = 9;
 
-const RAMP_WORDS: usize = 4;
+pub const RAMP_WORDS: usize = 4;
 
 const GRID_WORDS: usize = 12;
 

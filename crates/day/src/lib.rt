@@ -9,7 +9,8 @@ ghost use lib.ListN.{length};
 ghost use lib.IntN.{pos, _+ℤ_, natAbs};
 ghost use Rattle.group.specs.Numbers.{rampsMost, dayMost, dayFits, rampFactorMost, factorMost, valueMost};
 ghost use Rattle.group.specs.Limits.{rampFits};
-ghost use Rattle.flat.specs.Ramps.{rampWidth, rampIn};
+ghost use Rattle.abi.specs.Words.{rampWords};
+ghost use Rattle.flat.specs.Ramps.{rampIn};
 ghost use Rattle.day.specs.Flat.{factorIn};
 ghost use Rattle.day.specs.Day.{rampFactor, resultOf};
 ghost use Rattle.day.specs.Unsigned.{rampStep};
@@ -52,7 +53,7 @@ fn ramp_factor(p: Ramp, day: i64) -> u64
 
 // The sum of the factors of the first n ramps of a flat list on a day, in millionths; the factor 1 if there are none.
 pub fn day_factor(ramps: &[i64], n: usize, day: i64) -> i64
-    requires { ⌜ (n ≤ rampsMost) × (n * rampWidth ≤ length (now ramps))
+    requires { ⌜ (n ≤ rampsMost) × (n * rampWords ≤ length (now ramps))
         × ((i : ℕ) → i < n → rampFits (rampIn (now ramps) i) ≡ true) × (dayFits day ≡ true) ⌝ }
     ensures { λ r. ⌜ r ≡ factorIn (now (ramps .entry)) n day ⌝ }
 {

@@ -1,13 +1,10 @@
--- Ramps in a flat list of signed numbers, four each: A, S0, B, S1.
+-- Ramps in a flat list of signed numbers, as they stand among those of a group: A, S0, B, S1 for each.
 use Prim.Native.Nat.{ℕ, _+_, _*_}
 use mathlib.Core.List.{List}
 use lib.IntN.{ℤ, pos}
 use lib.ListN.{getD}
 use Rattle.group.specs.declared.Ramp.{Ramp}
-
--- how many numbers a ramp has
-abbrev pub rampWidth : ℕ
-rampWidth = 4
+use Rattle.abi.specs.Words.{rampWords}
 
 -- the number at i, from 0
 abbrev pub signedAt : List ℤ → ℕ → ℤ
@@ -17,8 +14,8 @@ signedAt ramps i = getD ramps i (pos 0)
 unfoldable pub rampIn : List ℤ → ℕ → Ramp
 rampIn ramps k =
     record {
-      a = signedAt ramps (k * rampWidth);
-      s0 = signedAt ramps (k * rampWidth + 1);
-      b = signedAt ramps (k * rampWidth + 2);
-      s1 = signedAt ramps (k * rampWidth + 3);
+      a = signedAt ramps (k * rampWords);
+      s0 = signedAt ramps (k * rampWords + 1);
+      b = signedAt ramps (k * rampWords + 2);
+      s1 = signedAt ramps (k * rampWords + 3);
     }

@@ -173,7 +173,7 @@ fn list_grid(
     extent::grid_inside(g, np)
 }
 
-// The first of i + 1 grids that is not within the limits of 4, if of i it was `edge`, and whether the last is.
+// The first of i + 1 grids outside the limits of 4, i + 1 if none is: `edge` is that of the first i, and the last is inside or not.
 fn edge_after(edge: u64, i: u64, inside: bool) -> u64
     requires { ⌜ i < gridsMost ⌝ }
     ensures { λ r. ⌜ r ≡ cond (eqb edge i && inside) (i + 1) edge ⌝ }

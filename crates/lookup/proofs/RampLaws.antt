@@ -10,10 +10,10 @@ use Rattle.group.specs.declared.Verdict.the-variants.{Accepted}
 use Rattle.group.specs.Numbers.{rampsMost}
 use Rattle.group.specs.Record.{rampAt}
 use Rattle.group.specs.Limits.{rampFits}
-use Rattle.abi.specs.Words.{headWords, gridsFrom, rampIndex}
+use Rattle.abi.specs.Words.{headWords, rampWords, gridsFrom, rampIndex}
 use Rattle.abi.specs.Abi.{rampOfWords, groupOfWords}
 use Rattle.abi.proofs.EntryLaws.{ramp-of-words}
-use Rattle.flat.specs.Ramps.{rampWidth, signedAt, rampIn}
+use Rattle.flat.specs.Ramps.{signedAt, rampIn}
 use Rattle.judge.specs.Judge.{judged}
 use Rattle.judge.proofs.Accepted.{accepted, accepted-head}
 use Rattle.day.specs.Day.{factorOf}
@@ -22,7 +22,7 @@ use Rattle.day.proofs.DayLaws.{flat-factor}
 use Rattle.lookup.specs.Flat.{rampRows, RampsFit}
 
 module _ (ns : List ℤ) where
-  number : (k j i : ℕ) → k < rampsMost → j < rampWidth → i ≡ k * rampWidth + j → signedAt (rampRows ns) i ≡ getD ns (rampIndex k j) (pos 0)
+  number : (k j i : ℕ) → k < rampsMost → j < rampWords → i ≡ k * rampWords + j → signedAt (rampRows ns) i ≡ getD ns (rampIndex k j) (pos 0)
   number k j i l m e =
       getD-take (gridsFrom - headWords) (drop headWords ns) i (pos 0) (omega arith) ∙ getD-drop headWords ns i (pos 0)
       ∙ ap (λ (n : ℕ). getD ns n (pos 0)) (omega arith)
@@ -30,10 +30,10 @@ module _ (ns : List ℤ) where
   row : (k : ℕ) → k < rampsMost → rampIn (rampRows ns) k ≡ rampAt (groupOfWords ns) k
   unfolding rampIn rampOfWords
   row k l =
-      let a = number k 0 (k * rampWidth) l (omega arith) (omega arith) in
-      let s0 = number k 1 (k * rampWidth + 1) l (omega arith) (omega arith) in
-      let b = number k 2 (k * rampWidth + 2) l (omega arith) (omega arith) in
-      let s1 = number k 3 (k * rampWidth + 3) l (omega arith) (omega arith) in
+      let a = number k 0 (k * rampWords) l (omega arith) (omega arith) in
+      let s0 = number k 1 (k * rampWords + 1) l (omega arith) (omega arith) in
+      let b = number k 2 (k * rampWords + 2) l (omega arith) (omega arith) in
+      let s1 = number k 3 (k * rampWords + 3) l (omega arith) (omega arith) in
       (λ i. record { a = a i; s0 = s0 i; b = b i; s1 = s1 i }) ∙ sym (ramp-of-words ns k l)
 
   module _ (e : judged (groupOfWords ns) ≡ Accepted) where
