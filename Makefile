@@ -3,7 +3,7 @@
 # make demo     the examples through the command line
 # make check    the quick round: every crate proved and every program run, without the must-fail edits
 # make test     the gate: every test there is
-# make bench    times against plain C and plain Rust, and instructions where valgrind is installed
+# make bench    times against plain C and plain Rust, instructions where valgrind is installed, and times against PROJ where that is
 # make clean    removes build/ and target/: the next make proves every crate anew
 # make help     this list
 .PHONY: all library programs demo check test bench clean help tools always
@@ -53,6 +53,9 @@ test: | tools
 bench: all
 	@build/bench
 	@if command -v valgrind > /dev/null; then echo; build/bench --instructions; else echo 'make: no valgrind: instructions are not counted'; fi
+	@if pkg-config --exists proj 2> /dev/null; then \
+		cc -std=c99 -O3 -Iinclude host/c/proj.c build/libbulhyemik.a $$(pkg-config --cflags --libs proj) -lm -o build/proj && echo && build/proj; \
+	else echo 'make: no PROJ: nothing is timed against it'; fi
 
 clean:
 	@rm -rf build target

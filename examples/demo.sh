@@ -69,6 +69,9 @@ demo() {
         'bulhyemik inforce harbour.txt -14390000 -14370000 180010000 180020001'
     ask 'One point on five days, then eight places on day 200: the silt in steps of 2 to the power -10 metre.' \
         'bulhyemik lookup harbour.txt harbour.nodes <harbour.points'
+    ask 'A whole exercise, 10,000 positions from west to east: which grids are used, one after the other?' \
+        "awk 'BEGIN { for (k = 0; k < 10000; k++) print 4 * k - 14400000 \"\\t180015000\\t200\" }' |
+  bulhyemik lookup harbour.txt harbour.nodes | cut -f 5 | uniq"
 }
 
 demo >transcript

@@ -16,13 +16,13 @@
  * - It returns the number of the refusal, BULHYEMIK_ACCEPTED (0) if the call is accepted, and writes the refusal's place to
  *   `*place`: a line, a grid from 1 or a position from 1, and 0 if none is named. Where several refusals apply, the one that
  *   comes first in the function's list counts. (bulhyemik_version and bulhyemik_field refuse nothing and have no place.)
- * - Lent memory: `out`, `nodes` and the group to be read are unchanged after every refusal. Place, fix, list, count, shifts
- *   and screen are the handed-back answer: every call writes them whole, and beside a refusal all but the place are 0. What a
- *   call takes as const is only read.
+ * - Lent memory: `out`, `nodes`, `results` and the group to be read are unchanged after every refusal of the call. Place, fix,
+ *   list, count, shifts and screen are the handed-back answer: every call writes them whole, and beside a refusal all but the
+ *   place are 0. What a call takes as const is only read.
  * - It is total: any numbers, any bytes and any lengths get the answer that this page gives. Nothing is asked of the caller
  *   but valid memory: a pointer that is not NULL, aligned for its type, good for its type or for the length beside it, and
- *   written memory that overlaps no other argument. `text`, `nodes`, `floats`, `out` and `line` may be NULL where the length
- *   beside them is 0. A length counts elements, not bytes.
+ *   written memory that overlaps no other argument. `text`, `nodes`, `points`, `results`, `floats`, `out` and `line` may be NULL
+ *   where the length beside them is 0. A length counts elements, not bytes.
  * - It keeps no memory, allocates none and has no state; calls may run at once on different threads. It needs at most 96 KiB
  *   of stack.
  * - bulhyemik_screen_answer and bulhyemik_screen_record want the processor to round to nearest, as it does unless fesetround
@@ -48,7 +48,7 @@ extern "C" {
 
 /* The version of this page: major * 1,000,000 + minor * 1,000 + patch; bulhyemik_version answers the library's. An added call
  * raises the minor number; a changed struct, limit or meaning raises the major one. */
-#define BULHYEMIK_VERSION 1000002
+#define BULHYEMIK_VERSION 1001000
 
 /* The library takes the bytes of a name eight at a time, the first as the lowest of a number. */
 #if defined(__BYTE_ORDER__) && defined(__ORDER_LITTLE_ENDIAN__)
@@ -71,7 +71,7 @@ enum bulhyemik_refusal {
     BULHYEMIK_BAD_DAY = 9,     /* day outside the limit; 0 */
     BULHYEMIK_BAD_AREA = 10,   /* area: a side outside the limits, west above east or south above north; 0 */
     BULHYEMIK_BAD_NODE = 11,   /* node or float beyond 4,000,000 steps; loading: first position, from 1; else 0 */
-    BULHYEMIK_BAD_LENGTH = 12, /* lent output too short (writing) or of another length (loading); 0 */
+    BULHYEMIK_BAD_LENGTH = 12, /* lent output too short (writing) or of another length (loading, many points); 0 */
     BULHYEMIK_FEW_NODES = 13   /* node list ends before some grid's range does; lowest such grid */
 };
 
@@ -130,6 +130,19 @@ typedef struct {
     int64_t result[BULHYEMIK_MOST_PARAMETERS]; /* in steps; a missing parameter is 0 */
 } bulhyemik_fix;
 
+/* A point on a day, one of many that are looked up at once. */
+typedef struct {
+    int64_t lon, lat; /* in mas */
+    int64_t day;
+} bulhyemik_position;
+
+/* The answer to one point of many: what bulhyemik_lookup returns, its place, and what it finds. */
+typedef struct {
+    uint64_t number;   /* the point's own refusal, 6, 7, 8, 9 or 11, or 0 */
+    uint64_t place;    /* 0, since none of these names one */
+    bulhyemik_fix fix; /* zeros beside a refusal */
+} bulhyemik_answer;
+
 /* A grid in force, and of the area's coordinates at which it is chosen the southmost, of these the westmost. */
 typedef struct {
     int64_t grid;     /* its number, from 1 */
@@ -187,6 +200,14 @@ BULHYEMIK_WORD(group, grid, 41);
 BULHYEMIK_WORDS(fix, 4);
 BULHYEMIK_WORD(fix, grid, 0);
 BULHYEMIK_WORD(fix, result, 1);
+BULHYEMIK_WORDS(position, 3);
+BULHYEMIK_WORD(position, lon, 0);
+BULHYEMIK_WORD(position, lat, 1);
+BULHYEMIK_WORD(position, day, 2);
+BULHYEMIK_WORDS(answer, 6);
+BULHYEMIK_WORD(answer, number, 0);
+BULHYEMIK_WORD(answer, place, 1);
+BULHYEMIK_WORD(answer, fix, 2);
 BULHYEMIK_WORDS(entry, 3);
 BULHYEMIK_WORD(entry, grid, 0);
 BULHYEMIK_WORD(entry, lon, 1);
@@ -297,6 +318,26 @@ void bulhyemik_field(const uint8_t *line, size_t line_len, uint64_t number, bulh
  */
 uint64_t bulhyemik_lookup(const bulhyemik_group *group, const int32_t *nodes, size_t nodes_len,
                           int64_t lon, int64_t lat, int64_t day, bulhyemik_fix *fix, uint64_t *place);
+
+/* Looks many points up, each on its own day: result k becomes what bulhyemik_lookup answers for point k, a refusal included. The
+ * group is judged once, and a day's factor is worked out once for points in a row that share the day. No points is a valid call.
+ *
+ * Units and limits: as of bulhyemik_lookup; there may be any number of points.
+ * Refusals, in this order: 2, 3, 4, 5 as of bulhyemik_judge; 12 at 0 if results_len is not points_len; 13 at the lowest grid
+ * whose range ends behind the node list. A point that is refused, by 6, 9, 7, 8 or 11 in this order, does not refuse the call.
+ * Lent memory: `*group`, `nodes` and `points` are read; all of `results` is filled where the call is accepted, with zeros beside
+ * the number of a refused point, and none of it after a refusal of the call.
+ *
+ *     static const bulhyemik_position points[3] = {{5, 5, 200}, {5, 5, 150}, {21, 10, 150}};
+ *     bulhyemik_answer results[3];
+ *     int k;
+ *     if (bulhyemik_lookup_many(&group, nodes, 6, points, 3, results, 3, &place) == BULHYEMIK_ACCEPTED)
+ *         for (k = 0; k < 3; k++)
+ *             printf("point %d: number %d, %ld steps\n", k, (int)results[k].number, (long)results[k].fix.result[0]);
+ */
+uint64_t bulhyemik_lookup_many(const bulhyemik_group *group, const int32_t *nodes, size_t nodes_len,
+                               const bulhyemik_position *points, size_t points_len,
+                               bulhyemik_answer *results, size_t results_len, uint64_t *place);
 
 /* Lists the grids that are chosen at one or more coordinates of an area: all points of whole mas from west to east and from
  * south to north, sides included. An area that no grid meets has an empty list, which is no refusal.

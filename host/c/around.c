@@ -13,7 +13,7 @@
 #include <xmmintrin.h>
 #endif
 
-enum { STACK = 1 << 18, STATED = 96 * 1024, PAINT = 0xa5, FLOATS = 64, INPUTS = 2000 };
+enum { STACK = 1 << 18, STATED = 96 * 1024, PAINT = 0xa5, FLOATS = 64, POINTS = 4, INPUTS = 2000 };
 
 static int failures = 0;
 
@@ -45,23 +45,25 @@ static void make_inputs(void) {
 typedef struct {
     bulhyemik_group group;
     bulhyemik_fix fix;
+    bulhyemik_answer results[POINTS];
     bulhyemik_in_force list;
     bulhyemik_part part;
     bulhyemik_screen screen;
     double shifts[3];
     int32_t loaded[FLOATS];
     uint8_t text[BULHYEMIK_HEADER_BYTES];
-    uint64_t number[9], place[9], count;
+    uint64_t number[10], place[10], count;
 } answers;
 
 typedef struct {
     int64_t lon, lat, day, quantum;
+    bulhyemik_position points[POINTS];
     float floats[FLOATS];
 } input;
 
-enum { CALLS = 9 };
-static const char *const NAMES[CALLS] = {"read_header",    "judge",      "write_header",  "field",        "lookup",
-                                         "grids_in_force", "load_nodes", "screen_answer", "screen_record"};
+enum { CALLS = 10 };
+static const char *const NAMES[CALLS] = {"read_header",    "judge",      "write_header",  "field",         "lookup",
+                                         "grids_in_force", "load_nodes", "screen_answer", "screen_record", "lookup_many"};
 
 /* One call; the first fills the group of the others. */
 static void call(int which, const input *in, answers *out) {
@@ -84,6 +86,7 @@ static void call(int which, const input *in, answers *out) {
         *number = bulhyemik_screen_record(in->lon, in->lat, in->quantum, 3, out->number[4], out->place[4], &out->fix,
                                           &out->screen, place);
         break;
+    case 9: *number = bulhyemik_lookup_many(group, nodes, 16384, in->points, POINTS, out->results, POINTS, place); break;
     }
 }
 
@@ -156,6 +159,11 @@ static input random_input(void) {
     in.lat = (int64_t)(random_bits() % 7000);
     in.day = (int64_t)(random_bits() % 300);
     in.quantum = (int64_t)(random_bits() % 21);
+    for (k = 0; k < POINTS; k++) {
+        in.points[k].lon = in.lon + k;
+        in.points[k].lat = in.lat;
+        in.points[k].day = in.day + k / 2;
+    }
     for (k = 0; k < FLOATS; k++) {
         uint32_t bits = (uint32_t)random_bits();
         /* below 2 in size, so that it loads at every Q, or any float at all */

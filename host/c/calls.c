@@ -228,6 +228,95 @@ static void lookup(void) {
     lookup_refused(&group, NODES, 6, inside, BULHYEMIK_BAD_NUMBER, 3);
 }
 
+static bulhyemik_position position(int64_t lon, int64_t lat, int64_t day) {
+    bulhyemik_position at;
+    at.lon = lon;
+    at.lat = lat;
+    at.day = day;
+    return at;
+}
+
+/* Looks five points up at once and each by itself; then others, in part, into results that hold the answers to these. */
+static void many_points(const bulhyemik_group *group, const int32_t *nodes, size_t length) {
+    bulhyemik_position points[5];
+    bulhyemik_answer results[6];
+    uint64_t place = 77, at;
+    bulhyemik_fix fix;
+    int k, turn;
+    points[0] = position(5, 5, 200);
+    points[1] = position(0, 10, 133);
+    points[2] = position(21, 10, 133);
+    points[3] = position(0, 324000001, 1000001);
+    points[4] = position(20, 10, -1000001);
+    memset(results, 0xa5, sizeof results);
+    for (turn = 0; turn < 2; turn++) {
+        EXPECT(bulhyemik_lookup_many(group, nodes, length, points, 5, results, 5, &place) == BULHYEMIK_ACCEPTED && place == 0);
+        for (k = 0; k < 5; k++) {
+            const bulhyemik_position *p = &points[k];
+            EXPECT(bulhyemik_lookup(group, nodes, length, p->lon, p->lat, p->day, &fix, &at) == results[k].number);
+            EXPECT(results[k].place == at && memcmp(&results[k].fix, &fix, sizeof fix) == 0);
+        }
+        EXPECT(all(&results[5], sizeof results[5], 0xa5));
+        points[2] = points[0];
+        points[0] = points[4];
+        place = 77;
+    }
+}
+
+/* A call for many points that is refused: the results are as they were. */
+static void many_refused(const bulhyemik_group *group, const int32_t *nodes, size_t length, size_t points_len,
+                         size_t results_len, uint64_t number, uint64_t where) {
+    bulhyemik_position points[2];
+    bulhyemik_answer results[3];
+    uint64_t place = 77;
+    points[0] = position(5, 5, 200);
+    points[1] = position(0, 324000001, 0);
+    memset(results, 0xa5, sizeof results);
+    EXPECT(bulhyemik_lookup_many(group, nodes, length, points, points_len, results, results_len, &place) == number);
+    EXPECT(place == where && all(results, sizeof results, 0xa5));
+}
+
+static void lookup_many(void) {
+    bulhyemik_group group = dock();
+    bulhyemik_position at = position(5, 5, 150);
+    bulhyemik_answer answer;
+    double shifts[3];
+    int32_t nodes[6];
+    uint64_t place = 77;
+    EXPECT(sizeof(bulhyemik_position) == 24 && offsetof(bulhyemik_position, lon) == 0);
+    EXPECT(offsetof(bulhyemik_position, lat) == 8 && offsetof(bulhyemik_position, day) == 16);
+    EXPECT(sizeof(bulhyemik_answer) == 48 && offsetof(bulhyemik_answer, number) == 0 && offsetof(bulhyemik_answer, place) == 8);
+    EXPECT(offsetof(bulhyemik_answer, fix) == 16 && offsetof(bulhyemik_fix, grid) == 0 && offsetof(bulhyemik_fix, result) == 8);
+    many_points(&group, NODES, 6);
+    memcpy(nodes, NODES, sizeof nodes);
+    nodes[1] = BULHYEMIK_MARK;
+    nodes[3] = 4000001;
+    many_points(&group, nodes, 6);
+    EXPECT(bulhyemik_lookup_many(&group, NODES, 6, &at, 1, &answer, 1, &place) == BULHYEMIK_ACCEPTED && place == 0);
+    EXPECT(answer.number == 0 && answer.place == 0 && answer.fix.grid == 1 && answer.fix.result[0] == 28);
+    EXPECT(bulhyemik_screen_answer(13, 1, answer.number, answer.place, &answer.fix, shifts, &place) == BULHYEMIK_ACCEPTED);
+    EXPECT(same(shifts[0], 28.0 / 8192.0));
+    place = 77;
+    EXPECT(bulhyemik_lookup_many(&group, NODES, 6, NULL, 0, NULL, 0, &place) == BULHYEMIK_ACCEPTED && place == 0);
+    place = 77;
+    EXPECT(bulhyemik_lookup_many(&group, NULL, 0, NULL, 0, NULL, 0, &place) == BULHYEMIK_FEW_NODES && place == 1);
+    many_refused(&group, NODES, 5, 2, 2, BULHYEMIK_FEW_NODES, 1);
+    many_refused(&group, NODES, 5, 2, 1, BULHYEMIK_BAD_LENGTH, 0);
+    many_refused(&group, NODES, 6, 2, 3, BULHYEMIK_BAD_LENGTH, 0);
+    many_refused(&group, NODES, 6, 2, 0, BULHYEMIK_BAD_LENGTH, 0);
+    many_refused(&group, NODES, 6, 0, 1, BULHYEMIK_BAD_LENGTH, 0);
+    group.grid[0].rank = 0;
+    many_refused(&group, NODES, 5, 2, 1, BULHYEMIK_BAD_NUMBER, 3);
+    EXPECT(bulhyemik_lookup_many(&group, NULL, 0, NULL, 0, NULL, 0, &place) == BULHYEMIK_BAD_NUMBER && place == 3);
+    group = three_grids();
+    group.grid[2].rank = 1;
+    many_refused(&group, NODES, 6, 2, 2, BULHYEMIK_SAME_RANK, 3);
+    group.grid[2].lat = 324000000;
+    many_refused(&group, NODES, 6, 2, 2, BULHYEMIK_BAD_EXTENT, 3);
+    memcpy(group.grid[2].name, "G1", 2);
+    many_refused(&group, NODES, 6, 2, 2, BULHYEMIK_SAME_NAME, 3);
+}
+
 static void grids_in_force(void) {
     bulhyemik_group group = three_grids();
     bulhyemik_in_force list;
@@ -308,6 +397,7 @@ int main(void) {
     write_header();
     field();
     lookup();
+    lookup_many();
     grids_in_force();
     load_nodes();
     screens();

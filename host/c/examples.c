@@ -55,6 +55,15 @@ static void lookup(void) {
         printf("grid %.24s: %ld steps\n", (const char *)group.grid[fix.grid - 1].name, (long)fix.result[0]);
 }
 
+static void lookup_many(void) {
+    static const bulhyemik_position points[3] = {{5, 5, 200}, {5, 5, 150}, {21, 10, 150}};
+    bulhyemik_answer results[3];
+    int k;
+    if (bulhyemik_lookup_many(&group, nodes, 6, points, 3, results, 3, &place) == BULHYEMIK_ACCEPTED)
+        for (k = 0; k < 3; k++)
+            printf("point %d: number %d, %ld steps\n", k, (int)results[k].number, (long)results[k].fix.result[0]);
+}
+
 static void grids_in_force(void) {
     bulhyemik_in_force list;
     int64_t k;
@@ -95,6 +104,7 @@ int main(void) {
     write_header();
     field();
     lookup();
+    lookup_many();
     grids_in_force();
     load_nodes();
     screen_answer();

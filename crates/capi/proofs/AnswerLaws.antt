@@ -27,18 +27,20 @@ use Rattle.inforce.specs.declared.InForce.{InForce}
 use Rattle.inforce.specs.InForce.{blankEntry, inForceOf}
 use Rattle.group.specs.Refusals.{refusal, noRefusal, verdictRefusal, lentAfter}
 use Rattle.group.proofs.RefusalLaws.{no-acceptance, lent-new, lent-kept}
-use Rattle.fix.specs.Answers.{lookupRefusal}
 use Rattle.judge.specs.Judge.{judged}
+use Rattle.lookup.specs.declared.Answer.{Answer as Found}
+use Rattle.lookup.specs.Answer.{answerRecord, storedRecord}
 use Rattle.lookup.specs.Lookup.{looked}
+use Rattle.lookup.proofs.AnswerLaws.{answer-stored}
 use Rattle.screen.specs.declared.ScreenAnswer.{ScreenAnswer}
 use Rattle.screen.specs.declared.ScreenRecord.{ScreenRecord}
 use Rattle.screen.specs.Screen.{screenRefusal, shiftsOf, answerOf, recordOf}
 use Rattle.numbers.specs.Order.{countOf}
 use Rattle.abi.specs.Abi.{groupOfWords, numbersOf, countAt, numberAt, stored, joined}
 use Rattle.abi.proofs.ListLaws.{sets-append, sets-whole, length-joined}
-use Rattle.capi.specs.Answers.{left, judgeAnswer, readOf, readAnswer, storedFound, foundAnswer, pointOf, lookupAnswer, lentText, writtenAnswer, writeAnswer, loadedBy, loadAnswer}
+use Rattle.capi.specs.Answers.{left, judgeAnswer, readOf, readAnswer, fixNumbers, foundAnswer, pointOf, lookupAnswer, lentText, writtenAnswer, writeAnswer, loadedBy, loadAnswer}
 use Rattle.capi.specs.InForce.{areaOf, entriesFrom, entryWords, listWords, storedEntry, storedList, listAnswer, inForceAnswer}
-use Rattle.capi.proofs.SmallLaws.{found-stored, in-force-stored}
+use Rattle.capi.proofs.SmallLaws.{in-force-stored}
 use Rattle.capi.specs.Screen.{lookupOf, shownOf, shiftsAnswer, recordFloats, recordAnswer}
 
 -- a choice whose test is known
@@ -57,12 +59,12 @@ module _ (l : List ℤ) where
   unfolding judgeAnswer
   judge-told v r a b = b ∙ ap verdictRefusal a
 
-  pub lookup-told : (nodes : List ℤ) (lon lat day x y d : ℤ) (f : Lookup) (r : Refusal) (ns : List ℤ)
-      → x ≡ lon → y ≡ lat → d ≡ day → f ≡ looked g nodes (pointOf x y) d → r ≡ lookupRefusal f → ns ≡ storedFound f
-      → left (r .number) (r .place) ns ≡ lookupAnswer l nodes lon lat day
+  pub lookup-told : (nodes : List ℤ) (lon lat day x y d : ℤ) (f : Lookup) (a : Found)
+      → x ≡ lon → y ≡ lat → d ≡ day → f ≡ looked g nodes (pointOf x y) d → a ≡ storedRecord f
+      → left (a .number) (a .place) (fixNumbers a) ≡ lookupAnswer l nodes lon lat day
   unfolding lookupAnswer
-  lookup-told nodes lon lat day x y d f r ns ex ey ed a b c =
-      (λ i. record { refusal = b i; lent = (c ∙ found-stored g nodes (pointOf x y) d f a) i }) ∙ ap foundAnswer (a ∙ (λ i. looked g nodes (pointOf (ex i) (ey i)) (ed i)))
+  lookup-told nodes lon lat day x y d f a ex ey ed e b =
+      ap foundAnswer (b ∙ answer-stored g nodes (pointOf x y) d f e ∙ ap answerRecord (e ∙ (λ i. looked g nodes (pointOf (ex i) (ey i)) (ed i))))
 
   pub in-force-told : (west east south north w e s n : ℤ) (f : InForce) (r : Refusal) (ns : List ℤ)
       → w ≡ west → e ≡ east → s ≡ south → n ≡ north → f ≡ inForceOf g (areaOf w e s n) → r ≡ verdictRefusal (f .verdict) → ns ≡ storedList f

@@ -3,10 +3,12 @@ use Prim.Native.Nat.{ℕ}
 use mathlib.Core.Path.{_≡_, refl}
 use mathlib.Core.Bool.{not}
 use mathlib.Core.List.{List, map}
+use lib.Dec.{eqb}
 use lib.IntN.{ℤ, pos}
 use lib.Ieee.{Float}
 use lib.ListN.{length, replicate}
 use Rattle.text.specs.Put.{put}
+use Rattle.group.specs.declared.Position.{Position}
 use Rattle.group.specs.declared.Refusal.{Refusal}
 use Rattle.group.specs.Refusals.{refusal, verdictRefusal}
 use Rattle.group.proofs.RefusalLaws.{chain-if, chain-verdict, lent-kept}
@@ -17,11 +19,16 @@ use Rattle.header.specs.declared.Written.the-variants as W
 use Rattle.header.specs.Whole.{headerText}
 use Rattle.header.specs.Header.{readHeader, written, writtenRefusal, writtenCount, bytesAfter}
 use Rattle.header.proofs.TableLaws.{read-told, written-told}
+use Rattle.fix.specs.declared.Fix.{Fix}
 use Rattle.fix.specs.declared.Lookup.{Lookup}
 use Rattle.fix.specs.declared.Lookup.the-variants as L
 use Rattle.fix.specs.Answers.{lookupRefusal}
+use Rattle.lookup.specs.declared.Answer.{Answer as Found}
+use Rattle.lookup.specs.Answer.{answerRecord}
 use Rattle.lookup.specs.Lookup.{looked}
 use Rattle.lookup.proofs.TableLaws.{looked-told}
+use Rattle.exercise.specs.Exercise.{manyVerdict, answerAt, resultsAfter}
+use Rattle.exercise.proofs.CallLaws.{many-told}
 use Rattle.inforce.specs.declared.Area.{Area}
 use Rattle.inforce.specs.declared.InForce.{InForce}
 use Rattle.inforce.specs.Area.{areaFits}
@@ -35,10 +42,10 @@ use Rattle.screen.specs.Screen.{plusZero, screenRefusal, shiftsOf, recordOf}
 use Rattle.screen.proofs.TableLaws.{answer-told}
 use Rattle.numbers.specs.Order.{countOf}
 use Rattle.abi.specs.Abi.{groupOfWords, numbersOf, joined}
-use Rattle.capi.specs.Answers.{pointOf, lentText, judgeAnswer, readAnswer, writeAnswer, foundNumbers, lookupAnswer, loadAnswer}
+use Rattle.capi.specs.Answers.{pointOf, lentText, judgeAnswer, readAnswer, writeAnswer, fixNumbers, lookupAnswer, manyAnswer, loadAnswer}
 use Rattle.capi.specs.InForce.{listWords, listNumbers, inForceAnswer}
 use Rattle.capi.specs.Screen.{lookupOf, shownOf, recordFloats}
-use Rattle.capi.specs.Demand1.{Judges, Reads, Writes, Looks, Lists, Loads, Shows}
+use Rattle.capi.specs.Demand1.{Judges, Reads, Writes, Looks, LooksMany, Lists, Loads, Shows}
 
 pub judges : (group : List ℤ) → Judges group
 unfolding judgeAnswer
@@ -65,14 +72,24 @@ writes group out =
 pub looks : (group nodes : List ℤ) (lon lat day : ℤ) → Looks group nodes lon lat day
 unfolding lookupAnswer
 looks group nodes lon lat day =
+    let found = looked (groupOfWords group) nodes (pointOf lon lat) day in
     record {
       told = looked-told (groupOfWords group) nodes (pointOf lon lat) day;
-      zeros = zeros (looked (groupOfWords group) nodes (pointOf lon lat) day);
+      zeros = zeros found;
     }
   where
-    zeros : (x : Lookup) → (lookupRefusal x .number ≡ 0 → ⊥) → foundNumbers x ≡ replicate 4 (pos 0)
+    zeros : (x : Lookup) → (lookupRefusal x .number ≡ 0 → ⊥) → fixNumbers (answerRecord x) ≡ replicate 4 (pos 0)
     zeros (L.Fix f) n = absurd (n refl)
     zeros (L.Refused r) n = refl
+
+pub looks-many : (group nodes : List ℤ) (points : List Position) (results : List Found) → LooksMany group nodes points results
+unfolding manyAnswer resultsAfter
+looks-many group nodes points results =
+    let g = groupOfWords group in let agree = eqb (length points) (length results) in
+    record {
+      told = many-told g (length nodes) agree;
+      kept = lent-kept (verdictRefusal (manyVerdict g (length nodes) agree)) (map (answerAt g nodes) points) results;
+    }
 
 no-list : (r : Refusal) → listNumbers (refusedBy r) ≡ replicate listWords (pos 0)
 unfolding listNumbers joined

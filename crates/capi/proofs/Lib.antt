@@ -4,3 +4,4 @@ pub mod AnswerLaws
 pub mod ShownLaws
 pub mod Demand1
 pub mod Demand2
+pub mod Order1

@@ -26,6 +26,7 @@ use Rattle.screen.specs.Screen.{answerOf}
 use Rattle.screen.specs.Shown.{Times, shiftAt, ShowsResults}
 use Rattle.screen.proofs.ShownLaws.{shown-exactly, record-shown}
 use Rattle.abi.specs.Abi.{groupOfWords, numberAt}
+use Rattle.lookup.specs.Answer.{answerRecord}
 use Rattle.capi.specs.Answers.{fixNumbers, foundAnswer, pointOf, lookupAnswer}
 use Rattle.capi.specs.Screen.{lookupOf, shownOf}
 use Rattle.capi.specs.Shown.{LookupShown, LeftShown}
@@ -57,13 +58,13 @@ module _ (g : Group) (nodes : List ℤ) (p : Point) (t : ℤ) (q : ℕ) where
 -- ---- the C functions
 
 -- the results of a fix among its four numbers
-among : (f : Fix) (p : ℕ) → resultIn f p ≡ numberAt (fixNumbers f) (suc p)
+among : (f : Fix) (p : ℕ) → resultIn f p ≡ numberAt (fixNumbers (answerRecord (L.Fix f))) (suc p)
 among f zero = refl
 among f (suc zero) = refl
 among f (suc (suc zero)) = refl
 among f (suc (suc (suc p))) = refl
 
-of-fix : (f : Fix) (q np : ℕ) → ShowsResults (resultIn f) q np (answerOf (L.Fix f) q np) → LeftShown (foundAnswer (L.Fix f)) q np
+of-fix : (f : Fix) (q np : ℕ) → ShowsResults (resultIn f) q np (answerOf (L.Fix f) q np) → LeftShown (foundAnswer (answerRecord (L.Fix f))) q np
 unfolding shownOf lookupOf
 of-fix f q np r =
     record {
@@ -78,5 +79,5 @@ unfolding lookupAnswer
 left-shown group nodes lon lat day q z k =
     let g = groupOfWords group in
     let u = zero-fix g nodes (pointOf lon lat) day .0 z in
-    subst (λ (a : Lookup). LeftShown (foundAnswer a) q (g .parameters)) (sym (u .1))
+    subst (λ (a : Lookup). LeftShown (foundAnswer (answerRecord a)) q (g .parameters)) (sym (u .1))
     (of-fix (u .0) q (g .parameters) (fix-shown g nodes (pointOf lon lat) day q (u .0) (u .1) k))

@@ -1,27 +1,19 @@
--- Every number of a grid and every count that is handed back is at most that of the grids, so that it is stored as it is.
+-- Every number and count in a list of grids in force is at most that of the grids, so that it is stored as it is.
 use Prim.Native.Nat.{ℕ, zero, suc, _≤_}
 use mathlib.Core.Path.{_≡_, refl, sym, ap, _∙_, subst}
 use mathlib.Core.Bool.{Bool, true, false}
 use mathlib.Core.List.{List, [], _∷_, _++_}
-use native.Mathlib.Nat.{min-eq-left}
 use native.Mathlib.Omega.{arith}
 use borrow.Author.Tests.{leb-true, leb-false}
 use lib.Dec.{leb}
-use lib.IntN.{ℤ, pos}
+use lib.IntN.{ℤ}
 use lib.ListN.{getD, replicate}
 use Rattle.group.specs.declared.Group.{Group}
-use Rattle.group.specs.declared.Point.{Point}
 use Rattle.group.specs.declared.Verdict.{Verdict}
 use Rattle.group.specs.declared.Verdict.the-variants as verdict
 use Rattle.group.specs.Numbers.{gridsMost}
 use Rattle.judge.specs.Judge.{judged}
 use Rattle.judge.proofs.Accepted.{accepted-head}
-use Rattle.ingroup.proofs.InGroupLaws.{chosen-most}
-use Rattle.fix.specs.declared.Fix.{Fix}
-use Rattle.fix.specs.declared.Lookup.{Lookup}
-use Rattle.fix.specs.declared.Lookup.the-variants as L
-use Rattle.lookup.specs.Lookup.{looked}
-use Rattle.lookup.proofs.FoundLaws.{found}
 use Rattle.inforce.specs.declared.Area.{Area}
 use Rattle.inforce.specs.declared.GridInForce.{GridInForce}
 use Rattle.inforce.specs.declared.InForce.{InForce}
@@ -30,26 +22,9 @@ use Rattle.inforce.specs.InForce.{blankEntry, inForceOf}
 use Rattle.inforce.specs.Demand3.{GridsInForce}
 use Rattle.inforce.proofs.StageLaws.{in-force-group, in-force-10}
 use Rattle.inforce.proofs.Demand3.{none-at, demand-3}
-use Rattle.abi.specs.Abi.{signedMost, stored, joined}
-use Rattle.capi.specs.Answers.{foundNumbers, storedFound}
+use Rattle.abi.specs.Abi.{joined}
+use Rattle.abi.proofs.NumberLaws.{as-it-is}
 use Rattle.capi.specs.InForce.{entryNumbers, storedEntry, listNumbers, storedList}
-
-as-it-is : (n : ℕ) → n ≤ gridsMost → stored n ≡ pos n
-as-it-is n h = ap pos (min-eq-left {m = signedMost} (omega arith))
-
-fix-small : (g : Group) (nodes : List ℤ) (p : Point) (t : ℤ) (f : Fix) → looked g nodes p t ≡ L.Fix f → f .grid ≤ gridsMost
-fix-small g nodes p t f e =
-    let w = found g nodes p t f e in
-    let n = w .number in
-    let c = w .chosen in
-    let s = accepted-head g (w .ready .accepted) .grids in
-    omega (arith, chosen-most g (p .lon .0) (p .lat .0))
-
-pub found-stored : (g : Group) (nodes : List ℤ) (p : Point) (t : ℤ) (f : Lookup) → f ≡ looked g nodes p t → storedFound f ≡ foundNumbers f
-found-stored g nodes p t (L.Fix f) e = ap (λ (z : ℤ). z ∷ f .first ∷ f .second ∷ f .third ∷ []) (as-it-is (f .grid) (fix-small g nodes p t f (sym e)))
-found-stored g nodes p t (L.Refused r) e = refl
-
--- ---- the list of grids in force
 
 record Small (r : InForce) : Type 0 where
   few : r .count ≤ gridsMost
@@ -85,9 +60,9 @@ joined-same f h (suc n) e = λ i. joined-same f h n e i ++ e n i
 whole : (r : InForce) → Small r → storedList r ≡ listNumbers r
 unfolding storedList listNumbers
 whole r h =
-    let c = as-it-is (r .count) (h .few) in
+    let c = as-it-is (r .count) (let f = h .few in omega arith) in
     let es = joined-same (λ k. storedEntry (getD (r .entries) k blankEntry)) (λ k. entryNumbers (getD (r .entries) k blankEntry)) gridsMost
-    (λ k. let e = getD (r .entries) k blankEntry in ap (λ (z : ℤ). z ∷ e .lon .0 ∷ e .lat .0 ∷ []) (as-it-is (e .grid) (h .each k))) in
+    (λ k. let e = getD (r .entries) k blankEntry in ap (λ (z : ℤ). z ∷ e .lon .0 ∷ e .lat .0 ∷ []) (as-it-is (e .grid) (let f = h .each k in omega arith))) in
     λ i. (c i ∷ []) ++ es i
 
 pub in-force-stored : (g : Group) (a : Area) (r : InForce) → r ≡ inForceOf g a → storedList r ≡ listNumbers r

@@ -1,10 +1,12 @@
 -- What each call of the C interface leaves: the refusal's number and place, 0 and 0 where it is accepted, and the lent memory.
 use Prim.Native.Nat.{ℕ}
 use mathlib.Core.List.{List, [], _∷_}
-use lib.IntN.{ℤ, pos}
+use lib.IntN.{ℤ}
 use lib.Ieee.{Float}
+use lib.Dec.{eqb}
 use lib.ListN.{length}
 use Rattle.group.specs.declared.Point.{Point}
+use Rattle.group.specs.declared.Position.{Position}
 use Rattle.group.specs.declared.Refusal.{Refusal}
 use Rattle.group.specs.Refusals.{refusal, verdictRefusal, lentAfter}
 use Rattle.text.specs.Parts.{startOf, endOf}
@@ -12,18 +14,17 @@ use Rattle.header.specs.declared.Reading.{Reading}
 use Rattle.header.specs.declared.Written.{Written}
 use Rattle.header.specs.Header.{readHeader, written, writtenRefusal, writtenCount, bytesAfter}
 use Rattle.nodes.specs.Load.{loaded, loadedRefusal, nodesAfter}
-use Rattle.fix.specs.declared.Fix.{Fix}
-use Rattle.fix.specs.declared.Lookup.{Lookup}
-use Rattle.fix.specs.declared.Lookup.the-variants as L
-use Rattle.fix.specs.Answers.{lookupRefusal}
 use Rattle.judge.specs.Judge.{judged}
+use Rattle.lookup.specs.declared.Answer.{Answer as Found}
+use Rattle.lookup.specs.Answer.{answerRecord}
 use Rattle.lookup.specs.Lookup.{looked}
+use Rattle.exercise.specs.Exercise.{manyVerdict, resultsAfter}
 use Rattle.numbers.specs.Order.{countOf}
-use Rattle.abi.specs.Abi.{groupOfWords, numbersOf, stored}
+use Rattle.abi.specs.Abi.{groupOfWords, numbersOf}
 
 -- the version of the interface: major · 1,000,000 + minor · 1,000 + patch
 abbrev pub version : ℕ
-version = 1000002
+version = 1001000
 
 -- the refusal and what stands in lent memory afterwards
 pub record Answer (A : Type 0) : Type 0 where
@@ -48,29 +49,26 @@ readAnswer text lent = readOf (readHeader text) lent
 
 -- ---- lookup: the chosen grid's number and three results
 
-abbrev pub fixNumbers : Fix → List ℤ
-fixNumbers f = pos (f .grid) ∷ f .first ∷ f .second ∷ f .third ∷ []
+abbrev pub fixNumbers : Found → List ℤ
+fixNumbers a = a .grid ∷ a .first ∷ a .second ∷ a .third ∷ []
 
-abbrev pub noNumbers : List ℤ
-noNumbers = pos 0 ∷ pos 0 ∷ pos 0 ∷ pos 0 ∷ []
-
-abbrev pub foundNumbers : Lookup → List ℤ
-foundNumbers (L.Fix f) = fixNumbers f
-foundNumbers (L.Refused r) = noNumbers
-
--- the same as the code stores them
-abbrev pub storedFound : Lookup → List ℤ
-storedFound (L.Fix f) = stored (f .grid) ∷ f .first ∷ f .second ∷ f .third ∷ []
-storedFound (L.Refused r) = noNumbers
-
-abbrev pub foundAnswer : Lookup → Answer (List ℤ)
-foundAnswer found = record { refusal = lookupRefusal found; lent = foundNumbers found }
+abbrev pub foundAnswer : Found → Answer (List ℤ)
+foundAnswer a = left (a .number) (a .place) (fixNumbers a)
 
 abbrev pub pointOf : ℤ → ℤ → Point
 pointOf lon lat = record { lon = record { 0 = lon }; lat = record { 0 = lat } }
 
 unfoldable pub lookupAnswer : List ℤ → List ℤ → ℤ → ℤ → ℤ → Answer (List ℤ)
-lookupAnswer group nodes lon lat day = foundAnswer (looked (groupOfWords group) nodes (pointOf lon lat) day)
+lookupAnswer group nodes lon lat day = foundAnswer (answerRecord (looked (groupOfWords group) nodes (pointOf lon lat) day))
+
+-- ---- many lookups: the list of results
+
+unfoldable pub manyAnswer : (group nodes : List ℤ) → List Position → List Found → Answer (List Found)
+manyAnswer group nodes points results =
+    record {
+      refusal = verdictRefusal (manyVerdict (groupOfWords group) (length nodes) (eqb (length points) (length results)));
+      lent = resultsAfter (groupOfWords group) nodes points results;
+    }
 
 -- ---- writing: the count of bytes, and the lent bytes
 

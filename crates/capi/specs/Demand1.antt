@@ -3,9 +3,11 @@
 use Prim.Native.Nat.{ℕ}
 use mathlib.Core.Path.{_≡_}
 use mathlib.Core.List.{List}
+use lib.Dec.{eqb}
 use lib.IntN.{ℤ, pos}
 use lib.Ieee.{Float}
 use lib.ListN.{length, replicate}
+use Rattle.group.specs.declared.Position.{Position}
 use Rattle.group.specs.declared.Verdict.the-variants.{Accepted}
 use Rattle.group.specs.Refusals.{Told}
 use Rattle.judge.specs.Judge.{judged}
@@ -13,7 +15,9 @@ use Rattle.header.specs.declared.Written.the-variants.{Count}
 use Rattle.header.specs.Header.{readHeader, written}
 use Rattle.fix.specs.declared.Fix.{Fix}
 use Rattle.fix.specs.declared.Lookup.the-variants as L
+use Rattle.lookup.specs.declared.Answer.{Answer as Found}
 use Rattle.lookup.specs.Lookup.{looked}
+use Rattle.exercise.specs.Exercise.{manyVerdict}
 use Rattle.inforce.specs.declared.Area.{Area}
 use Rattle.inforce.specs.InForce.{inForceOf}
 use Rattle.nodes.specs.declared.Loaded.the-variants.{Done}
@@ -22,7 +26,7 @@ use Rattle.screen.specs.declared.ScreenAnswer.the-variants as S
 use Rattle.screen.specs.Screen.{plusZero}
 use Rattle.numbers.specs.Order.{countOf}
 use Rattle.abi.specs.Abi.{groupOfWords}
-use Rattle.capi.specs.Answers.{Answer, pointOf, lentText, judgeAnswer, readAnswer, writeAnswer, lookupAnswer, loadAnswer}
+use Rattle.capi.specs.Answers.{Answer, pointOf, lentText, judgeAnswer, readAnswer, writeAnswer, lookupAnswer, manyAnswer, loadAnswer}
 use Rattle.capi.specs.InForce.{listWords, inForceAnswer}
 use Rattle.capi.specs.Screen.{shownOf, shiftsAnswer, recordAnswer}
 
@@ -46,6 +50,13 @@ pub record Writes (group : List ℤ) (out : List ℕ) : Type 0 where
 pub record Looks (group nodes : List ℤ) (lon lat day : ℤ) : Type 0 where
   pub told : Told ((f : Fix) × (looked (groupOfWords group) nodes (pointOf lon lat) day ≡ L.Fix f)) (lookupAnswer group nodes lon lat day .refusal)
   pub zeros : LeftBeside (replicate 4 (pos 0)) (lookupAnswer group nodes lon lat day)
+
+pub record LooksMany (group nodes : List ℤ) (points : List Position) (results : List Found) : Type 0 where
+  pub told :
+      Told (manyVerdict (groupOfWords group) (length nodes) (eqb (length points) (length results)) ≡ Accepted)
+      (manyAnswer group nodes points results .refusal)
+  -- the results are as they were
+  pub kept : LeftBeside results (manyAnswer group nodes points results)
 
 pub record Lists (group : List ℤ) (area : Area) : Type 0 where
   pub told : Told (inForceOf (groupOfWords group) area .verdict ≡ Accepted) (inForceAnswer group area .refusal)

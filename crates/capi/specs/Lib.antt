@@ -5,3 +5,4 @@ pub mod Screen
 pub mod Shown
 pub mod Demand1
 pub mod Demand2
+pub mod Order1

@@ -7,11 +7,10 @@ ghost use Rattle.group.specs.Numbers.{gridsMost};
 ghost use Rattle.group.specs.Refusals.{refusal, noRefusal, verdictRefusal};
 ghost use Rattle.header.specs.Header.{writtenRefusal, writtenCount};
 ghost use Rattle.nodes.specs.Load.{loadedRefusal};
-ghost use Rattle.fix.specs.Answers.{lookupRefusal};
 ghost use Rattle.inforce.specs.InForce.{blankEntry};
 ghost use Rattle.screen.specs.Screen.{screenRefusal, shiftsOf};
 ghost use Rattle.abi.specs.Abi.{joined};
-ghost use Rattle.capi.specs.Answers.{version, left, judgeAnswer, readAnswer, storedFound, lookupAnswer, lentText, writeAnswer, fieldPart, loadAnswer};
+ghost use Rattle.capi.specs.Answers.{version, left, judgeAnswer, readAnswer, lookupAnswer, manyAnswer, lentText, writeAnswer, fieldPart, loadAnswer};
 ghost use Rattle.capi.specs.InForce.{areaOf, entriesFrom, listWords, storedEntry, storedList, inForceAnswer};
 ghost use Rattle.capi.specs.Screen.{lookupOf, shownOf, shiftsAnswer, recordAnswer};
 use abi::GROUP_WORDS;
@@ -23,17 +22,19 @@ use group::GRIDS_MOST;
 use group::Latitude;
 use group::Longitude;
 use group::Point;
+use group::Position;
 use group::Refusal;
 use group::Verdict;
 use header::Written;
 use inforce::Area;
 use inforce::GridInForce;
 use inforce::InForce;
+use lookup::Answer;
 use nodes::Loaded;
 use screen::ScreenAnswer;
 
 // The version of the interface: major * 1,000,000 + minor * 1,000 + patch.
-const VERSION: u64 = 1000002;
+const VERSION: u64 = 1001000;
 
 // The numbers of an entry of a list of grids in force, where the entries begin, and the numbers of the list.
 const ENTRY_WORDS: usize = 3;
@@ -152,26 +153,6 @@ pub extern "C" fn bulhyemik_field(line: &[u8], number: u64, part: &mut [u64; 2])
     *part = [from as u64, to as u64];
 }
 
-// The refusal of a lookup.
-fn lookup_refusal(found: Lookup) -> Refusal
-    ensures { λ r. ⌜ r ≡ lookupRefusal found ⌝ }
-{
-    match found {
-        Lookup::Fix(_) => no_refusal(),
-        Lookup::Refused(refusal) => refusal,
-    }
-}
-
-// The chosen grid's number and three results of a lookup.
-fn found_numbers(found: Lookup) -> [i64; 4]
-    ensures { λ r. ⌜ r ≡ storedFound found ⌝ }
-{
-    match found {
-        Lookup::Fix(f) => [abi::as_stored(f.grid), f.first, f.second, f.third],
-        Lookup::Refused(_) => [0, 0, 0, 0],
-    }
-}
-
 // Looks a point in mas up on a day: refusals 2 to 5, then 6, 9, 13, 7, 8, 11.
 #[no_mangle]
 pub extern "C" fn bulhyemik_lookup(
@@ -189,10 +170,26 @@ pub extern "C" fn bulhyemik_lookup(
         lon: Longitude(lon),
         lat: Latitude(lat),
     };
-    let found = lookup::look_words(group, nodes, point, day);
-    let numbers = found_numbers(found);
-    let refusal = lookup_refusal(found);
-    *fix = numbers;
+    let a = lookup::answer_of(lookup::look_words(group, nodes, point, day));
+    *fix = [a.grid, a.first, a.second, a.third];
+    *place = a.place;
+    a.number
+}
+
+// Looks every point of a list up, each on its own day: refusals 2 to 5, 12 and 13, after which the results stay as they were.
+#[no_mangle]
+pub extern "C" fn bulhyemik_lookup_many(
+    group: &[i64; GROUP_WORDS],
+    nodes: &[i32],
+    points: &[Position],
+    results: &mut [Answer],
+    place: &mut u64,
+) -> u64
+    ensures { λ r. ⌜ left r (now (place .exit)) (now (results .exit))
+        ≡ manyAnswer (now (group .entry)) (now (nodes .entry)) (now (points .entry)) (now (results .entry)) ⌝ }
+{
+    let verdict = exercise::many_words(group, nodes, points, results);
+    let refusal = verdict_refusal(verdict);
     *place = refusal.place;
     refusal.number
 }

@@ -90,15 +90,25 @@ pub const FACTOR_MOST: u64 = RAMPS_MOST as u64 * RAMP_FACTOR_MOST as u64;
 pub const RESULT_MOST: u64 = VALUE_MOST as u64 * FACTOR_MOST / FACTOR_ONE as u64;
 
 // A longitude in mas: a point's lies from LON_LEAST to LON_MOST, a grid's edge from LON_EDGE_LEAST to LON_EDGE_MOST.
+#[repr(C)]
 pub struct Longitude(pub i64);
 
 // A latitude in mas, with limits of the same kind.
+#[repr(C)]
 pub struct Latitude(pub i64);
 
 // A point, in mas.
 pub struct Point {
     pub lon: Longitude,
     pub lat: Latitude,
+}
+
+// A point, in mas, on a day.
+#[repr(C)]
+pub struct Position {
+    pub lon: Longitude,
+    pub lat: Latitude,
+    pub day: i64,
 }
 
 // A name of 1 to 24 bytes of A to Z, a to z, 0 to 9, _ and -; every byte behind its length is 0.

@@ -7,8 +7,10 @@ pub mod RampLaws
 pub mod StageLaws
 pub mod TableLaws
 pub mod BestLaws
+pub mod RowLaws
 pub mod RefusedLaws
 pub mod FoundLaws
 pub mod ResultLaws
 pub mod SameLaws
 pub mod Demand2
+pub mod AnswerLaws

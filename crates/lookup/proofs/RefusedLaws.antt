@@ -1,26 +1,20 @@
 -- A lookup refuses exactly when the table says, in document 01's order.
-use Prim.Native.Nat.{ℕ, zero, suc, _+_, _<_}
-use mathlib.Core.Path.{_≡_, refl, sym, ap, _∙_, subst}
+use Prim.Native.Nat.{ℕ, zero, suc, _<_}
+use mathlib.Core.Path.{_≡_, refl, sym, _∙_, subst}
 use mathlib.Core.Bool.{Bool, true, false, not, _&&_}
 use mathlib.Core.List.{List}
 use mathlib.Core.Logic.{inl, inr, ⊎-elim, _↔_}
-use native.Mathlib.Omega.{arith}
-use native.Mathlib.Decide.{decLt}
-use borrow.Author.Tests.{ltb-true, ltb-false, lt-ltb, leb-false, lt-leb, not-true, not-false}
+use borrow.Author.Tests.{leb-false, lt-leb, not-true, not-false}
 use lib.IntN.{ℤ, natAbs}
-use lib.ListN.{length}
-use Rattle.numbers.specs.First.{first, some}
+use Rattle.numbers.specs.First.{first}
 use Rattle.numbers.specs.Order.{within}
 use Rattle.numbers.proofs.Bools.{true-false, and-left, and-right}
-use Rattle.numbers.proofs.FirstLaws.{first-before, first-hit, none-at}
 use Rattle.numbers.proofs.OrderLaws.{within-test}
 use Rattle.group.specs.declared.Group.{Group}
 use Rattle.group.specs.declared.Point.{Point}
 use Rattle.group.specs.declared.Refusal.{Refusal}
 use Rattle.group.specs.declared.Verdict.{Verdict}
 use Rattle.group.specs.declared.Verdict.the-variants.{Accepted, Refused}
-use Rattle.group.specs.Refusals.{refusal, verdictRefusal, refuseIf, refuseFirst, unlessRefused}
-use Rattle.group.proofs.RefusalLaws.{no-acceptance}
 use Rattle.judge.specs.Judge.{judged}
 use Rattle.ingroup.specs.InGroup.{chosenIn}
 use Rattle.group.specs.Numbers.{lonMost, latMost, lonAdmitted, latAdmitted, valueMost, mark, isMark, dayMost, dayFits}
@@ -32,34 +26,10 @@ use Rattle.fix.specs.declared.Lookup.the-variants as L
 use Rattle.fix.specs.Answers.{lookupRefusal}
 use Rattle.fix.specs.Fix.{cornerSome, resultAt, fixIn}
 use Rattle.fix.proofs.FixLaws.{corner-some, some-corner}
-use Rattle.lookup.specs.Lookup.{pointFits, endsEarly, offsetOf, fixAt, fixOf, lookedIn, looked}
-use Rattle.lookup.specs.Demand2.{seenFrom, BestGrid, PointOutside, NoneHolds, UsedCorner, DayOutside, EndsBefore, Judged, TableRow, ShortList, NothingRefused, _then_, Refuses}
+use Rattle.lookup.specs.Lookup.{pointFits, offsetOf, fixAt, fixOf, lookedIn, looked}
+use Rattle.lookup.specs.Demand2.{seenFrom, BestGrid, PointOutside, NoneHolds, UsedCorner, DayOutside, TableRow, ShortList, NothingRefused, _then_, Refuses}
+use Rattle.lookup.proofs.RowLaws.{Single, single-then, single-judged, single-row, single-short, single-none, row-stage, judge-stage, short-stage}
 use Rattle.lookup.proofs.BestLaws.{chosen-is-best, none-chosen-holds, one-best}
-
--- ---- rows in their order refuse in one way
-
-abbrev Single : (Refusal → Type 0) → Type 0
-Single R = (r s : Refusal) → R r → R s → r ≡ s
-
-single-then : (First Next : Refusal → Type 0) → Single First → Single Next → Single (First then Next)
-single-then First Next a b r s (inl h) (inl k) = a r s h k
-single-then First Next a b r s (inl h) (inr k) = absurd (k .0 r h)
-single-then First Next a b r s (inr h) (inl k) = absurd (h .0 s k)
-single-then First Next a b r s (inr h) (inr k) = b r s (h .1) (k .1)
-
-single-row : (n : ℕ) (When : Type 0) → Single (TableRow n When)
-single-row n When r s h k = h .0 ∙ sym (k .0)
-
--- a stage of the definition and the row that it stands for
-stage : (Now Next : Refusal → Type 0) (b : Bool) (n q : ℕ) (next : Lookup) → (b ≡ true → Now (refusal n q)) → (b ≡ false → (r : Refusal) → Now r → ⊥)
-    → (b ≡ false → Next (lookupRefusal next)) → (Now then Next) (lookupRefusal (refuseIf L.Refused b n q next))
-unfolding refuseIf
-stage Now Next true n q next yea nay on = inl (yea refl)
-stage Now Next false n q next yea nay on = inr (nay refl, on refl)
-
-row-stage : (When : Type 0) (Next : Refusal → Type 0) (b : Bool) (n : ℕ) (next : Lookup) → (b ≡ true → When) → (b ≡ false → When → ⊥)
-    → (b ≡ false → Next (lookupRefusal next)) → (TableRow n When then Next) (lookupRefusal (refuseIf L.Refused b n 0 next))
-row-stage When Next b n next yea nay on = stage (TableRow n When) Next b n 0 next (λ e. (refl, yea e)) (λ e r h. nay e (h .1)) on
 
 -- ---- what each test says
 
@@ -82,29 +52,6 @@ point-inside p e =
     ⊎-elim (inside lonMost (p .lon .0) (and-left x y e)) (inside latMost (p .lat .0) (and-right x y e))
 
 module _ (g : Group) (nodes : List ℤ) where
-  abbrev early : ℕ → Bool
-  early = endsEarly g (length nodes)
-
-  first-ends : some early (g .grids) ≡ true → EndsBefore g nodes (first early (g .grids))
-  first-ends e =
-      let l = ltb-true (first early (g .grids)) (g .grids) e in
-      record {
-        among = l;
-        early = ltb-true _ _ (first-hit early (g .grids) l);
-        lowest = λ j h. ltb-false _ _ (first-before early (g .grids) j h);
-      }
-
-  none-ends : some early (g .grids) ≡ false → (k : ℕ) → EndsBefore g nodes k → ⊥
-  none-ends e k b =
-      true-false (lt-ltb _ _ (b .early)) (none-at early (g .grids) k (ltb-false (first early (g .grids)) (g .grids) e) (b .among))
-
-  one-ends : (j k : ℕ) → EndsBefore g nodes j → EndsBefore g nodes k → j ≡ k
-  one-ends j k a b =
-      elim (decLt j k) [
-        | yes lt ↦ absurd (omega (arith, a .early, b .lowest j lt))
-        | no ge ↦ elim (decLt k j) [ yes lt ↦ absurd (omega (arith, b .early, a .lowest k lt)) | no ge₂ ↦ omega arith ]
-      ]
-
   module _ (p : Point) (test : ℤ → Bool) (P : ℤ → Type 0) (tests : (z : ℤ) → (test z ≡ true) ↔ P z) (k : ℕ) (b : BestGrid g p k) where
     corner-used : cornerSome test (seenFrom g p k) nodes ≡ true → UsedCorner P g nodes p
     unfolding offsetOf
@@ -140,11 +87,11 @@ module _ (g : Group) (nodes : List ℤ) (p : Point) (t : ℤ) where
   in-grid : (k : ℕ) (factor : ℤ) → BestGrid g p k → From8 (lookupRefusal (fixIn (seenFrom g p k) nodes factor (suc k)))
   unfolding fixIn
   in-grid k factor b =
-      row-stage _ From11 (cornerSome isMark (seenFrom g p k) nodes) 8 _
+      row-stage L.Refused lookupRefusal (λ r. refl) _ From11 (cornerSome isMark (seenFrom g p k) nodes) 8 _
       (corner-used g nodes p isMark (λ v. v ≡ mark) is-mark k b)
       (corner-unused g nodes p isMark (λ v. v ≡ mark) is-mark k b)
       (λ e.
-      row-stage _ NothingRefused (cornerSome isBeyond (seenFrom g p k) nodes) 11
+      row-stage L.Refused lookupRefusal (λ r. refl) _ NothingRefused (cornerSome isBeyond (seenFrom g p k) nodes) 11
       (L.Fix
       (record {
         grid = suc k;
@@ -162,36 +109,28 @@ module _ (g : Group) (nodes : List ℤ) (p : Point) (t : ℤ) where
   in-choice a zero e factor = inl (refl, none-chosen-holds g p e)
   in-choice a (suc k) e factor = let b = chosen-is-best g p a k e in inr (λ r h. h .1 k (b .among) (b .held), in-grid k factor b)
 
-  judge-stage : (Next : Refusal → Type 0) (v : Verdict) (next : Lookup) → judged g ≡ v → (judged g ≡ Accepted → Next (lookupRefusal next))
-      → (Judged g then Next) (lookupRefusal (unlessRefused L.Refused v next))
-  judge-stage Next Accepted next e on =
-      inr (λ r h. no-acceptance r (sym h ∙ e), on e)
-  judge-stage Next (Refused r) next e on = inl e
-
   stands : Refuses g nodes p t (lookupRefusal (looked g nodes p t))
-  unfolding Refuses looked lookedIn refuseFirst
+  unfolding Refuses looked lookedIn
   stands =
-      judge-stage (TableRow 6 (PointOutside p) then From9) (judged g) (lookedIn g nodes p t) refl
+      judge-stage L.Refused lookupRefusal (λ r. refl) (TableRow 6 (PointOutside p) then From9) g (lookedIn g nodes p t)
       (λ a.
-      row-stage _ From9 (not (pointFits p)) 6 _ (λ e. point-outside p (not-true _ e)) (λ e. point-inside p (not-false _ e))
+      row-stage L.Refused lookupRefusal (λ r. refl) _ From9 (not (pointFits p)) 6 _ (λ e. point-outside p (not-true _ e)) (λ e. point-inside p (not-false _ e))
       (λ b.
-      row-stage _ From13 (not (dayFits t)) 9 _ (λ e. outside dayMost t (not-true _ e)) (λ e. inside dayMost t (not-false _ e))
+      row-stage L.Refused lookupRefusal (λ r. refl) _ From13 (not (dayFits t)) 9 _ (λ e. outside dayMost t (not-true _ e)) (λ e. inside dayMost t (not-false _ e))
       (λ c.
-      stage (ShortList g nodes) From7 (some (early g nodes) (g .grids)) 13 (first (early g nodes) (g .grids) + 1) (fixOf g nodes p t)
-      (λ e. (first (early g nodes) (g .grids), ap (refusal 13) (omega arith), first-ends g nodes e))
-      (λ e r h. none-ends g nodes e (h .0) (h .2))
+      short-stage L.Refused lookupRefusal (λ r. refl) From7 g nodes (fixOf g nodes p t)
       (λ d. in-choice a (chosenIn g (p .lon .0) (p .lat .0)) refl (factorOf (g .ramp) (g .ramps) t)))))
 
   single : Single (Refuses g nodes p t)
   unfolding Refuses
   single =
-      single-then _ _ (λ r s h k. ap verdictRefusal (sym h ∙ k))
+      single-then _ _ (single-judged g)
       (single-then _ _ (single-row 6 _)
       (single-then _ _ (single-row 9 _)
-      (single-then _ _ (λ r s h k. h .1 ∙ ap (λ (m : ℕ). refusal 13 (suc m)) (one-ends g nodes (h .0) (k .0) (h .2) (k .2)) ∙ sym (k .1))
+      (single-then _ _ (single-short g nodes)
       (single-then _ _ (single-row 7 _)
       (single-then _ _ (single-row 8 _)
-      (single-then _ _ (single-row 11 _) (λ r s h k. h ∙ sym k)))))))
+      (single-then _ _ (single-row 11 _) single-none))))))
 
   pub refused-exactly : (r : Refusal) → (lookupRefusal (looked g nodes p t) ≡ r) ↔ Refuses g nodes p t r
   refused-exactly r = (λ e. subst (Refuses g nodes p t) e stands, λ h. single _ r stands h)

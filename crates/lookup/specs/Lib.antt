@@ -1,4 +1,5 @@
 -- What the contracts of `lookup` cite.
 pub mod Lookup
+pub mod Answer
 pub mod Flat
 pub mod Demand2

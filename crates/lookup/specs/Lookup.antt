@@ -10,7 +10,8 @@ use Rattle.numbers.specs.First.{some}
 use Rattle.group.specs.declared.Grid.{Grid}
 use Rattle.group.specs.declared.Group.{Group}
 use Rattle.group.specs.declared.Point.{Point}
-use Rattle.group.specs.declared.Verdict.the-variants.{Accepted}
+use Rattle.group.specs.declared.Verdict.{Verdict}
+use Rattle.group.specs.declared.Verdict.the-variants.{Accepted, Refused}
 use Rattle.group.specs.Numbers.{lonAdmitted, latAdmitted, dayFits}
 use Rattle.group.specs.Record.{gridAt}
 use Rattle.group.specs.Refusals.{refusal, refuseIf, refuseFirst, unlessRefused}
@@ -30,6 +31,10 @@ pointFits p = lonAdmitted (p .lon .0) && latAdmitted (p .lat .0)
 -- 13: a list of so many nodes ends before grid k's range does
 abbrev pub endsEarly : Group → (count k : ℕ) → Bool
 endsEarly g count k = ltb count (nodeEnd (g .parameters) (gridAt g k))
+
+-- 13 alone: the lowest grid whose range ends behind so many nodes
+unfoldable pub nodesJudged : Group → ℕ → Verdict
+nodesJudged g count = refuseFirst Refused (endsEarly g count) (g .grids) 13 1 Accepted
 
 -- the point seen from a grid
 unfoldable pub offsetOf : Grid → ℕ → Point → Offset

@@ -14,18 +14,55 @@ ghost use lib.Dec.{ltb};
 ghost use lib.IntN.{natAbs};
 ghost use lib.ListN.{length};
 ghost use Rattle.numbers.specs.First.{first};
-ghost use Rattle.group.specs.Numbers.{parametersMost, rampsMost, dayFits, factorMost};
+ghost use Rattle.group.specs.Numbers.{parametersMost, rampsMost, gridsMost, dayFits, factorMost};
 ghost use Rattle.abi.specs.Words.{groupWords};
 ghost use Rattle.abi.specs.Abi.{groupOfWords};
 ghost use Rattle.flat.specs.Frames.{frameAt, frameEnd};
-ghost use Rattle.flat.specs.Lists.{Room};
+ghost use Rattle.flat.specs.Lists.{Room, Framed};
 ghost use Rattle.numbers.specs.Lists.{at};
 ghost use Rattle.choice.specs.Rect.{rectHolds};
 ghost use Rattle.choice.specs.Choice.{chosen};
 ghost use Rattle.judge.specs.Judge.{judged};
 ghost use Rattle.day.specs.Flat.{factorIn};
-ghost use Rattle.lookup.specs.Lookup.{pointFits, fixAt, fixOf, lookedIn, looked, LookupReady};
+ghost use Rattle.lookup.specs.Answer.{storedRecord};
+ghost use Rattle.lookup.specs.Lookup.{pointFits, nodesJudged, fixAt, fixOf, lookedIn, looked, LookupReady};
 ghost use Rattle.lookup.specs.Flat.{distance, offsetIn, Chosen, Laid, FramesSized, rampRows, RampsFit, fixRanked, LaidRows};
+
+// A lookup's answer as C has it: the number and the place of its refusal, 0 and 0 if there is none, and the chosen grid's number and
+// its results in steps, zeros beside a refusal.
+#[repr(C)]
+pub struct Answer {
+    pub number: u64,
+    pub place: u64,
+    pub grid: i64,
+    pub first: i64,
+    pub second: i64,
+    pub third: i64,
+}
+
+// A lookup's answer as a record.
+pub fn answer_of(found: Lookup) -> Answer
+    ensures { λ r. ⌜ r ≡ storedRecord found ⌝ }
+{
+    match found {
+        Lookup::Fix(f) => Answer {
+            number: 0,
+            place: 0,
+            grid: abi::as_stored(f.grid),
+            first: f.first,
+            second: f.second,
+            third: f.third,
+        },
+        Lookup::Refused(r) => Answer {
+            number: r.number,
+            place: r.place,
+            grid: 0,
+            first: 0,
+            second: 0,
+            third: 0,
+        },
+    }
+}
 
 // The distance of two numbers.
 fn distance(a: u64, b: u64) -> u64
@@ -117,7 +154,7 @@ fn first_short(frames: &[u64], n: u64, np: u64, count: u64) -> u64
 }
 
 // Whether a point is within the limits.
-fn point_fits(p: Point) -> bool
+pub fn point_fits(p: Point) -> bool
     ensures { λ r. ⌜ r ≡ pointFits p ⌝ }
 {
     ((group::LON_LEAST <= p.lon.0) & (p.lon.0 <= group::LON_MOST))
@@ -125,14 +162,14 @@ fn point_fits(p: Point) -> bool
 }
 
 // Whether a day is within the limit.
-fn day_fits(day: i64) -> bool
+pub fn day_fits(day: i64) -> bool
     ensures { λ r. ⌜ r ≡ dayFits day ⌝ }
 {
     (group::DAY_LEAST <= day) & (day <= group::DAY_MOST)
 }
 
 // The factor of the first ramps of a group's numbers, so many, on a day within the limit, in millionths.
-fn factor_on(numbers: &[i64], ramps: u64, day: i64) -> i64
+pub fn factor_on(numbers: &[i64], ramps: u64, day: i64) -> i64
     requires { ⌜ (groupWords ≤ length (now numbers)) × (ramps ≤ rampsMost) × RampsFit (now numbers) ramps × (dayFits day ≡ true) ⌝ }
     ensures { λ r. ⌜ r ≡ factorIn (rampRows (now (numbers .entry))) ramps day ⌝ }
 {
@@ -163,6 +200,23 @@ fn look_in(
     fix_chosen(frames, c, abi::parameter_count(words), nodes, factor, x, y)
 }
 
+// Refusal 13 of so many nodes, for an accepted group with these frames.
+pub fn judge_nodes(words: &[i64; GROUP_WORDS], frames: &[u64], nodes: usize) -> Verdict
+    requires { ⌜ (judged (groupOfWords (now words)) ≡ Verdict.Accepted) × Framed (groupOfWords (now words)) (groupOfWords (now words) .grids) (now frames)
+        × (gridsMost * 7 ≤ length (now frames)) ⌝ }
+    ensures { λ r. ⌜ r ≡ nodesJudged (groupOfWords (now (words .entry))) nodes ⌝ }
+{
+    let n = abi::grid_count(words);
+    let short = first_short(frames, n, abi::parameter_count(words), nodes as u64);
+    if short < n {
+        return Verdict::Refused(Refusal {
+            number: 13,
+            place: short + 1,
+        });
+    }
+    Verdict::Accepted
+}
+
 // The lookup in an accepted group, whose flat lists are these: refusal 6, 9, 13, 7, 8 or 11, or the fix.
 fn look_accepted(
     words: &[i64; GROUP_WORDS],
@@ -188,15 +242,11 @@ fn look_accepted(
             place: 0,
         });
     }
-    let n = abi::grid_count(words);
-    let short = first_short(frames, n, abi::parameter_count(words), nodes.len() as u64);
-    if short < n {
-        return Lookup::Refused(Refusal {
-            number: 13,
-            place: short + 1,
-        });
+    let verdict = judge_nodes(words, frames, nodes.len());
+    match verdict {
+        Verdict::Refused(r) => Lookup::Refused(r),
+        Verdict::Accepted => look_in(words, sides, ranks, frames, nodes, point, day),
     }
-    look_in(words, sides, ranks, frames, nodes, point, day)
 }
 
 // What a group handed over as a list of numbers says of a point on a day, as `lookup` says.

@@ -1,4 +1,4 @@
-// Runs the marked cases of document 01 through the public calls and prints what they answer.
+// Runs the marked cases of document 01 through the public calls and prints what they answer; M10 also in one call for many points.
 use extent::LatSpan;
 use extent::LonSpan;
 use fix::Lookup;
@@ -224,6 +224,41 @@ fn factors() {
     looked(b"M10, day 200", basin(), &nodes, 5, 5, 200);
 }
 
+// Writes an answer of the columns: the chosen grid's number and its first result, or the refusal.
+fn say_answer(number: i64, grid: i64, first: i64) {
+    if number == 0 {
+        say(b"grid ");
+        say_number(grid);
+        say(b", ");
+        say_number(first);
+    } else {
+        say(b"refused ");
+        say_number(number);
+    }
+}
+
+// M10's three days and a day beyond the limit in one call, as columns.
+fn days_at_once() {
+    let nodes = [1000000; 6];
+    let days = [99, 133, 200, 1000001];
+    let mut results = [-1i64; 24];
+    let verdict = exercise::lookup_columns(basin(), &nodes, &[5; 4], &[5; 4], &days, &mut results);
+    say(b"M10, its days and 1000001 at once: ");
+    match verdict {
+        Verdict::Accepted => {
+            say_answer(results[0], results[2], results[3]);
+            say(b"; ");
+            say_answer(results[6], results[8], results[9]);
+            say(b"; ");
+            say_answer(results[12], results[14], results[15]);
+            say(b"; ");
+            say_answer(results[18], results[20], results[21]);
+        }
+        Verdict::Refused(r) => say_refused(r),
+    }
+    say(b"\n");
+}
+
 // M11 and M12, and M11 in the area of longitudes ±648,000,000 and latitudes ±324,000,000.
 fn areas() {
     let small = area(0, 20, 0, 10);
@@ -247,6 +282,7 @@ fn main() {
     ties();
     marks();
     factors();
+    days_at_once();
     areas();
     equal_ranks();
     loaded(b"0.5 at Q 0", 0.5);

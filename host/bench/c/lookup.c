@@ -3,15 +3,11 @@
 
 #include <string.h>
 
-/* n / d for d above 0, to the nearest, a tie to the even one. */
+/* n / d for d above 0, to the nearest, a tie to the even one, without a branch. */
 static int64_t nearest(int64_t n, int64_t d)
 {
-    int64_t q = n / d, r = n % d;
-    if (r < 0) {
-        r += d;
-        q--;
-    }
-    return q + (2 * r > d || (2 * r == d && (q & 1)));
+    int64_t q = n / d - (n % d < 0), r = n - q * d;
+    return q + (2 * r + (q & 1) > d);
 }
 
 /* The sum of the ramps' factors on a day. */
@@ -42,13 +38,12 @@ static int64_t cell(int64_t from, int64_t size, int64_t count, int64_t at, int64
     return index;
 }
 
-/* The results in a grid that holds the point: 0, 8 or 11. */
-static uint64_t results(const bulhyemik_group *group, const bulhyemik_grid *g, const int32_t *nodes,
-                        const plain_position *at, int64_t *result)
+/* The results in a grid that holds the point, with the day's factor: 0, 8 or 11. */
+static uint64_t results_in(const bulhyemik_grid *g, int64_t np, const int32_t *nodes, int64_t lon, int64_t lat, int64_t times,
+                           int64_t *result)
 {
     int64_t sx = g->dlon < 0 ? -g->dlon : g->dlon, sy = g->dlat < 0 ? -g->dlat : g->dlat, fx, fy;
-    int64_t i = cell(g->lon, sx, g->ni, at->lon, &fx), j = cell(g->lat, sy, g->nj, at->lat, &fy);
-    int64_t np = group->parameters, row = g->ni * np, times = factor(group, at->day), c, p;
+    int64_t i = cell(g->lon, sx, g->ni, lon, &fx), j = cell(g->lat, sy, g->nj, lat, &fy), row = g->ni * np, c, p;
     const int32_t *first = nodes + g->start + (j * g->ni + i) * np;
     const int32_t *corner[4];
     int64_t weight[4], sum[BULHYEMIK_MOST_PARAMETERS] = {0, 0, 0};
@@ -77,35 +72,56 @@ static uint64_t results(const bulhyemik_group *group, const bulhyemik_grid *g, c
     return 0;
 }
 
-/* The point's own work: 6, 9, the choice, 7, 8 and 11. `few` is 13's grid, or 0. */
-static uint64_t point(const bulhyemik_group *group, const plain_sides *sides, int64_t few, const int32_t *nodes,
-                      const plain_position *at, bulhyemik_fix *fix, uint64_t *place)
+/* 6, 9 or 0. */
+static uint64_t admitted(int64_t lon, int64_t lat, int64_t day)
 {
-    int64_t chosen = -1, best = INT64_MAX, result[BULHYEMIK_MOST_PARAMETERS] = {0, 0, 0}, k;
-    uint64_t number;
-    memset(fix, 0, sizeof *fix);
-    if (!within(at->lon, LONGITUDE) || !within(at->lat, LATITUDE))
-        return refused(6, 0, place);
-    if (!within(at->day, DAY))
-        return refused(9, 0, place);
-    if (few != 0)
-        return refused(13, few, place);
+    if (!within(lon, LONGITUDE) || !within(lat, LATITUDE))
+        return 6;
+    return within(day, DAY) ? 0 : 9;
+}
+
+static int holds(const plain_sides *s, int64_t lon, int64_t lat)
+{
+    return s->west <= lon && lon <= s->east && s->south <= lat && lat <= s->north;
+}
+
+/* For one point: the best grid that holds it, from 0, or -1. */
+static int64_t best_holder(const bulhyemik_group *group, const plain_sides *sides, int64_t lon, int64_t lat)
+{
+    int64_t chosen = -1, best = INT64_MAX, k;
     for (k = 0; k < group->grids; k++) {
-        const plain_sides *s = &sides[k];
-        if (s->west <= at->lon && at->lon <= s->east && s->south <= at->lat && at->lat <= s->north &&
-            group->grid[k].rank < best) {
+        int64_t rank = group->grid[k].rank;
+        if (rank < best && holds(&sides[k], lon, lat)) {
             chosen = k;
-            best = group->grid[k].rank;
+            best = rank;
         }
     }
+    return chosen;
+}
+
+/* For many points: the same by the grids' order of ranks, and their sides in it. Grids of one rank do not meet, so that the
+ * first that holds the point is the best. */
+static int64_t first_holder(const int64_t *order, const plain_sides *ordered, int64_t grids, int64_t lon, int64_t lat)
+{
+    int64_t k;
+    for (k = 0; k < grids; k++)
+        if (holds(&ordered[k], lon, lat))
+            return order[k];
+    return -1;
+}
+
+/* The results in the grid that was chosen for the point, with the day's factor: 0, 7, 8 or 11, beside which the fix is zeros. */
+static uint64_t found(const bulhyemik_group *group, int64_t chosen, const int32_t *nodes, int64_t lon, int64_t lat,
+                      int64_t times, bulhyemik_fix *fix)
+{
+    uint64_t number;
+    memset(fix, 0, sizeof *fix);
     if (chosen < 0)
-        return refused(7, 0, place);
-    number = results(group, &group->grid[chosen], nodes, at, result);
-    if (number == 0) {
+        return 7;
+    number = results_in(&group->grid[chosen], group->parameters, nodes, lon, lat, times, fix->result);
+    if (number == 0)
         fix->grid = chosen + 1;
-        memcpy(fix->result, result, sizeof result);
-    }
-    return refused(number, 0, place);
+    return number;
 }
 
 /* The lowest grid whose nodes end behind the list, from 1, or 0. */
@@ -122,26 +138,54 @@ uint64_t plain_lookup(const bulhyemik_group *group, const int32_t *nodes, size_t
                       int64_t lon, int64_t lat, int64_t day, bulhyemik_fix *fix, uint64_t *place)
 {
     plain_sides sides[BULHYEMIK_MOST_GRIDS];
-    plain_position at = {lon, lat, day};
     uint64_t number = plain_judged(group, sides, place);
-    if (number != 0) {
-        memset(fix, 0, sizeof *fix);
+    int64_t few;
+    memset(fix, 0, sizeof *fix);
+    if (number != 0)
         return number;
-    }
-    return point(group, sides, few_nodes(group, nodes_len), nodes, &at, fix, place);
+    number = admitted(lon, lat, day);
+    if (number != 0)
+        return refused(number, 0, place);
+    few = few_nodes(group, nodes_len);
+    if (few != 0)
+        return refused(13, few, place);
+    return refused(found(group, best_holder(group, sides, lon, lat), nodes, lon, lat, factor(group, day), fix), 0, place);
 }
 
-uint64_t plain_track(const bulhyemik_group *group, const int32_t *nodes, size_t nodes_len, const plain_position *points,
-                     size_t count, uint64_t *numbers, bulhyemik_fix *fixes, uint64_t *place)
+uint64_t plain_lookup_many(const bulhyemik_group *group, const int32_t *nodes, size_t nodes_len,
+                           const bulhyemik_position *points, size_t points_len,
+                           bulhyemik_answer *results, size_t results_len, uint64_t *place)
 {
-    plain_sides sides[BULHYEMIK_MOST_GRIDS];
-    uint64_t number = plain_judged(group, sides, place), at;
-    int64_t few;
+    plain_sides sides[BULHYEMIK_MOST_GRIDS], ordered[BULHYEMIK_MOST_GRIDS];
+    uint64_t number = plain_judged(group, sides, place);
+    int64_t order[BULHYEMIK_MOST_GRIDS], few, day = 0, times, chosen, j;
     size_t k;
     if (number != 0)
         return number;
+    if (results_len != points_len)
+        return refused(12, 0, place);
     few = few_nodes(group, nodes_len);
-    for (k = 0; k < count; k++)
-        numbers[k] = point(group, sides, few, nodes, &points[k], &fixes[k], &at);
-    return 0;
+    if (few != 0)
+        return refused(13, few, place);
+    plain_order_by_rank(group, order);
+    for (j = 0; j < group->grids; j++)
+        ordered[j] = sides[order[j]];
+    times = factor(group, day);
+    for (k = 0; k < points_len; k++) {
+        const bulhyemik_position *at = &points[k];
+        bulhyemik_answer *answer = &results[k];
+        answer->place = 0;
+        answer->number = admitted(at->lon, at->lat, at->day);
+        if (answer->number != 0) {
+            memset(&answer->fix, 0, sizeof answer->fix);
+            continue;
+        }
+        if (at->day != day) {
+            day = at->day;
+            times = factor(group, day);
+        }
+        chosen = first_holder(order, ordered, group->grids, at->lon, at->lat);
+        answer->number = found(group, chosen, nodes, at->lon, at->lat, times, &answer->fix);
+    }
+    return refused(0, 0, place);
 }

@@ -2,8 +2,9 @@
 
 use crate::layouts;
 use crate::work::{Row, Work};
-use crate::works::{InForceEverywhere, Judge, Load, Lookups, Read, Write};
-use interface::{Grid, Group, HEADER_BYTES, Name, Position, Timed};
+use crate::works::{Exercise, InForceEverywhere, Judge, Load, Lookups, Read, Write};
+use differ::Random;
+use interface::{Grid, Group, HEADER_BYTES, MOST_RAMPS, Name, Position, Ramp, Timed};
 
 /// How many points, digits and floats the long works have.
 #[derive(Clone, Copy)]
@@ -34,6 +35,43 @@ fn track(count: i64, step: i64) -> Vec<Position> {
     (1..=count).map(at).collect()
 }
 
+/// The last of the days on which points are looked up; the first is 0.
+const LAST_DAY: i64 = 10_000;
+
+/// A group with no ramps, or with all that there may be: each changes the factor from day to day.
+fn with_ramps(group: Group, ramps: bool) -> Group {
+    const RAMP: Ramp = Ramp { a: -1, s0: 100_000, b: LAST_DAY + 1, s1: 200_000 };
+    let (count, ramp) = if ramps { (MOST_RAMPS as i64, RAMP) } else { (0, Ramp::default()) };
+    Group { ramps: count, ramp: [ramp; MOST_RAMPS], ..group }
+}
+
+/// A square of points that a group's grids hold, and how far a ship goes from one point to the next, in milliarcseconds.
+#[derive(Clone, Copy)]
+struct Waters {
+    group: fn() -> Group,
+    west_and_south: i64,
+    width: i64,
+    step: i64,
+}
+
+const ONE_GRID: Waters = Waters { group: one_grid, west_and_south: 0, width: 3_596_400, step: 97 };
+const NESTED: Waters = Waters { group: layouts::nested, west_and_south: -630, width: 1_280, step: 1 };
+
+/// Neighbouring points of one day.
+fn neighbours(waters: Waters, count: i64) -> Vec<Position> {
+    let Waters { west_and_south, width, step, .. } = waters;
+    let on = |way: i64| west_and_south + way % width;
+    (0..count).map(|k| Position { lon: on(k * step), lat: on(k * step * 5 / 8), day: LAST_DAY / 3 }).collect()
+}
+
+/// Points anywhere, each on a day of its own.
+fn scattered(waters: Waters, count: i64) -> Vec<Position> {
+    let Waters { west_and_south, width, .. } = waters;
+    let mut random = Random::new("points", 0, 0);
+    let mut on = || west_and_south + random.between(0, width);
+    (0..count).map(|k| Position { lon: on(), lat: on(), day: k * 7_919 % LAST_DAY }).collect()
+}
+
 /// The text of a group's header, as plain Rust writes it.
 pub fn text(group: &Group) -> Vec<u8> {
     let (mut out, mut count, mut place) = (vec![0; HEADER_BYTES], 0, 0);
@@ -59,17 +97,34 @@ fn in_force(name: &'static str, layout: fn() -> Group) -> Row {
     row(name, 20, move || InForceEverywhere::new(layout()))
 }
 
+/// Points of some waters looked up by one call.
+fn exercise(
+    name: &'static str,
+    count: i64,
+    waters: Waters,
+    points: fn(Waters, i64) -> Vec<Position>,
+    ramps: bool,
+) -> Row {
+    row(name, 5, move || Exercise::new(with_ramps((waters.group)(), ramps), points(waters, count)))
+}
+
 /// Every row, in the order of the table.
 pub fn all(sizes: Sizes) -> Vec<Row> {
     let Sizes { points, .. } = sizes;
     vec![
         row("judge of 64 grids", 100, || Judge::new(layouts::nested())),
-        row("one lookup, 1 grid", 500, || Lookups::new(one_grid(), track(1, 3_000), false)),
-        row("one lookup, 64 grids", 100, || Lookups::new(layouts::nested(), track(1, 1), false)),
-        row("10,000 lookups on a track, 1 grid", 1, move || Lookups::new(one_grid(), track(points, 3_000), false)),
-        row("10,000 lookups on a track, 64 grids", 1, move || Lookups::new(layouts::nested(), track(points, 1), false)),
-        row("a track of 10,000 points, 1 grid", 1, move || Lookups::new(one_grid(), track(points, 3_000), true)),
-        row("a track of 10,000 points, 64 grids", 1, move || Lookups::new(layouts::nested(), track(points, 1), true)),
+        row("one lookup, 1 grid", 500, || Lookups::new(one_grid(), track(1, 3_000))),
+        row("one lookup, 64 grids", 100, || Lookups::new(layouts::nested(), track(1, 1))),
+        row("10,000 lookups on a track, 1 grid", 1, move || Lookups::new(one_grid(), track(points, 3_000))),
+        row("10,000 lookups on a track, 64 grids", 1, move || Lookups::new(layouts::nested(), track(points, 1))),
+        exercise("10,000 points at once, a track, 1 grid", points, ONE_GRID, neighbours, false),
+        exercise("10,000 points at once, a track, 1 grid, 8 ramps", points, ONE_GRID, neighbours, true),
+        exercise("10,000 points at once, random, 1 grid", points, ONE_GRID, scattered, false),
+        exercise("10,000 points at once, random, 1 grid, 8 ramps", points, ONE_GRID, scattered, true),
+        exercise("10,000 points at once, a track, 64 grids", points, NESTED, neighbours, false),
+        exercise("10,000 points at once, a track, 64 grids, 8 ramps", points, NESTED, neighbours, true),
+        exercise("10,000 points at once, random, 64 grids", points, NESTED, scattered, false),
+        exercise("10,000 points at once, random, 64 grids, 8 ramps", points, NESTED, scattered, true),
         in_force("grids in force, 63 tiles hide one grid", layouts::hidden),
         in_force("grids in force, narrow lanes", layouts::lanes),
         in_force("grids in force, squares in squares", layouts::nested),
@@ -101,6 +156,7 @@ mod tests {
     use super::{Sizes, WHOLE, all, named};
     use crate::back_end;
     use crate::measure::answers;
+    use interface::Answer;
     use reference::Reference;
 
     /// Every work once, on small inputs: the plain versions answer as the second program does, and so that the work is done whole.
@@ -114,6 +170,10 @@ mod tests {
             }
             let refused = if row.name.contains("digits") { 2 } else { 0 };
             assert_eq!(answers[0][0], refused, "{}", row.name);
+            if row.name.contains("at once") {
+                let points = answers[0][1..].chunks(size_of::<Answer>() / size_of::<i64>());
+                assert!(points.len() == 30 && points.into_iter().all(|point| point[0] == 0), "{}", row.name);
+            }
         }
     }
 

@@ -3,7 +3,7 @@
 use crate::back_end::BackEnd;
 use crate::work::Work;
 use interface::lent::Words;
-use interface::{Area, Fix, Grid, Group, HEADER_BYTES, InForce, Position};
+use interface::{Answer, Area, Fix, Grid, Group, HEADER_BYTES, InForce, Position};
 use std::hash::{DefaultHasher, Hash, Hasher};
 
 pub struct Judge {
@@ -28,31 +28,31 @@ impl Work for Judge {
     }
 }
 
-/// Lookups in one group, one by one, or by the back end's own way for a whole track if it has one and it is wanted.
+/// Nodes for all grids of a group.
+fn nodes(group: &Group) -> Vec<i32> {
+    let end = |g: &Grid| g.start + g.ni * g.nj * group.parameters;
+    let len = group.grid.iter().map(end).max().unwrap_or(0);
+    (0..len).map(|k| (k * 7_919 % 8_000_001 - 4_000_000) as i32).collect()
+}
+
+/// Lookups in one group, one by one.
 pub struct Lookups {
     group: Group,
     nodes: Vec<i32>,
     points: Vec<Position>,
-    whole: bool,
     numbers: Vec<u64>,
     fixes: Vec<Fix>,
 }
 
 impl Lookups {
-    pub fn new(group: Group, points: Vec<Position>, whole: bool) -> Lookups {
-        let end = |g: &Grid| g.start + g.ni * g.nj * group.parameters;
-        let len = group.grid.iter().map(end).max().unwrap_or(0);
-        let nodes = (0..len).map(|k| (k * 7_919 % 8_000_001 - 4_000_000) as i32).collect();
+    pub fn new(group: Group, points: Vec<Position>) -> Lookups {
         let (numbers, fixes) = (vec![0; points.len()], vec![Fix::default(); points.len()]);
-        Lookups { group, nodes, points, whole, numbers, fixes }
+        Lookups { nodes: nodes(&group), group, points, numbers, fixes }
     }
 }
 
 impl Work for Lookups {
     fn run(&mut self, back_end: &BackEnd) {
-        if let (true, Some(track)) = (self.whole, back_end.track) {
-            return track(&self.group, &self.nodes, &self.points, &mut self.numbers, &mut self.fixes);
-        }
         let lent = self.numbers.iter_mut().zip(&mut self.fixes);
         for (&at, (number, fix)) in self.points.iter().zip(lent) {
             *number = back_end.calls.lookup(&self.group, &self.nodes, at, fix, &mut 0);
@@ -62,6 +62,33 @@ impl Work for Lookups {
     fn answer(&self) -> Vec<i64> {
         let fixes = self.fixes.iter().flat_map(|fix| fix.words());
         self.numbers.iter().map(|&number| number as i64).chain(fixes.copied()).collect()
+    }
+}
+
+/// All points looked up in one group by one call.
+pub struct Exercise {
+    group: Group,
+    nodes: Vec<i32>,
+    points: Vec<Position>,
+    results: Vec<Answer>,
+    number: u64,
+}
+
+impl Exercise {
+    pub fn new(group: Group, points: Vec<Position>) -> Exercise {
+        let results = vec![Answer::default(); points.len()];
+        Exercise { nodes: nodes(&group), group, points, results, number: 0 }
+    }
+}
+
+impl Work for Exercise {
+    fn run(&mut self, back_end: &BackEnd) {
+        let Exercise { group, nodes, points, results, number } = self;
+        *number = back_end.calls.lookup_many(group, nodes, points, results, &mut 0);
+    }
+
+    fn answer(&self) -> Vec<i64> {
+        [&[self.number as i64], Answer::words_of(&self.results)].concat()
     }
 }
 

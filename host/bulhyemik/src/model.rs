@@ -1,10 +1,10 @@
-//! A group with its nodes, and lookups in it.
+//! A group with its nodes, and lookups in it, one by one or many at once.
 
 use crate::arguments::Arguments;
 use crate::files;
 use crate::group::{self, name};
 use crate::stop::Stop;
-use interface::{Calls, Fix, Found, Group, Position};
+use interface::{Answer, Calls, Fix, Found, Group, Position};
 
 pub struct Model {
     pub group: Group,
@@ -24,9 +24,24 @@ impl Model {
 
     /// Looks a position up.
     pub fn look(&self, calls: &dyn Calls, position: Position) -> Found {
-        let (mut fix, mut at) = (Fix::default(), 0);
-        let number = calls.lookup(&self.group, &self.nodes, position, &mut fix, &mut at);
-        Found { quantum: self.group.quantum, parameters: self.group.parameters, number, at, fix }
+        let (mut fix, mut place) = (Fix::default(), 0);
+        let number = calls.lookup(&self.group, &self.nodes, position, &mut fix, &mut place);
+        self.found(Answer { number, place, fix })
+    }
+
+    /// Looks positions up by one call. Where a node list that ends early refuses it, each is looked up by itself: a point or a
+    /// day outside its limit is told before the list.
+    pub fn look_many(&self, calls: &dyn Calls, positions: &[Position]) -> Vec<Found> {
+        let mut results = vec![Answer::default(); positions.len()];
+        match calls.lookup_many(&self.group, &self.nodes, positions, &mut results, &mut 0) {
+            0 => results.into_iter().map(|answer| self.found(answer)).collect(),
+            _ => positions.iter().map(|&position| self.look(calls, position)).collect(),
+        }
+    }
+
+    /// A lookup's answer as the screen is told of it.
+    fn found(&self, Answer { number, place, fix }: Answer) -> Found {
+        Found { quantum: self.group.quantum, parameters: self.group.parameters, number, at: place, fix }
     }
 
     /// The name of the grid that a lookup chose, and a shift of each parameter, parted by tabs.

@@ -1,4 +1,5 @@
-//! Points of the command line or of standard input, each with its line of output as soon as it is known.
+//! Points of the command line or of standard input, each with its line of output as soon as it is known. Those of standard input
+//! are looked up in blocks: a block is what is there when its first line has been read, so that nothing waits for more.
 
 use crate::arguments::Arguments;
 use crate::files::not_read;
@@ -7,7 +8,7 @@ use crate::number::decimal;
 use crate::output::Output;
 use crate::shown::bytes;
 use crate::stop::{Refusal, Stop};
-use interface::{Calls, Position};
+use interface::{Calls, Found, Position};
 use progress::Progress;
 use std::ffi::OsStr;
 use std::io::{self, BufRead, BufReader, Read};
@@ -15,18 +16,18 @@ use std::io::{self, BufRead, BufReader, Read};
 /// A longer line of standard input is no point.
 const LONGEST: usize = 1 << 16;
 
-/// What a command prints of an accepted point.
-pub type Answer = fn(&dyn Calls, &Model, Position) -> Result<String, Refusal>;
+/// What a command prints of a point and its lookup where that is accepted.
+pub type Printed = fn(&dyn Calls, &Model, Position, &Found) -> Result<String, Refusal>;
 
 /// Answers LON LAT DAY, the third to fifth argument, or without them each point of standard input.
-pub fn answer(calls: &dyn Calls, arguments: &Arguments, out: &mut Output, answer: Answer) -> Result<(), Stop> {
+pub fn answer(calls: &dyn Calls, arguments: &Arguments, out: &mut Output, printed: Printed) -> Result<(), Stop> {
     if arguments.count(&[2, 5], "HEADER NODES, or HEADER NODES LON LAT DAY")? == 2 {
-        return answer_all(calls, arguments, out, answer);
+        return answer_all(calls, arguments, out, printed);
     }
     let [lon, lat] = [arguments.number(2, "LON")?, arguments.number(3, "LAT")?];
     let at = Position { lon, lat, day: arguments.number(4, "DAY")? };
     let model = Model::read(calls, arguments)?;
-    match answer(calls, &model, at) {
+    match printed(calls, &model, at, &model.look(calls, at)) {
         Ok(line) => out.put(line),
         Err(refusal) => Err(Stop::Refused { line: refused(refusal, at), words: refusal.words() }),
     }
@@ -37,30 +38,45 @@ fn refused(refusal: Refusal, Position { lon, lat, day }: Position) -> String {
     format!("{}\t{lon}\t{lat}\t{day}", refusal.line())
 }
 
-fn answer_all(calls: &dyn Calls, arguments: &Arguments, out: &mut Output, answer: Answer) -> Result<(), Stop> {
+fn answer_all(calls: &dyn Calls, arguments: &Arguments, out: &mut Output, printed: Printed) -> Result<(), Stop> {
     if arguments.is_standard_input(0) || arguments.is_standard_input(1) {
         return Err(arguments.usage("standard input holds the points, so HEADER and NODES must be files".into()));
     }
     let model = Model::read(calls, arguments)?;
     let mut progress = Progress::counting("points");
     let mut lines = Lines::new();
+    let mut points = Vec::new();
     let mut all_accepted = true;
     let mut k = 0;
-    while let Some(line) = lines.next(out)? {
-        k += 1;
-        let at = point(line).ok_or_else(|| bad_line(arguments, k, line))?;
-        match answer(calls, &model, at) {
-            Ok(line) => out.put(line)?,
-            Err(refusal) => {
-                all_accepted = false;
-                out.put(refused(refusal, at) + "\n")?;
-                progress.clear();
-                out.say(&format!("bulhyemik: point {k} refused: {}\n", refusal.words()))?;
+    loop {
+        out.flush()?;
+        let behind = lines.block(&mut points)?;
+        for (&at, found) in points.iter().zip(model.look_many(calls, &points)) {
+            k += 1;
+            match printed(calls, &model, at, &found) {
+                Ok(line) => out.put(line)?,
+                Err(refusal) => {
+                    all_accepted = false;
+                    out.put(refused(refusal, at) + "\n")?;
+                    progress.clear();
+                    out.say(&format!("bulhyemik: point {k} refused: {}\n", refusal.words()))?;
+                }
             }
+            progress.at(k);
         }
-        progress.at(k);
+        match behind {
+            Behind::Wait => {}
+            Behind::BadLine(line) => return Err(bad_line(arguments, k + 1, line)),
+            Behind::End => return if all_accepted { Ok(()) } else { Err(Stop::PointsRefused) },
+        }
     }
-    if all_accepted { Ok(()) } else { Err(Stop::PointsRefused) }
+}
+
+/// What stands behind the points of a block: nothing yet, a line that is no point, or the end of standard input.
+enum Behind<'a> {
+    Wait,
+    BadLine(&'a [u8]),
+    End,
 }
 
 /// The lines of standard input.
@@ -74,18 +90,35 @@ impl Lines {
         Lines { input: BufReader::with_capacity(LONGEST, io::stdin().lock()), line: Vec::new() }
     }
 
-    /// The next line without its line feed, which the last one need not have. Before it is waited for, all answers so far go out.
-    fn next(&mut self, out: &mut Output) -> Result<Option<&[u8]>, Stop> {
-        if !self.input.buffer().contains(&b'\n') {
-            out.flush()?;
+    /// The points of the next line, which is waited for, and of all lines that are there behind it.
+    fn block(&mut self, points: &mut Vec<Position>) -> Result<Behind<'_>, Stop> {
+        points.clear();
+        loop {
+            self.read()?;
+            if self.line.is_empty() {
+                return Ok(Behind::End);
+            }
+            match point(self.line()) {
+                Some(at) => points.push(at),
+                None => return Ok(Behind::BadLine(self.line())),
+            }
+            if !self.input.buffer().contains(&b'\n') {
+                return Ok(Behind::Wait);
+            }
         }
+    }
+
+    /// Reads a line, or nothing at the end of standard input.
+    fn read(&mut self) -> Result<(), Stop> {
         self.line.clear();
         let mut within = self.input.by_ref().take(LONGEST as u64);
         within.read_until(b'\n', &mut self.line).map_err(|error| not_read(OsStr::new("-"), &error))?;
-        if self.line.is_empty() {
-            return Ok(None);
-        }
-        Ok(Some(self.line.strip_suffix(b"\n").unwrap_or(&self.line)))
+        Ok(())
+    }
+
+    /// The line that was read without its line feed, which the last one need not have.
+    fn line(&self) -> &[u8] {
+        self.line.strip_suffix(b"\n").unwrap_or(&self.line)
     }
 }
 

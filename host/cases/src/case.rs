@@ -3,7 +3,7 @@
 use crate::file::Definitions;
 use crate::parts::{bits32, bits64, bytes, list, number};
 use crate::record::{functions, record};
-use interface::{Entry, Fix, Group, Part, Ramp};
+use interface::{Answer, Entry, Fix, Group, Part, Position, Ramp};
 
 /// What a case hands to its call. Groups and node lists stand under their ids in the file.
 #[derive(Clone, Debug)]
@@ -13,6 +13,7 @@ pub enum Input {
     WriteHeader { group: String, out_len: usize },
     Field { line: Vec<u8>, number: u64 },
     Lookup { group: String, nodes: String, lon: i64, lat: i64, day: i64 },
+    Batch { group: String, nodes: String, out_len: usize, points: Vec<Position> },
     InForce { group: String, west: i64, east: i64, south: i64, north: i64 },
     Load { quantum: i64, flag: f32, out_len: usize, floats: Vec<f32> },
     Screen { lon: i64, lat: i64, quantum: i64, parameters: i64, number: u64, at: u64, fix: Fix },
@@ -28,6 +29,7 @@ pub enum Expected {
     Written { count: u64, bytes: Vec<u8> },
     Part(Part),
     Fix(Fix),
+    Answers(Vec<Answer>),
     InForce { count: i64, entries: Vec<Entry> },
     Nodes(Vec<i32>),
     Screen([u64; 5]),
@@ -45,17 +47,24 @@ pub struct Case {
 /// The inputs of a case of the named call.
 pub fn input(call: &str, words: &[&str], defined: &Definitions) -> Result<Input, String> {
     let group = |id: &str| defined.group(id).map(|_| id.to_string());
+    let nodes = |id: &str| defined.nodes(id).map(|_| id.to_string());
     Ok(match (call, words) {
         ("read_header", &[text]) => Input::ReadHeader { text: bytes(text)? },
         ("judge_record", &[id]) => Input::JudgeRecord { group: group(id)? },
         ("write_header", &[id, len]) => Input::WriteHeader { group: group(id)?, out_len: number(len)? },
         ("field", &[line, k]) => Input::Field { line: bytes(line)?, number: number(k)? },
-        ("lookup", &[id, nodes, lon, lat, day]) => Input::Lookup {
+        ("lookup", &[id, list, lon, lat, day]) => Input::Lookup {
             group: group(id)?,
-            nodes: defined.nodes(nodes).map(|_| nodes.to_string())?,
+            nodes: nodes(list)?,
             lon: number(lon)?,
             lat: number(lat)?,
             day: number(day)?,
+        },
+        ("batch", &[id, list, len, points]) => Input::Batch {
+            group: group(id)?,
+            nodes: nodes(list)?,
+            out_len: number(len)?,
+            points: some(&[points], position)?,
         },
         ("in_force", &[id, west, east, south, north]) => Input::InForce {
             group: group(id)?,
@@ -93,6 +102,7 @@ pub fn expected(call: &str, words: &[&str]) -> Result<Expected, String> {
         ("write_header", &["ok", count, text]) => Expected::Written { count: number(count)?, bytes: bytes(text)? },
         ("field", &["ok", from, to]) => Expected::Part(Part { from: number(from)?, to: number(to)? }),
         ("lookup", &["ok", grid, r1, r2, r3]) => Expected::Fix(fix([grid, r1, r2, r3])?),
+        ("batch", &["ok", answers]) => Expected::Answers(some(&[answers], answer)?),
         ("in_force", &["ok", count, ref entries @ ..]) => {
             Expected::InForce { count: number(count)?, entries: list(&entries.join(" "), entry)? }
         }
@@ -114,6 +124,25 @@ fn some<T>(words: &[&str], one: impl Fn(&str) -> Result<T, String>) -> Result<Ve
 /// A grid's number and three results.
 fn fix([grid, r1, r2, r3]: [&str; 4]) -> Result<Fix, String> {
     Ok(Fix { grid: number(grid)?, result: [number(r1)?, number(r2)?, number(r3)?] })
+}
+
+/// `lon,lat,day`
+fn position(word: &str) -> Result<Position, String> {
+    match word.split(',').collect::<Vec<_>>()[..] {
+        [lon, lat, day] => Ok(Position { lon: number(lon)?, lat: number(lat)?, day: number(day)? }),
+        _ => Err(format!("'{word}' is no lon,lat,day")),
+    }
+}
+
+/// `ok,grid,r1,r2,r3` or `refuse,number,place`
+fn answer(word: &str) -> Result<Answer, String> {
+    match word.split(',').collect::<Vec<_>>()[..] {
+        ["ok", grid, r1, r2, r3] => Ok(Answer { fix: fix([grid, r1, r2, r3])?, ..Answer::default() }),
+        ["refuse", refusal, place] => {
+            Ok(Answer { number: number(refusal)?, place: number(place)?, ..Answer::default() })
+        }
+        _ => Err(format!("'{word}' is no answer of a point")),
+    }
 }
 
 /// `grid:lon:lat`

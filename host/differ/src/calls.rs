@@ -3,11 +3,11 @@
 use crate::floats::floats;
 use crate::groups::{damage, sound};
 use crate::outcome::Outcome;
-use crate::places::{area, nodes, position};
+use crate::places::{area, nodes, position, positions};
 use crate::random::Random;
 use crate::texts;
 use interface::lent::{Element, Words, patterned};
-use interface::{Calls, Fix, Found, Group, HEADER_BYTES, InForce, Part, Screen, Timed};
+use interface::{Answer, Calls, Fix, Found, Group, HEADER_BYTES, InForce, Part, Screen, Timed};
 
 /// An input that is ready to be given to any back end that has its call.
 pub type Input<B> = Box<dyn Fn(&B) -> Outcome>;
@@ -20,11 +20,12 @@ pub struct Call<B: ?Sized> {
 }
 
 /// The calls of `Timed`.
-pub const TIMED: [Call<dyn Timed>; 6] = [
+pub const TIMED: [Call<dyn Timed>; 7] = [
     Call { name: "judge", input: judge, numbers: &[0, 2, 3, 4, 5] },
     Call { name: "read_header", input: read_header, numbers: &[0, 1, 2, 3, 4, 5] },
     Call { name: "write_header", input: write_header, numbers: &[0, 2, 3, 4, 5, 12] },
     Call { name: "lookup", input: lookup, numbers: &[0, 2, 3, 4, 5, 6, 7, 8, 9, 11, 13] },
+    Call { name: "lookup_many", input: lookup_many, numbers: &[0, 2, 3, 4, 5, 12, 13] },
     Call { name: "grids_in_force", input: grids_in_force, numbers: &[0, 2, 3, 4, 5, 10] },
     Call { name: "load_nodes", input: load_nodes, numbers: &[0, 2, 11, 12] },
 ];
@@ -112,6 +113,23 @@ fn lookup(random: &mut Random) -> Input<dyn Timed> {
         let (mut fix, mut place) = (Fix::patterned(), lent());
         let number = calls.lookup(&group, &nodes, at, &mut fix, &mut place);
         Outcome::new(number).with("place", &[place]).with("fix", fix.words())
+    })
+}
+
+fn lookup_many(random: &mut Random) -> Input<dyn Timed> {
+    let group = group(random, 35);
+    let nodes = nodes(random, &group);
+    let points = positions(random, &group);
+    let results_len = match random.below(16) {
+        0 => points.len() + random.pick(&[1, 2]),
+        1 => points.len().saturating_sub(1),
+        2 => 0,
+        _ => points.len(),
+    };
+    Box::new(move |calls| {
+        let (mut results, mut place) = (Answer::patterned_list(results_len), lent());
+        let number = calls.lookup_many(&group, &nodes, &points, &mut results, &mut place);
+        Outcome::new(number).with("place", &[place]).with("results", Answer::words_of(&results))
     })
 }
 

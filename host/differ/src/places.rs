@@ -40,6 +40,19 @@ pub fn position(random: &mut Random, record: &Group) -> Position {
     Position { lon, lat, day: day(random, record) }
 }
 
+/// The points of an exercise, none, one or many: each on its own day, on days that come back, or all on the first one's.
+pub fn positions(random: &mut Random, record: &Group) -> Vec<Position> {
+    let len = random.pick(&[0, 1, 1, 2, 2, 3, 5, 8, 20, 70]);
+    let mut points: Vec<Position> = (0..len).map(|_| position(random, record)).collect();
+    let earlier_days = random.pick(&[0, 70, 100]);
+    for k in 1..len {
+        if random.percent(earlier_days) {
+            points[k].day = points[random.below(k)].day;
+        }
+    }
+    points
+}
+
 fn day(random: &mut Random, record: &Group) -> i64 {
     let ramp = record.ramp[random.below(8)];
     match random.below(24) {

@@ -3,10 +3,11 @@
 mod mutant;
 
 use differ::{Inputs, OTHERS, Random, Report, TIMED, run};
-use interface::Calls;
+use interface::{Answer, Answers, Calls, Group, Position, Program, Refusal};
 use mutant::MUTANTS;
 use plain::Plain;
 use reference::Reference;
+use std::sync::atomic::{AtomicUsize, Ordering};
 
 const INPUTS: Inputs = Inputs { count: 4_000, seed: 0 };
 
@@ -41,6 +42,35 @@ fn every_number_that_a_call_can_return_comes_in_one_of_a_hundred_inputs() {
                 assert_eq!(count, 0, "{name}: {number}");
             }
         }
+    }
+}
+
+/// The second program, which counts by their numbers the points that it looks up together.
+struct Counting;
+
+static COUNTED: [AtomicUsize; 14] = [const { AtomicUsize::new(0) }; 14];
+
+impl Program for Counting {
+    const ANSWERS: Answers = Answers { lookup_many: counted, ..Reference::ANSWERS };
+}
+
+fn counted(group: &Group, nodes: &[i32], points: &[Position], results: &mut [Answer]) -> Result<(), Refusal> {
+    (Reference::ANSWERS.lookup_many)(group, nodes, points, results)?;
+    for result in results {
+        COUNTED[result.number as usize].fetch_add(1, Ordering::Relaxed);
+    }
+    Ok(())
+}
+
+#[test]
+fn every_refusal_of_a_point_comes_in_one_of_a_hundred_points_looked_up_together() {
+    let call = TIMED.iter().find(|call| call.name == "lookup_many").expect("it is timed");
+    run(call, INPUTS, &Counting, &Reference, |_| {});
+    let counts = COUNTED.each_ref().map(|count| count.load(Ordering::Relaxed));
+    println!("{counts:?}");
+    let all: usize = counts.iter().sum();
+    for number in [0, 6, 7, 8, 9, 11] {
+        assert!(counts[number] * 100 >= all, "{number} came {} times in {all} points", counts[number]);
     }
 }
 

@@ -1,6 +1,6 @@
 //! The timed calls over a program written in Rust, whose answers are values or refusals.
 
-use crate::{Area, Entry, Fix, Group, InForce, Position, Timed};
+use crate::{Answer, Area, Entry, Fix, Group, InForce, Position, Timed};
 
 /// A refusal: its number in document 01's table and its place.
 #[derive(Clone, Copy, Debug, PartialEq, Eq)]
@@ -9,17 +9,19 @@ pub struct Refusal {
     pub place: u64,
 }
 
-type Answer<T> = Result<T, Refusal>;
+type Outcome<T> = Result<T, Refusal>;
+type LookupMany = fn(&Group, &[i32], &[Position], &mut [Answer]) -> Outcome<()>;
 
-/// What answers each timed call. `out` and `nodes` are unchanged after a refusal.
+/// What answers each timed call. `out`, `nodes` and `results` are unchanged after a refusal.
 pub struct Answers {
-    pub judge: fn(&Group) -> Answer<()>,
-    pub read_header: fn(&[u8]) -> Answer<Group>,
+    pub judge: fn(&Group) -> Outcome<()>,
+    pub read_header: fn(&[u8]) -> Outcome<Group>,
     /// The count of bytes written.
-    pub write_header: fn(&Group, &mut [u8]) -> Answer<usize>,
-    pub lookup: fn(&Group, &[i32], Position) -> Answer<Fix>,
-    pub grids_in_force: fn(&Group, Area) -> Answer<Vec<Entry>>,
-    pub load_nodes: fn(&[f32], f32, i64, &mut [i32]) -> Answer<()>,
+    pub write_header: fn(&Group, &mut [u8]) -> Outcome<usize>,
+    pub lookup: fn(&Group, &[i32], Position) -> Outcome<Fix>,
+    pub lookup_many: LookupMany,
+    pub grids_in_force: fn(&Group, Area) -> Outcome<Vec<Entry>>,
+    pub load_nodes: fn(&[f32], f32, i64, &mut [i32]) -> Outcome<()>,
 }
 
 /// A program that is known by its answers: a constant, so that nothing stands between the calls and its functions.
@@ -28,13 +30,21 @@ pub trait Program {
 }
 
 /// Hands a value back, zeros after a refusal, with the place; answers the refusal's number.
-pub fn hand_back<T: Default>(outcome: Answer<T>, into: &mut T, place: &mut u64) -> u64 {
+pub fn hand_back<T: Default>(outcome: Outcome<T>, into: &mut T, place: &mut u64) -> u64 {
     let (number, at, value) = match outcome {
         Ok(value) => (0, 0, value),
         Err(refusal) => (refusal.number, refusal.place, T::default()),
     };
     (*into, *place) = (value, at);
     number
+}
+
+impl From<Outcome<Fix>> for Answer {
+    fn from(outcome: Outcome<Fix>) -> Answer {
+        let mut answer = Answer::default();
+        answer.number = hand_back(outcome, &mut answer.fix, &mut answer.place);
+        answer
+    }
 }
 
 impl<T: Program> Timed for T {
@@ -52,6 +62,17 @@ impl<T: Program> Timed for T {
 
     fn lookup(&self, group: &Group, nodes: &[i32], at: Position, fix: &mut Fix, place: &mut u64) -> u64 {
         hand_back((T::ANSWERS.lookup)(group, nodes, at), fix, place)
+    }
+
+    fn lookup_many(
+        &self,
+        group: &Group,
+        nodes: &[i32],
+        points: &[Position],
+        results: &mut [Answer],
+        place: &mut u64,
+    ) -> u64 {
+        hand_back((T::ANSWERS.lookup_many)(group, nodes, points, results), &mut (), place)
     }
 
     fn grids_in_force(&self, group: &Group, area: Area, list: &mut InForce, place: &mut u64) -> u64 {

@@ -10,6 +10,16 @@ pub struct Fix {
     pub result: [i64; MOST_PARAMETERS],
 }
 
+/// The answer to one point of many: the number and the place of the point's own refusal, and what its lookup finds, zeros
+/// beside a refusal.
+#[repr(C)]
+#[derive(Clone, Copy, Debug, Default, PartialEq, Eq)]
+pub struct Answer {
+    pub number: u64,
+    pub place: u64,
+    pub fix: Fix,
+}
+
 /// A grid in force: its number, from 1, and the southmost, then westmost coordinate at which it is chosen.
 #[repr(C)]
 #[derive(Clone, Copy, Debug, Default, PartialEq, Eq)]

@@ -1,10 +1,10 @@
-//! What calls take beside groups and lists: numbers that belong together, which C passes one by one.
+//! What calls take beside groups and lists: numbers that belong together, which C passes one by one, but for a list of positions.
 
 use crate::Fix;
 
 /// A point in milliarcseconds and a day.
 #[repr(C)]
-#[derive(Clone, Copy, Debug, PartialEq, Eq)]
+#[derive(Clone, Copy, Debug, Default, PartialEq, Eq)]
 pub struct Position {
     pub lon: i64,
     pub lat: i64,

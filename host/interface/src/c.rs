@@ -9,7 +9,7 @@
 macro_rules! timed_in_c {
     ($back_end:ident, $prefix:literal) => {
         const _: () = {
-            use $crate::{Area, Fix, Group, InForce, Position};
+            use $crate::{Answer, Area, Fix, Group, InForce, Position};
 
             unsafe extern "C" {
                 #[link_name = concat!($prefix, "judge")]
@@ -27,6 +27,17 @@ macro_rules! timed_in_c {
                     lat: i64,
                     day: i64,
                     fix: &mut Fix,
+                    place: &mut u64,
+                ) -> u64;
+                #[link_name = concat!($prefix, "lookup_many")]
+                fn lookup_many(
+                    group: &Group,
+                    nodes: *const i32,
+                    nodes_len: usize,
+                    points: *const Position,
+                    points_len: usize,
+                    results: *mut Answer,
+                    results_len: usize,
                     place: &mut u64,
                 ) -> u64;
                 #[link_name = concat!($prefix, "grids_in_force")]
@@ -67,6 +78,18 @@ macro_rules! timed_in_c {
                 fn lookup(&self, group: &Group, nodes: &[i32], at: Position, fix: &mut Fix, place: &mut u64) -> u64 {
                     let Position { lon, lat, day } = at;
                     unsafe { lookup(group, nodes.as_ptr(), nodes.len(), lon, lat, day, fix, place) }
+                }
+
+                fn lookup_many(
+                    &self,
+                    group: &Group,
+                    nodes: &[i32],
+                    points: &[Position],
+                    results: &mut [Answer],
+                    place: &mut u64,
+                ) -> u64 {
+                    let (at, from, into) = (nodes.as_ptr(), points.as_ptr(), results.as_mut_ptr());
+                    unsafe { lookup_many(group, at, nodes.len(), from, points.len(), into, results.len(), place) }
                 }
 
                 fn grids_in_force(&self, group: &Group, area: Area, list: &mut InForce, place: &mut u64) -> u64 {

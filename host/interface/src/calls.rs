@@ -1,11 +1,11 @@
 //! The calls of the C interface as traits: one method for each function of include/bulhyemik.h, a slice for pointer and length.
 
-use crate::{Area, Fix, Found, Group, InForce, MOST_PARAMETERS, Part, Position, Screen};
+use crate::{Answer, Area, Fix, Found, Group, InForce, MOST_PARAMETERS, Part, Position, Screen};
 
 /// The calls that the benchmark times, which plain programs answer too.
 ///
 /// Every method answers the number of the refusal, 0 if accepted, and leaves its place in `place`. After a refusal `group`,
-/// `out` and `nodes` are as they were; every other lent number is 0.
+/// `out`, `nodes` and `results` are as they were; every other lent number is 0.
 pub trait Timed {
     /// Judges a group: refusals 2 to 5.
     fn judge(&self, group: &Group, place: &mut u64) -> u64;
@@ -18,6 +18,16 @@ pub trait Timed {
 
     /// Looks a point up on a day: refusals 2 to 9, 11, 13.
     fn lookup(&self, group: &Group, nodes: &[i32], at: Position, fix: &mut Fix, place: &mut u64) -> u64;
+
+    /// Looks points up, each on its own day: refusals 2 to 5, 12, 13; a point's own are in its result: 6 to 9, 11.
+    fn lookup_many(
+        &self,
+        group: &Group,
+        nodes: &[i32],
+        points: &[Position],
+        results: &mut [Answer],
+        place: &mut u64,
+    ) -> u64;
 
     /// Lists the grids in force in an area: refusals 2 to 5, 10.
     fn grids_in_force(&self, group: &Group, area: Area, list: &mut InForce, place: &mut u64) -> u64;

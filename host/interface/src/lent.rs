@@ -1,8 +1,8 @@
 //! Lent output for tests: filled with a pattern before a call, and compared bit by bit after it.
 
-use crate::{Fix, Group, InForce, Part, Screen};
+use crate::{Answer, Fix, Group, InForce, Part, Screen};
 use std::fmt::Debug;
-use std::slice::{from_raw_parts, from_raw_parts_mut};
+use std::slice::{from_mut, from_raw_parts, from_raw_parts_mut, from_ref};
 
 /// An element that lent output is made of.
 pub trait Element: Copy + Debug {
@@ -67,21 +67,38 @@ impl Element for f64 {
 ///
 /// # Safety
 /// The struct is `repr(C)`, is made of whole words alone (a name of 24 bytes is three), and all bits are admitted in each.
-pub unsafe trait Words: Default {
+pub unsafe trait Words: Clone + Default {
     type Word: Element;
 
     /// All words of the struct, in their order.
     fn words(&self) -> &[Self::Word] {
-        unsafe { from_raw_parts((&raw const *self).cast(), size_of::<Self>() / size_of::<Self::Word>()) }
+        Self::words_of(from_ref(self))
     }
 
     /// The struct with the pattern in every word.
     fn patterned() -> Self {
         let mut lent = Self::default();
-        let words: &mut [Self::Word] =
-            unsafe { from_raw_parts_mut((&raw mut lent).cast(), size_of::<Self>() / size_of::<Self::Word>()) };
-        words.iter_mut().enumerate().for_each(|(k, word)| *word = Element::pattern(k));
+        Self::fill(from_mut(&mut lent));
         lent
+    }
+
+    /// All words of a list, in their order.
+    fn words_of(list: &[Self]) -> &[Self::Word] {
+        unsafe { from_raw_parts(list.as_ptr().cast(), size_of_val(list) / size_of::<Self::Word>()) }
+    }
+
+    /// A list of so many with the pattern in every word.
+    fn patterned_list(len: usize) -> Vec<Self> {
+        let mut lent = vec![Self::default(); len];
+        Self::fill(&mut lent);
+        lent
+    }
+
+    /// Puts the pattern into every word of a list.
+    fn fill(list: &mut [Self]) {
+        let words: &mut [Self::Word] =
+            unsafe { from_raw_parts_mut(list.as_mut_ptr().cast(), size_of_val(list) / size_of::<Self::Word>()) };
+        words.iter_mut().enumerate().for_each(|(k, word)| *word = Element::pattern(k));
     }
 }
 
@@ -90,6 +107,10 @@ unsafe impl Words for Group {
 }
 
 unsafe impl Words for Fix {
+    type Word = i64;
+}
+
+unsafe impl Words for Answer {
     type Word = i64;
 }
 

@@ -61,6 +61,8 @@ fn every_struct_is_laid_out_as_the_header_checks() {
             "grid" = grid
         ),
         layout!("fix", Fix, "grid" = grid, "result" = result),
+        layout!("position", Position, "lon" = lon, "lat" = lat, "day" = day),
+        layout!("answer", Answer, "number" = number, "place" = place, "fix" = fix),
         layout!("entry", Entry, "grid" = grid, "lon" = lon, "lat" = lat),
         layout!("in_force", InForce, "count" = count, "entry" = entry),
         layout!("part", Part, "from" = from, "to" = to),
@@ -127,7 +129,7 @@ fn every_function_has_an_example_that_the_examples_hold_word_for_word() {
         assert!(examples.iter().any(|example| example.contains(&format!("{function}("))), "{function}");
         count += 1;
     }
-    assert_eq!((count, examples.len()), (10, 11), "one for each function, and the nodes that they use");
+    assert_eq!((count, examples.len()), (11, 12), "one for each function, and the nodes that they use");
     let shown = examples.iter().find(|example| example.contains("bulhyemik_lookup(")).expect("found just now");
     assert!(README.contains(shown), "README shows the example of the lookup");
 }

@@ -3,7 +3,7 @@
 use crate::in_force::in_force;
 use crate::judge::judge;
 use crate::load::load;
-use crate::lookup::lookup;
+use crate::lookup::{lookup, lookup_many};
 use crate::read::read;
 use crate::write::write;
 use interface::{Answers, Program};
@@ -17,6 +17,7 @@ impl Program for Plain {
         read_header: read,
         write_header: write,
         lookup,
+        lookup_many,
         grids_in_force: in_force,
         load_nodes: load,
     };

@@ -1,9 +1,9 @@
-//! The lookup of a point on a day.
+//! The lookup of a point on a day, and of many points in a group that is judged once.
 
 use crate::group::{end, holds};
 use crate::judge::{LATITUDE, LONGITUDE, judge, refusal, within};
 use crate::round::nearest;
-use interface::{Fix, Group, MARK, Position, Ramp, Refusal};
+use interface::{Answer, Area, Fix, Group, MARK, MOST_GRIDS, Position, Ramp, Refusal};
 
 /// Cell index and distance from its lower node along an axis.
 fn cell(from: i64, spacing: i64, count: i64, at: i64) -> (i64, i64) {
@@ -13,7 +13,8 @@ fn cell(from: i64, spacing: i64, count: i64, at: i64) -> (i64, i64) {
 }
 
 /// The sum of the ramps' factors on a day.
-fn factor(ramps: &[Ramp], day: i64) -> i64 {
+fn factor(group: &Group, day: i64) -> i64 {
+    let ramps = &group.ramp[..group.ramps as usize];
     let of = |&Ramp { a, s0, b, s1 }: &Ramp| {
         if day >= b {
             s1
@@ -26,22 +27,37 @@ fn factor(ramps: &[Ramp], day: i64) -> i64 {
     if ramps.is_empty() { 1_000_000 } else { ramps.iter().map(of).sum() }
 }
 
-/// The chosen grid's number and three results.
-pub fn lookup(group: &Group, nodes: &[i32], at: Position) -> Result<Fix, Refusal> {
-    let extents = judge(group)?;
-    let Position { lon, lat, day } = at;
+/// Refusals 6 and 9.
+fn admitted(&Position { lon, lat, day }: &Position) -> Result<(), Refusal> {
     if !within(lon, LONGITUDE) || !within(lat, LATITUDE) {
-        return Err(refusal(6, 0));
+        Err(refusal(6, 0))
+    } else if !within(day, 1_000_000) {
+        Err(refusal(9, 0))
+    } else {
+        Ok(())
     }
-    if !within(day, 1_000_000) {
-        return Err(refusal(9, 0));
+}
+
+/// Refusal 13.
+fn long_enough(group: &Group, nodes: &[i32]) -> Result<(), Refusal> {
+    let grids = &group.grid[..group.grids as usize];
+    match grids.iter().position(|grid| end(grid, group.parameters) > nodes.len() as i64) {
+        Some(k) => Err(refusal(13, k + 1)),
+        None => Ok(()),
     }
+}
+
+/// The chosen grid's number and three results, of an admitted position, with the day's factor.
+fn fix(
+    group: &Group,
+    extents: &[Area; MOST_GRIDS],
+    nodes: &[i32],
+    &Position { lon, lat, .. }: &Position,
+    factor: i64,
+) -> Result<Fix, Refusal> {
     let parameters = group.parameters;
     let (mut chosen, mut best) = (None, i64::MAX);
     for (k, grid) in group.grid[..group.grids as usize].iter().enumerate() {
-        if end(grid, parameters) > nodes.len() as i64 {
-            return Err(refusal(13, k + 1));
-        }
         if grid.rank < best && holds(&extents[k], lon, lat) {
             (chosen, best) = (Some(k), grid.rank);
         }
@@ -66,7 +82,6 @@ pub fn lookup(group: &Group, nodes: &[i32], at: Position) -> Result<Fix, Refusal
     if used().any(|&v| !within(i64::from(v), 4_000_000)) {
         return Err(refusal(11, 0));
     }
-    let factor = factor(&group.ramp[..group.ramps as usize], day);
     let mut fix = Fix { grid: k as i64 + 1, result: [0; 3] };
     for p in 0..np {
         let sum: i64 =
@@ -74,4 +89,32 @@ pub fn lookup(group: &Group, nodes: &[i32], at: Position) -> Result<Fix, Refusal
         fix.result[p] = nearest(nearest(sum, sx * sy) * factor, 1_000_000);
     }
     Ok(fix)
+}
+
+/// Looks a position up.
+pub fn lookup(group: &Group, nodes: &[i32], at: Position) -> Result<Fix, Refusal> {
+    let extents = judge(group)?;
+    admitted(&at)?;
+    long_enough(group, nodes)?;
+    fix(group, &extents, nodes, &at, factor(group, at.day))
+}
+
+/// Looks many positions up; the factor is worked out anew only where the day changes.
+pub fn lookup_many(group: &Group, nodes: &[i32], points: &[Position], results: &mut [Answer]) -> Result<(), Refusal> {
+    let extents = judge(group)?;
+    if results.len() != points.len() {
+        return Err(refusal(12, 0));
+    }
+    long_enough(group, nodes)?;
+    let (mut day, mut times) = (0, factor(group, 0));
+    for (result, at) in results.iter_mut().zip(points) {
+        let found = admitted(at).and_then(|()| {
+            if at.day != day {
+                (day, times) = (at.day, factor(group, at.day));
+            }
+            fix(group, &extents, nodes, at, times)
+        });
+        *result = found.into();
+    }
+    Ok(())
 }

@@ -5,7 +5,7 @@ use crate::field::field;
 use crate::header::{read_header, write_header};
 use crate::judge::judge;
 use crate::load::load_nodes;
-use crate::lookup::lookup;
+use crate::lookup::{lookup, lookup_many};
 use crate::screen::{screen_answer, screen_record};
 use interface::{Answers, Calls, Found, MOST_PARAMETERS, Part, Program, Screen, VERSION, hand_back};
 
@@ -13,7 +13,8 @@ use interface::{Answers, Calls, Found, MOST_PARAMETERS, Part, Program, Screen, V
 pub struct Reference;
 
 impl Program for Reference {
-    const ANSWERS: Answers = Answers { judge, read_header, write_header, lookup, grids_in_force, load_nodes };
+    const ANSWERS: Answers =
+        Answers { judge, read_header, write_header, lookup, lookup_many, grids_in_force, load_nodes };
 }
 
 impl Calls for Reference {

@@ -1,4 +1,4 @@
-//! The second, independent program: every call of document 01 written anew and plainly from the document.
+//! The second, independent program: every call of documents 01 and 02 written anew and plainly from the documents.
 
 mod back_end;
 mod coverage;

@@ -5,7 +5,7 @@ use crate::judge::judge;
 use crate::limits;
 use crate::refusal::refuse;
 use crate::rounding::nearest_even;
-use interface::{Fix, Grid, Group, MARK, Position, Ramp, Refusal};
+use interface::{Answer, Fix, Grid, Group, MARK, Position, Ramp, Refusal};
 
 /// Where a point stands on one axis: the cell's index, the spacing's size, the distance from the cell's lower node.
 struct Along {
@@ -57,6 +57,14 @@ pub fn day_factor(ramps: &[Ramp], day: i64) -> i128 {
     if ramps.is_empty() { 1_000_000 } else { ramps.iter().map(|r| ramp_factor(r, day)).sum() }
 }
 
+/// Refusal 13: the lowest grid of an accepted group whose nodes end behind the list.
+fn whole_ranges(record: &Group, nodes: &[i32]) -> Result<(), Refusal> {
+    match grids(record).iter().position(|g| range_end(g, record.parameters) > nodes.len() as i128) {
+        Some(k) => refuse(13, k + 1),
+        None => Ok(()),
+    }
+}
+
 /// Looks a position up: refusals 2 to 5, then 6, 9, 13, 7, 8, 11.
 pub fn lookup(record: &Group, nodes: &[i32], at: Position) -> Result<Fix, Refusal> {
     judge(record)?;
@@ -67,10 +75,8 @@ pub fn lookup(record: &Group, nodes: &[i32], at: Position) -> Result<Fix, Refusa
     if !limits::day(i128::from(at.day)) {
         return refuse(9, 0);
     }
+    whole_ranges(record, nodes)?;
     let grids = grids(record);
-    if let Some(k) = grids.iter().position(|g| range_end(g, record.parameters) > nodes.len() as i128) {
-        return refuse(13, k + 1);
-    }
     let Some(choice) = chosen(grids, lon, lat) else {
         return refuse(7, 0);
     };
@@ -96,4 +102,18 @@ pub fn lookup(record: &Group, nodes: &[i32], at: Position) -> Result<Fix, Refusa
         fix.result[p as usize] = nearest_even(value * factor, 1_000_000) as i64;
     }
     Ok(fix)
+}
+
+/// Looks many positions up, each as by itself: refusals 2 to 5, 12, 13 of the call, which leave the results as they were; then
+/// each position's own.
+pub fn lookup_many(record: &Group, nodes: &[i32], points: &[Position], results: &mut [Answer]) -> Result<(), Refusal> {
+    judge(record)?;
+    if results.len() != points.len() {
+        return refuse(12, 0);
+    }
+    whole_ranges(record, nodes)?;
+    for (result, &at) in results.iter_mut().zip(points) {
+        *result = lookup(record, nodes, at).into();
+    }
+    Ok(())
 }

@@ -4,7 +4,7 @@ use crate::lent::filled;
 use cases::{Case, CaseFile, Expected, Input, NodeList};
 use interface::lent::{Element, Words, compare, patterned};
 use interface::{
-    Area, Calls, Fix, Found, Grid, Group, InForce, MOST_PARAMETERS, Name, Part, Position, Ramp, Screen, Timed,
+    Answer, Area, Calls, Fix, Found, Grid, Group, InForce, MOST_PARAMETERS, Name, Part, Position, Ramp, Screen, Timed,
 };
 use std::fmt;
 
@@ -94,8 +94,11 @@ impl<'a> Runner<'a> {
             Input::Field { line, number } => self.field(line, *number, expected),
             &Input::Lookup { ref group, ref nodes, lon, lat, day } => {
                 self.make_nodes(nodes);
-                let (_, made) = self.nodes.as_ref().expect("made just now");
-                self.lookup(self.file.group(group), made, Position { lon, lat, day }, expected)
+                self.lookup(self.file.group(group), self.made(), Position { lon, lat, day }, expected)
+            }
+            Input::Batch { group, nodes, out_len, points } => {
+                self.make_nodes(nodes);
+                self.batch(self.file.group(group), self.made(), points, *out_len, expected)
             }
             &Input::InForce { ref group, west, east, south, north } => {
                 self.in_force(self.file.group(group), Area { west, east, south, north }, expected)
@@ -119,6 +122,12 @@ impl<'a> Runner<'a> {
             self.nodes = None;
             self.nodes = Some((id.to_string(), NodeList::nodes(self.file.nodes(id))));
         }
+    }
+
+    /// The node list that was made last.
+    fn made(&self) -> &[i32] {
+        let (_, made) = self.nodes.as_ref().expect("made just now");
+        made
     }
 
     fn read_header(&self, text: &[u8], expected: &Expected) -> Result<(), String> {
@@ -165,6 +174,26 @@ impl<'a> Runner<'a> {
         };
         returned((number, place), expected)?;
         compare("fix", fix.words(), found.words())
+    }
+
+    /// Where the call is refused, the results are those that were lent.
+    fn batch(
+        &self,
+        group: &Group,
+        nodes: &[i32],
+        points: &[Position],
+        out_len: usize,
+        expected: &Expected,
+    ) -> Result<(), String> {
+        let (mut results, mut place) = (Answer::patterned_list(out_len), lent());
+        let number = self.timed.lookup_many(group, nodes, points, &mut results, &mut place);
+        returned((number, place), expected)?;
+        let answers = match expected {
+            Expected::Answers(answers) => answers,
+            _ => &Answer::patterned_list(out_len),
+        };
+        same("results are", results.len() as u64, answers.len() as u64)?;
+        compare("results", Answer::words_of(&results), Answer::words_of(answers))
     }
 
     fn in_force(&self, group: &Group, area: Area, expected: &Expected) -> Result<(), String> {

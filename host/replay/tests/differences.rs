@@ -7,7 +7,7 @@ use std::path::{Path, PathBuf};
 use std::process::{Command, Output};
 
 /// One case for each call whose expected answer is wrong, and where the answer differs from it.
-const WRONG: [(&str, &str, &str); 14] = [
+const WRONG: [(&str, &str, &str); 18] = [
     ("read_header", "C\t-\t=>\trefuse\t1\t2\n", "place is 1 instead of 2"),
     ("read_header", "C\t-\t=>\trefuse\t2\t1\n", "returned 1 instead of 2"),
     ("judge_record", "G\tg\t- 0 0 0 0 0 0\nC\tg\t=>\tok\n", "returned 2 instead of 0"),
@@ -26,6 +26,28 @@ const WRONG: [(&str, &str, &str); 14] = [
         "lookup",
         "G\tg\t61 1 0 0 1 0 1|G 0 62 1 0 0 1 1 2 2 1 0 0\nN\tn\t4\tlist 7 8 9 10\nC\tg\tn\t0\t0\t0\t=>\tok\t1\t8\t0\t0\n",
         "fix[1] is 7 instead of 8",
+    ),
+    (
+        "batch",
+        "G\tg\t61 1 0 0 1 0 1|G 0 62 1 0 0 1 1 2 2 1 0 0\nN\tn\t4\tlist 7 8 9 10\n\
+         C\tg\tn\t2\t0,0,0 9,9,0\t=>\tok\tok,1,7,0,0 refuse,7,1\n",
+        "results[7] is 0 instead of 1",
+    ),
+    (
+        "batch",
+        "G\tg\t61 1 0 0 1 0 1|G 0 62 1 0 0 1 1 2 2 1 0 0\nN\tn\t4\tlist 7 8 9 10\n\
+         C\tg\tn\t2\t0,0,0 1,1,0\t=>\tok\tok,1,7,0,0 ok,1,9,0,0\n",
+        "results[9] is 10 instead of 9",
+    ),
+    (
+        "batch",
+        "G\tg\t61 1 0 0 1 0 1|G 0 62 1 0 0 1 1 2 2 1 0 0\nN\tn\t3\tlist 7 8 9\nC\tg\tn\t0\t-\t=>\tok\t-\n",
+        "returned 13 instead of 0",
+    ),
+    (
+        "batch",
+        "G\tg\t61 1 0 0 1 0 1|G 0 62 1 0 0 1 1 2 2 1 0 0\nN\tn\t4\tlist 7 8 9 10\nC\tg\tn\t1\t0,0,0\t=>\tok\t-\n",
+        "results are 1 instead of 0",
     ),
     (
         "in_force",
@@ -101,6 +123,16 @@ fn bad_files_have_status_2() {
         ("field.tsv", "C\t-\t0\t=>\tok\t0\n", "line 1: no answer of a field case"),
         ("field.tsv", "X\n", "line 1: neither G, N nor C"),
         ("judge_record.tsv", "C\tg7\t=>\tok\n", "line 1: no group 'g7' is defined before"),
+        (
+            "batch.tsv",
+            "G\tg\t- 0 0 0 0 0 0\nN\tn\t0\tlist\nC\tg\tn\t1\t0,0\t=>\tok\t-\n",
+            "line 3: '0,0' is no lon,lat,day",
+        ),
+        (
+            "batch.tsv",
+            "G\tg\t- 0 0 0 0 0 0\nN\tn\t0\tlist\nC\tg\tn\t0\t-\t=>\tok\tok,1\n",
+            "line 3: 'ok,1' is no answer of a point",
+        ),
         ("plan.tsv", "C\t1\t=>\tok\n", "line 1: no inputs of a plan case"),
     ];
     for (k, (name, text, why)) in cases.into_iter().enumerate() {

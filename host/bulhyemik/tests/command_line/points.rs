@@ -33,6 +33,48 @@ fn screen_takes_points_too() {
     assert_eq!(answer.status, 1);
 }
 
+#[test]
+fn many_lines_get_the_answers_that_each_gets_by_itself() {
+    let folder = Folder::new("many");
+    // the node at (lon, lat) and all between are lon + 10 * lat; day 100 makes them 0, and no grid holds longitudes above 20
+    let point = |k: i64| (k * 7 % 22, k * 3 % 11, if k % 5 == 0 { 100 } else { 200 });
+    let (mut input, mut lines, mut words) = (String::new(), String::new(), String::new());
+    for k in 1..=30_000 {
+        let (lon, lat, day) = point(k);
+        input += &format!("{lon}\t{lat}\t{day}\n");
+        if lon > 20 {
+            lines += &format!("refused\t7\t0\t{lon}\t{lat}\t{day}\n");
+            words += &format!("bulhyemik: point {k} refused: no grid holds the point\n");
+        } else {
+            lines += &format!("fix\t{lon}\t{lat}\t{day}\tbasin\t{}\n", if day == 100 { 0 } else { lon + 10 * lat });
+        }
+    }
+    folder.put("points", input.as_bytes());
+    let answer = folder.shell("\"$PROGRAM\" lookup dock.txt dock.nodes < points");
+    assert!(answer.out == lines && answer.err == words, "{} lines", answer.out.lines().count());
+    assert_eq!(answer.status, 1);
+    // the third is refused, and the last two stand behind the first block
+    for k in [1, 3, 5, 17_777, 30_000] {
+        let (lon, lat, day) = point(k);
+        let single = folder.run(&format!("lookup dock.txt dock.nodes {lon} {lat} {day}"));
+        assert_eq!(answer.out.lines().nth(k as usize - 1), single.out.strip_suffix('\n'), "line {k}");
+        assert_eq!(single.status, if lon > 20 { 1 } else { 0 }, "line {k}");
+    }
+}
+
+#[test]
+fn a_node_list_that_ends_early_refuses_each_line_as_by_itself() {
+    let folder = Folder::new("early");
+    folder.put("short.nodes", &[0; 20]);
+    let points = b"5\t5\t200\n0\t324000001\t1000001\n0\t0\t1000001\n";
+    let answer = folder.run_with(&["lookup", "dock.txt", "short.nodes"], points);
+    let lines =
+        ["refused\t13\t1\t5\t5\t200\n", "refused\t6\t0\t0\t324000001\t1000001\n", "refused\t9\t0\t0\t0\t1000001\n"];
+    assert_eq!((answer.status, answer.out), (1, lines.concat()));
+    assert_eq!(answer.err.lines().count(), 3);
+    assert_eq!(folder.run("lookup dock.txt short.nodes"), accepted(""), "no lines");
+}
+
 /// Sends each point and waits for its answer before the next; the status comes last.
 fn converse(folder: &Folder, command: &str, points: [&str; 2]) -> (Vec<String>, Option<i32>) {
     let mut command = folder.command(&[command, "dock.txt", "dock.nodes"]);
@@ -63,11 +105,24 @@ fn answers_come_while_the_input_stays_open() {
 }
 
 #[test]
+fn what_was_read_is_answered_while_the_rest_of_a_line_is_waited_for() {
+    let folder = Folder::new("pause");
+    let answers = |lines: &str| converse(&folder, "lookup", [lines, "\t200\n"]);
+    let fix = |value: &str| format!("fix\t{value}\t0\t200\tbasin\t{value}");
+    assert_eq!(answers("5\t0\t200\n10\t0"), (vec![fix("5"), fix("10")], Some(0)));
+}
+
+#[test]
 fn what_stands_before_a_line_of_another_form_is_answered() {
     let folder = Folder::new("halfway");
+    let points = b"5\t5\t200\n21\t10\t0\n\n20\t10\t200\n99\t99\t0\n";
+    let answer = folder.run_with(&["lookup", "dock.txt", "dock.nodes"], points);
+    let wanted = "must be LON, LAT and DAY, whole numbers parted by tabs; see bulhyemik lookup --help";
+    assert_eq!((answer.status, answer.out.as_str()), (2, "fix\t5\t5\t200\tbasin\t55\nrefused\t7\t0\t21\t10\t0\n"));
+    let refusal = "bulhyemik: point 2 refused: no grid holds the point\n";
+    assert_eq!(answer.err, format!("{refusal}bulhyemik: line 3 of standard input is '', but {wanted}\n"));
     let answer = folder.run_with(&["lookup", "dock.txt", "dock.nodes"], b"5\t5\t200\n5 5 5\n20\t10\t200\n");
     assert_eq!((answer.status, answer.out.as_str()), (2, "fix\t5\t5\t200\tbasin\t55\n"));
-    let wanted = "must be LON, LAT and DAY, whole numbers parted by tabs; see bulhyemik lookup --help";
     assert_eq!(answer.err, format!("bulhyemik: line 2 of standard input is '5 5 5', but {wanted}\n"));
 }
 

@@ -1,6 +1,8 @@
 //! The second program with one fault: what a differential test must find.
 
-use interface::{Area, Calls, Fix, Found, Grid, Group, InForce, MARK, MOST_PARAMETERS, Part, Position, Screen, Timed};
+use interface::{
+    Answer, Area, Calls, Fix, Found, Grid, Group, InForce, MARK, MOST_PARAMETERS, Part, Position, Screen, Timed,
+};
 use reference::Reference;
 
 /// `Mutant`, a back end by a function for each call, and `SOUND`, whose functions are the second program's calls.
@@ -26,6 +28,13 @@ mutant! {
         fn read_header(text: &[u8], group: &mut Group, place: &mut u64) -> u64;
         fn write_header(group: &Group, out: &mut [u8], count: &mut u64, place: &mut u64) -> u64;
         fn lookup(group: &Group, nodes: &[i32], at: Position, fix: &mut Fix, place: &mut u64) -> u64;
+        fn lookup_many(
+            group: &Group,
+            nodes: &[i32],
+            points: &[Position],
+            results: &mut [Answer],
+            place: &mut u64
+        ) -> u64;
         fn grids_in_force(group: &Group, area: Area, list: &mut InForce, place: &mut u64) -> u64;
         fn load_nodes(floats: &[f32], flag: f32, quantum: i64, nodes: &mut [i32], place: &mut u64) -> u64;
     }
@@ -52,6 +61,9 @@ mutants! {
     field: past_the_last_field_is_zero;
     lookup: lookup_always_refuses, lookup_always_answers_zero, halves_away_from_zero,
         worse_grid_where_the_best_lacks_data, grid_and_first_result_swapped;
+    lookup_many: first_days_factor_for_all, last_point_is_left_out, results_although_13_refuses,
+        too_few_nodes_refuse_each_point, results_may_be_too_many, length_is_judged_behind_the_nodes,
+        refused_point_keeps_its_results;
     grids_in_force: empty_list, full_list, corner_of_the_grid_for_its_first_coordinate;
     load_nodes: last_node_is_not_written, zero_flag_catches_both_zeros, negative_quantum_is_zero;
     screen_answer: missing_shift_is_minus_zero, number_outside_the_table_is_handed_on, place_of_the_lookup_is_lost;
@@ -165,6 +177,107 @@ fn worse_grid_where_the_best_lacks_data(
 fn grid_and_first_result_swapped(group: &Group, nodes: &[i32], at: Position, fix: &mut Fix, place: &mut u64) -> u64 {
     let number = Reference.lookup(group, nodes, at, fix, place);
     std::mem::swap(&mut fix.grid, &mut fix.result[0]);
+    number
+}
+
+/// Every point is looked up on the day of the first, as far as both are admitted.
+fn first_days_factor_for_all(
+    group: &Group,
+    nodes: &[i32],
+    points: &[Position],
+    results: &mut [Answer],
+    place: &mut u64,
+) -> u64 {
+    let admitted = |day: &i64| (-1_000_000..=1_000_000).contains(day);
+    let mut same = points.to_vec();
+    if let Some(first) = points.first().map(|at| at.day).filter(admitted) {
+        same.iter_mut().filter(|at| admitted(&at.day)).for_each(|at| at.day = first);
+    }
+    Reference.lookup_many(group, nodes, &same, results, place)
+}
+
+fn last_point_is_left_out(
+    group: &Group,
+    nodes: &[i32],
+    points: &[Position],
+    results: &mut [Answer],
+    place: &mut u64,
+) -> u64 {
+    let last = results.last().copied();
+    let number = Reference.lookup_many(group, nodes, points, results, place);
+    if let ([.., result], Some(last)) = (results, last) {
+        *result = last;
+    }
+    number
+}
+
+fn results_although_13_refuses(
+    group: &Group,
+    nodes: &[i32],
+    points: &[Position],
+    results: &mut [Answer],
+    place: &mut u64,
+) -> u64 {
+    let number = Reference.lookup_many(group, nodes, points, results, place);
+    if number == 13 {
+        results.fill(Answer::default());
+    }
+    number
+}
+
+/// A list that is too short is each point's own refusal, as of a single lookup.
+fn too_few_nodes_refuse_each_point(
+    group: &Group,
+    nodes: &[i32],
+    points: &[Position],
+    results: &mut [Answer],
+    place: &mut u64,
+) -> u64 {
+    let number = Reference.lookup_many(group, nodes, points, results, place);
+    if number != 13 {
+        return number;
+    }
+    for (result, &at) in results.iter_mut().zip(points) {
+        result.number = Reference.lookup(group, nodes, at, &mut result.fix, &mut result.place);
+    }
+    *place = 0;
+    0
+}
+
+fn results_may_be_too_many(
+    group: &Group,
+    nodes: &[i32],
+    points: &[Position],
+    results: &mut [Answer],
+    place: &mut u64,
+) -> u64 {
+    let len = results.len().min(points.len());
+    Reference.lookup_many(group, nodes, points, &mut results[..len], place)
+}
+
+fn length_is_judged_behind_the_nodes(
+    group: &Group,
+    nodes: &[i32],
+    points: &[Position],
+    results: &mut [Answer],
+    place: &mut u64,
+) -> u64 {
+    let number = Reference.lookup_many(group, nodes, &[], &mut [], place);
+    if number == 0 { Reference.lookup_many(group, nodes, points, results, place) } else { number }
+}
+
+fn refused_point_keeps_its_results(
+    group: &Group,
+    nodes: &[i32],
+    points: &[Position],
+    results: &mut [Answer],
+    place: &mut u64,
+) -> u64 {
+    let before = results.to_vec();
+    let number = Reference.lookup_many(group, nodes, points, results, place);
+    for (result, before) in results.iter_mut().zip(before).filter(|(result, _)| result.number != 0) {
+        result.fix.result = before.fix.result;
+    }
     number
 }
 
