@@ -67,6 +67,10 @@ demo() {
         'bulhyemik inforce harbour.txt -14390000 -14370000 180010000 180020000'
     ask 'One milliarcsecond further north the bay comes out again.' \
         'bulhyemik inforce harbour.txt -14390000 -14370000 180010000 180020001'
+    ask 'An exercise area was drawn a milliarcsecond wider than the bay: where is the first point that no grid holds?' \
+        'bulhyemik hole harbour.txt -14400000 -14359999 180000000 180030000'
+    ask 'And does the bay itself have such a point?' \
+        'bulhyemik hole harbour.txt -14400000 -14360000 180000000 180030000'
     ask 'One point on five days, then eight places on day 200: the silt in steps of 2 to the power -10 metre.' \
         'bulhyemik lookup harbour.txt harbour.nodes <harbour.points'
     ask 'A whole exercise, 10,000 positions from west to east: which grids are used, one after the other?' \

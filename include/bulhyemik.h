@@ -17,8 +17,8 @@
  *   `*place`: a line, a grid from 1 or a position from 1, and 0 if none is named. Where several refusals apply, the one that
  *   comes first in the function's list counts. (bulhyemik_version and bulhyemik_field refuse nothing and have no place.)
  * - Lent memory: `out`, `nodes`, `results` and the group to be read are unchanged after every refusal of the call. Place, fix,
- *   list, count, shifts and screen are the handed-back answer: every call writes them whole, and beside a refusal all but the
- *   place are 0. What a call takes as const is only read.
+ *   list, uncovered, count, shifts and screen are the handed-back answer: every call writes them whole, and beside a refusal
+ *   all but the place are 0. What a call takes as const is only read.
  * - It is total: any numbers, any bytes and any lengths get the answer that this page gives. Nothing is asked of the caller
  *   but valid memory: a pointer that is not NULL, aligned for its type, good for its type or for the length beside it, and
  *   written memory that overlaps no other argument. `text`, `nodes`, `points`, `results`, `floats`, `out` and `line` may be NULL
@@ -48,7 +48,7 @@ extern "C" {
 
 /* The version of this page: major * 1,000,000 + minor * 1,000 + patch; bulhyemik_version answers the library's. An added call
  * raises the minor number; a changed struct, limit or meaning raises the major one. */
-#define BULHYEMIK_VERSION 1001000
+#define BULHYEMIK_VERSION 1002000
 
 /* The library takes the bytes of a name eight at a time, the first as the lowest of a number. */
 #if defined(__BYTE_ORDER__) && defined(__ORDER_LITTLE_ENDIAN__)
@@ -155,6 +155,12 @@ typedef struct {
     bulhyemik_entry entry[BULHYEMIK_MOST_GRIDS]; /* the first `count` are theirs; the others are zero */
 } bulhyemik_in_force;
 
+/* Whether an area has a coordinate that no grid holds, and the southmost, then westmost such. */
+typedef struct {
+    int64_t found;    /* 1 if there is one, else 0; ask this, since 0, 0 can be a hole too */
+    int64_t lon, lat; /* in mas; zeros where there is none */
+} bulhyemik_uncovered;
+
 /* A field of a line: its bytes from `from` up to, not with, `to`. */
 typedef struct {
     uint64_t from, to; /* from 0; both are the line's length where there is no such field */
@@ -215,6 +221,10 @@ BULHYEMIK_WORD(entry, lat, 2);
 BULHYEMIK_WORDS(in_force, 193);
 BULHYEMIK_WORD(in_force, count, 0);
 BULHYEMIK_WORD(in_force, entry, 1);
+BULHYEMIK_WORDS(uncovered, 3);
+BULHYEMIK_WORD(uncovered, found, 0);
+BULHYEMIK_WORD(uncovered, lon, 1);
+BULHYEMIK_WORD(uncovered, lat, 2);
 BULHYEMIK_WORDS(part, 2);
 BULHYEMIK_WORD(part, from, 0);
 BULHYEMIK_WORD(part, to, 1);
@@ -355,6 +365,21 @@ uint64_t bulhyemik_lookup_many(const bulhyemik_group *group, const int32_t *node
  */
 uint64_t bulhyemik_grids_in_force(const bulhyemik_group *group, int64_t west, int64_t east, int64_t south, int64_t north,
                                   bulhyemik_in_force *list, uint64_t *place);
+
+/* Finds the hole of an area: of its coordinates that no grid holds, so that none is chosen there, the southmost, and of these
+ * the westmost. An area that the grids cover whole has none, which is no refusal. Nodes play no part: where the chosen grid has
+ * the no-data mark the area is covered, and a lookup is refused by 8.
+ *
+ * Units and limits: as of bulhyemik_grids_in_force.
+ * Refusals: as of bulhyemik_grids_in_force, in the same order: 2, 3, 4, 5, then 10 at 0.
+ * Lent memory: `*group` is read; `*uncovered` is filled whole, with zeros after a refusal.
+ *
+ *     bulhyemik_uncovered uncovered;
+ *     if (bulhyemik_hole(&group, 0, 30, 3, 10, &uncovered, &place) == BULHYEMIK_ACCEPTED && uncovered.found)
+ *         printf("no grid holds %ld, %ld\n", (long)uncovered.lon, (long)uncovered.lat);
+ */
+uint64_t bulhyemik_hole(const bulhyemik_group *group, int64_t west, int64_t east, int64_t south, int64_t north,
+                        bulhyemik_uncovered *uncovered, uint64_t *place);
 
 /* Loads floats in units as nodes in steps: each float times 2 to the power `quantum`, to the nearest, ties to even. NaN, and
  * floats of the same bits as `flag`, become the no-data mark; with NaN for `flag` these are the NaN alone.

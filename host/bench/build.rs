@@ -5,7 +5,7 @@ use std::io::ErrorKind;
 use std::path::Path;
 use std::process::Command;
 
-const SOURCES: [&str; 6] = ["judge", "lookup", "in_force", "read", "write", "load"];
+const SOURCES: [&str; 7] = ["judge", "lookup", "in_force", "hole", "read", "write", "load"];
 
 /// Runs a command that has to work; false if there is no such program.
 fn run(command: &mut Command) -> bool {

@@ -13,7 +13,7 @@
 #include <xmmintrin.h>
 #endif
 
-enum { STACK = 1 << 18, STATED = 96 * 1024, PAINT = 0xa5, FLOATS = 64, POINTS = 4, INPUTS = 2000 };
+enum { STACK = 1 << 18, STATED = 96 * 1024, PAINT = 0xa5, FLOATS = 64, POINTS = 4, INPUTS = 2000, CALLS = 11 };
 
 static int failures = 0;
 
@@ -47,12 +47,13 @@ typedef struct {
     bulhyemik_fix fix;
     bulhyemik_answer results[POINTS];
     bulhyemik_in_force list;
+    bulhyemik_uncovered uncovered;
     bulhyemik_part part;
     bulhyemik_screen screen;
     double shifts[3];
     int32_t loaded[FLOATS];
     uint8_t text[BULHYEMIK_HEADER_BYTES];
-    uint64_t number[10], place[10], count;
+    uint64_t number[CALLS], place[CALLS], count;
 } answers;
 
 typedef struct {
@@ -61,9 +62,9 @@ typedef struct {
     float floats[FLOATS];
 } input;
 
-enum { CALLS = 10 };
 static const char *const NAMES[CALLS] = {"read_header",    "judge",      "write_header",  "field",         "lookup",
-                                         "grids_in_force", "load_nodes", "screen_answer", "screen_record", "lookup_many"};
+                                         "grids_in_force", "load_nodes", "screen_answer", "screen_record", "lookup_many",
+                                         "hole"};
 
 /* One call; the first fills the group of the others. */
 static void call(int which, const input *in, answers *out) {
@@ -87,6 +88,7 @@ static void call(int which, const input *in, answers *out) {
                                           &out->screen, place);
         break;
     case 9: *number = bulhyemik_lookup_many(group, nodes, 16384, in->points, POINTS, out->results, POINTS, place); break;
+    case 10: *number = bulhyemik_hole(group, in->lon, in->lon + 900, in->lat, in->lat + 900, &out->uncovered, place); break;
     }
 }
 

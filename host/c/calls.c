@@ -336,6 +336,55 @@ static void grids_in_force(void) {
     EXPECT(place == 0 && all(&list, sizeof list, 0));
 }
 
+/* A hole that is looked for and refused: the answer is all zeros. */
+static void hole_refused(const bulhyemik_group *group, const int64_t area[4], uint64_t number, uint64_t where) {
+    bulhyemik_uncovered uncovered;
+    uint64_t place = 77;
+    memset(&uncovered, 0xa5, sizeof uncovered);
+    EXPECT(bulhyemik_hole(group, area[0], area[1], area[2], area[3], &uncovered, &place) == number);
+    EXPECT(place == where && all(&uncovered, sizeof uncovered, 0));
+}
+
+static void hole(void) {
+    static const int64_t inside[4] = {0, 20, 0, 10}, turned[4] = {1, 0, 0, 10}, tilted[4] = {0, 20, 10, 9};
+    static const int64_t north[4] = {0, 20, 0, 324000001}, west[4] = {INT64_MIN, INT64_MAX, 0, 10};
+    bulhyemik_group group = three_grids();
+    bulhyemik_uncovered uncovered;
+    uint64_t place = 77;
+    memset(&uncovered, 0xa5, sizeof uncovered);
+    EXPECT(bulhyemik_hole(&group, 0, 21, 0, 11, &uncovered, &place) == BULHYEMIK_ACCEPTED && place == 0);
+    EXPECT(uncovered.found == 1 && uncovered.lon == 21 && uncovered.lat == 0);
+    EXPECT(bulhyemik_hole(&group, 0, 20, 0, 11, &uncovered, &place) == BULHYEMIK_ACCEPTED);
+    EXPECT(uncovered.found == 1 && uncovered.lon == 0 && uncovered.lat == 11);
+    EXPECT(bulhyemik_hole(&group, 20, 21, 11, 11, &uncovered, &place) == BULHYEMIK_ACCEPTED);
+    EXPECT(uncovered.found == 1 && uncovered.lon == 20 && uncovered.lat == 11);
+    EXPECT(bulhyemik_hole(&group, -1296000000, 1296000000, -324000000, 324000000, &uncovered, &place) == 0);
+    EXPECT(uncovered.found == 1 && uncovered.lon == -1296000000 && uncovered.lat == -324000000);
+    memset(&uncovered, 0xa5, sizeof uncovered);
+    place = 77;
+    EXPECT(bulhyemik_hole(&group, 0, 20, 0, 10, &uncovered, &place) == BULHYEMIK_ACCEPTED && place == 0);
+    EXPECT(all(&uncovered, sizeof uncovered, 0));
+    group.grids = 2;
+    group.grid[0] = group.grid[2];
+    memset(&group.grid[2], 0, sizeof group.grid[2]);
+    group.grid[0].lon = 12;
+    EXPECT(bulhyemik_hole(&group, 0, 22, 0, 10, &uncovered, &place) == BULHYEMIK_ACCEPTED);
+    EXPECT(uncovered.found == 1 && uncovered.lon == 11 && uncovered.lat == 0);
+    hole_refused(&group, turned, BULHYEMIK_BAD_AREA, 0);
+    hole_refused(&group, tilted, BULHYEMIK_BAD_AREA, 0);
+    hole_refused(&group, north, BULHYEMIK_BAD_AREA, 0);
+    hole_refused(&group, west, BULHYEMIK_BAD_AREA, 0);
+    group = three_grids();
+    group.grid[2].rank = 1;
+    hole_refused(&group, turned, BULHYEMIK_SAME_RANK, 3);
+    group.grid[2].lat = 324000000;
+    hole_refused(&group, turned, BULHYEMIK_BAD_EXTENT, 3);
+    memcpy(group.grid[2].name, "G1", 2);
+    hole_refused(&group, inside, BULHYEMIK_SAME_NAME, 3);
+    group.grid[0].rank = 0;
+    hole_refused(&group, inside, BULHYEMIK_BAD_NUMBER, 3);
+}
+
 static void load_nodes(void) {
     static const float floats[3] = {0.5f, 1.5f, -9999.0f};
     int32_t nodes[3];
@@ -399,6 +448,7 @@ int main(void) {
     lookup();
     lookup_many();
     grids_in_force();
+    hole();
     load_nodes();
     screens();
     printf("%d checks, %d failed\n", checks, failures);

@@ -72,6 +72,12 @@ static void grids_in_force(void) {
         printf("grid %ld from %ld, %ld\n", (long)list.entry[k].grid, (long)list.entry[k].lon, (long)list.entry[k].lat);
 }
 
+static void hole(void) {
+    bulhyemik_uncovered uncovered;
+    if (bulhyemik_hole(&group, 0, 30, 3, 10, &uncovered, &place) == BULHYEMIK_ACCEPTED && uncovered.found)
+        printf("no grid holds %ld, %ld\n", (long)uncovered.lon, (long)uncovered.lat);
+}
+
 static void load_nodes(void) {
     static const float floats[3] = {0.5f, 1.5f, -9999.0f};
     int32_t loaded[3];
@@ -106,6 +112,7 @@ int main(void) {
     lookup();
     lookup_many();
     grids_in_force();
+    hole();
     load_nodes();
     screen_answer();
     screen_record();

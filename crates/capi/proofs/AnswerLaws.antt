@@ -23,7 +23,10 @@ use Rattle.nodes.specs.declared.Loaded.{Loaded}
 use Rattle.nodes.specs.Load.{loaded, loadedRefusal, nodesAfter}
 use Rattle.fix.specs.declared.Lookup.{Lookup}
 use Rattle.fix.specs.declared.Lookup.the-variants.{Fix, Refused}
+use Rattle.inforce.specs.declared.Area.{Area}
 use Rattle.inforce.specs.declared.InForce.{InForce}
+use Rattle.inforce.specs.declared.Uncovered.{Uncovered}
+use Rattle.inforce.specs.Hole.{holeOf}
 use Rattle.inforce.specs.InForce.{blankEntry, inForceOf}
 use Rattle.group.specs.Refusals.{refusal, noRefusal, verdictRefusal, lentAfter}
 use Rattle.group.proofs.RefusalLaws.{no-acceptance, lent-new, lent-kept}
@@ -38,8 +41,8 @@ use Rattle.screen.specs.Screen.{screenRefusal, shiftsOf, answerOf, recordOf}
 use Rattle.numbers.specs.Order.{countOf}
 use Rattle.abi.specs.Abi.{groupOfWords, numbersOf, countAt, numberAt, stored, joined}
 use Rattle.abi.proofs.ListLaws.{sets-append, sets-whole, length-joined}
-use Rattle.capi.specs.Answers.{left, judgeAnswer, readOf, readAnswer, fixNumbers, foundAnswer, pointOf, lookupAnswer, lentText, writtenAnswer, writeAnswer, loadedBy, loadAnswer}
-use Rattle.capi.specs.InForce.{areaOf, entriesFrom, entryWords, listWords, storedEntry, storedList, listAnswer, inForceAnswer}
+use Rattle.capi.specs.Answers.{left, judgeAnswer, readOf, readAnswer, fixNumbers, foundAnswer, pointOf, lookupAnswer, areaOf, holeNumbers, holeLeft, holeAnswer, lentText, writtenAnswer, writeAnswer, loadedBy, loadAnswer}
+use Rattle.capi.specs.InForce.{entriesFrom, entryWords, listWords, storedEntry, storedList, listAnswer, inForceAnswer}
 use Rattle.capi.proofs.SmallLaws.{in-force-stored}
 use Rattle.capi.specs.Screen.{lookupOf, shownOf, shiftsAnswer, recordFloats, recordAnswer}
 
@@ -50,6 +53,10 @@ module _ {A : Type 0} where
 
   pub passed-over : (t : Bool) (x y : A) → t ≡ false → cond t x y ≡ y
   passed-over t x y e = ap (λ (b : Bool). cond b x y) e
+
+-- an area whose sides are known
+pub same-area : {w e s n west east south north : ℤ} → w ≡ west → e ≡ east → s ≡ south → n ≡ north → areaOf w e s n ≡ areaOf west east south north
+same-area a b c d i = areaOf (a i) (b i) (c i) (d i)
 
 module _ (l : List ℤ) where
   abbrev g : Group
@@ -66,12 +73,15 @@ module _ (l : List ℤ) where
   lookup-told nodes lon lat day x y d f a ex ey ed e b =
       ap foundAnswer (b ∙ answer-stored g nodes (pointOf x y) d f e ∙ ap answerRecord (e ∙ (λ i. looked g nodes (pointOf (ex i) (ey i)) (ed i))))
 
-  pub in-force-told : (west east south north w e s n : ℤ) (f : InForce) (r : Refusal) (ns : List ℤ)
-      → w ≡ west → e ≡ east → s ≡ south → n ≡ north → f ≡ inForceOf g (areaOf w e s n) → r ≡ verdictRefusal (f .verdict) → ns ≡ storedList f
-      → left (r .number) (r .place) ns ≡ inForceAnswer l (areaOf west east south north)
+  pub in-force-told : (area t : Area) (f : InForce) (r : Refusal) (ns : List ℤ) → t ≡ area → f ≡ inForceOf g t → r ≡ verdictRefusal (f .verdict)
+      → ns ≡ storedList f → left (r .number) (r .place) ns ≡ inForceAnswer l area
   unfolding inForceAnswer
-  in-force-told west east south north w e s n f r ns ew ee es en a b c =
-      (λ i. record { refusal = b i; lent = (c ∙ in-force-stored g (areaOf w e s n) f a) i }) ∙ ap listAnswer (a ∙ (λ i. inForceOf g (areaOf (ew i) (ee i) (es i) (en i))))
+  in-force-told area t f r ns e a b c = (λ i. record { refusal = b i; lent = (c ∙ in-force-stored g t f a) i }) ∙ ap listAnswer (a ∙ ap (inForceOf g) e)
+
+  pub hole-told : (area t : Area) (h : Uncovered) (r : Refusal) (ns : List ℤ) → t ≡ area → h ≡ holeOf g t → r ≡ verdictRefusal (h .verdict)
+      → ns ≡ holeNumbers h → left (r .number) (r .place) ns ≡ holeAnswer l area
+  unfolding holeAnswer
+  hole-told area t h r ns e a b c = (λ i. record { refusal = b i; lent = c i }) ∙ ap holeLeft (a ∙ ap (holeOf g) e)
 
   pub write-told : (out after : List ℕ) (w : Written) (r : Refusal) (n : ℕ)
       → w ≡ written g (length out) → after ≡ bytesAfter g out → r ≡ writtenRefusal w → n ≡ writtenCount w

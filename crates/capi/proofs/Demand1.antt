@@ -1,7 +1,6 @@
 -- Demand 1 holds of every call of the C interface.
 use Prim.Native.Nat.{ℕ}
-use mathlib.Core.Path.{_≡_, refl}
-use mathlib.Core.Bool.{not}
+use mathlib.Core.Path.{_≡_, refl, ap}
 use mathlib.Core.List.{List, map}
 use lib.Dec.{eqb}
 use lib.IntN.{ℤ, pos}
@@ -10,9 +9,9 @@ use lib.ListN.{length, replicate}
 use Rattle.text.specs.Put.{put}
 use Rattle.group.specs.declared.Position.{Position}
 use Rattle.group.specs.declared.Refusal.{Refusal}
-use Rattle.group.specs.Refusals.{refusal, verdictRefusal}
-use Rattle.group.proofs.RefusalLaws.{chain-if, chain-verdict, lent-kept}
-use Rattle.judge.specs.Judge.{judged}
+use Rattle.group.specs.declared.Verdict.{Verdict}
+use Rattle.group.specs.Refusals.{verdictRefusal}
+use Rattle.group.proofs.RefusalLaws.{chain-verdict, lent-kept}
 use Rattle.judge.proofs.TableLaws.{judged-told}
 use Rattle.header.specs.declared.Written.{Written}
 use Rattle.header.specs.declared.Written.the-variants as W
@@ -31,9 +30,13 @@ use Rattle.exercise.specs.Exercise.{manyVerdict, answerAt, resultsAfter}
 use Rattle.exercise.proofs.CallLaws.{many-told}
 use Rattle.inforce.specs.declared.Area.{Area}
 use Rattle.inforce.specs.declared.InForce.{InForce}
-use Rattle.inforce.specs.Area.{areaFits}
+use Rattle.inforce.specs.declared.Uncovered.{Uncovered}
+use Rattle.inforce.specs.Area.{areaJudged}
 use Rattle.inforce.specs.InForce.{acceptedList, inForceIn, refusedBy, inForceOf}
-use Rattle.inforce.proofs.TableLaws.{listed-told}
+use Rattle.inforce.specs.Hole.{holeIn, acceptedHole, refusedHole, holeOf}
+use Rattle.inforce.proofs.StageLaws.{found-accepted}
+use Rattle.inforce.proofs.TableLaws.{listed-told, found-told}
+use Rattle.inforce.proofs.Order2.{refuses-alike}
 use Rattle.nodes.specs.Load.{nodeOf, loaded, loadedRefusal, nodesAfter}
 use Rattle.nodes.proofs.TableLaws.{loaded-told}
 use Rattle.screen.specs.declared.ScreenAnswer.{ScreenAnswer}
@@ -42,10 +45,10 @@ use Rattle.screen.specs.Screen.{plusZero, screenRefusal, shiftsOf, recordOf}
 use Rattle.screen.proofs.TableLaws.{answer-told}
 use Rattle.numbers.specs.Order.{countOf}
 use Rattle.abi.specs.Abi.{groupOfWords, numbersOf, joined}
-use Rattle.capi.specs.Answers.{pointOf, lentText, judgeAnswer, readAnswer, writeAnswer, fixNumbers, lookupAnswer, manyAnswer, loadAnswer}
+use Rattle.capi.specs.Answers.{pointOf, lentText, judgeAnswer, readAnswer, writeAnswer, fixNumbers, lookupAnswer, manyAnswer, holeNumbers, holeAnswer, loadAnswer}
 use Rattle.capi.specs.InForce.{listWords, listNumbers, inForceAnswer}
 use Rattle.capi.specs.Screen.{lookupOf, shownOf, recordFloats}
-use Rattle.capi.specs.Demand1.{Judges, Reads, Writes, Looks, LooksMany, Lists, Loads, Shows}
+use Rattle.capi.specs.Demand1.{Judges, Reads, Writes, Looks, LooksMany, Lists, FindsHole, Loads, Shows}
 
 pub judges : (group : List ℤ) → Judges group
 unfolding judgeAnswer
@@ -105,8 +108,23 @@ lists group area =
     record {
       told = listed-told (groupOfWords group) area;
       zeros =
-          chain-verdict refusedBy Zeros (judged (groupOfWords group)) _ (λ r e n. no-list r)
-          (chain-if refusedBy Zeros (not (areaFits area)) 10 0 (acceptedList (inForceIn (groupOfWords group) area)) (λ n. no-list (refusal 10 0)) (λ n. absurd (n refl)));
+          chain-verdict refusedBy Zeros (areaJudged (groupOfWords group) area) (acceptedList (inForceIn (groupOfWords group) area))
+          (λ r e n. no-list r) (λ n. absurd (n refl));
+    }
+
+-- the hole beside a refusal
+abbrev HoleZeros : Uncovered → Type 0
+HoleZeros x = (verdictRefusal (x .verdict) .number ≡ 0 → ⊥) → holeNumbers x ≡ replicate 3 (pos 0)
+
+pub finds-hole : (group : List ℤ) (area : Area) → FindsHole group area
+unfolding holeAnswer holeOf inForceAnswer
+finds-hole group area =
+    record {
+      told = found-told (groupOfWords group) area;
+      zeros =
+          chain-verdict refusedHole HoleZeros (areaJudged (groupOfWords group) area) (acceptedHole (holeIn (groupOfWords group) area))
+          (λ r e n. refl) (λ n. absurd (n (ap (λ (v : Verdict). verdictRefusal v .number) (found-accepted (holeIn (groupOfWords group) area)))));
+      alike = ap verdictRefusal (refuses-alike (groupOfWords group) area .alike);
     }
 
 pub loads : (quantum : ℤ) (flag : Float) (floats : List Float) (nodes : List ℤ) → Loads quantum flag floats nodes

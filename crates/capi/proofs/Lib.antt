@@ -5,3 +5,4 @@ pub mod ShownLaws
 pub mod Demand1
 pub mod Demand2
 pub mod Order1
+pub mod Order2

@@ -12,15 +12,14 @@ use Rattle.group.specs.declared.Group.{Group}
 use Rattle.group.specs.declared.Verdict.{Verdict}
 use Rattle.group.specs.declared.Verdict.the-variants as verdict
 use Rattle.group.specs.Numbers.{gridsMost}
-use Rattle.judge.specs.Judge.{judged}
 use Rattle.judge.proofs.Accepted.{accepted-head}
 use Rattle.inforce.specs.declared.Area.{Area}
 use Rattle.inforce.specs.declared.GridInForce.{GridInForce}
 use Rattle.inforce.specs.declared.InForce.{InForce}
-use Rattle.inforce.specs.Area.{areaFits}
+use Rattle.inforce.specs.Area.{areaJudged}
 use Rattle.inforce.specs.InForce.{blankEntry, inForceOf}
 use Rattle.inforce.specs.Demand3.{GridsInForce}
-use Rattle.inforce.proofs.StageLaws.{in-force-group, in-force-10}
+use Rattle.inforce.proofs.StageLaws.{accepted-area, in-force-refused}
 use Rattle.inforce.proofs.Demand3.{none-at, demand-3}
 use Rattle.abi.specs.Abi.{joined}
 use Rattle.abi.proofs.NumberLaws.{as-it-is}
@@ -45,12 +44,11 @@ listed-small g a r s h = record { few = omega (arith, h .most); each = λ k. go 
     go k false e = let q = h .placed k (leb-false (r .count) k e) .number in omega arith
 
 list-small : (g : Group) (a : Area) → Small (inForceOf g a)
-list-small g a = go (judged g) refl (areaFits a) refl
+list-small g a = go (areaJudged g a) refl
   where
-    go : (v : Verdict) → judged g ≡ v → (t : Bool) → areaFits a ≡ t → Small (inForceOf g a)
-    go (verdict.Refused r) e t f = refused-small (inForceOf g a) (ap (λ (x : InForce). x .count) (in-force-group g a r e)) (ap (λ (x : InForce). x .entries) (in-force-group g a r e))
-    go verdict.Accepted e true f = listed-small g a (inForceOf g a) (accepted-head g e .grids) (demand-3 g a e f)
-    go verdict.Accepted e false f = refused-small (inForceOf g a) (ap (λ (x : InForce). x .count) (in-force-10 g a e f)) (ap (λ (x : InForce). x .entries) (in-force-10 g a e f))
+    go : (v : Verdict) → areaJudged g a ≡ v → Small (inForceOf g a)
+    go (verdict.Refused r) e = refused-small (inForceOf g a) (ap (λ (x : InForce). x .count) (in-force-refused g a r e)) (ap (λ (x : InForce). x .entries) (in-force-refused g a r e))
+    go verdict.Accepted e = let j = accepted-area g a e in listed-small g a (inForceOf g a) (accepted-head g (j .0) .grids) (demand-3 g a (j .0) (j .1))
 
 joined-same : {A : Type 0} (f h : ℕ → List A) (n : ℕ) → ((k : ℕ) → f k ≡ h k) → joined f n ≡ joined h n
 unfolding joined

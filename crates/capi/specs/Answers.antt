@@ -1,7 +1,8 @@
 -- What each call of the C interface leaves: the refusal's number and place, 0 and 0 where it is accepted, and the lent memory.
 use Prim.Native.Nat.{ℕ}
+use mathlib.Core.Bool.{cond}
 use mathlib.Core.List.{List, [], _∷_}
-use lib.IntN.{ℤ}
+use lib.IntN.{ℤ, pos}
 use lib.Ieee.{Float}
 use lib.Dec.{eqb}
 use lib.ListN.{length}
@@ -15,6 +16,9 @@ use Rattle.header.specs.declared.Written.{Written}
 use Rattle.header.specs.Header.{readHeader, written, writtenRefusal, writtenCount, bytesAfter}
 use Rattle.nodes.specs.Load.{loaded, loadedRefusal, nodesAfter}
 use Rattle.judge.specs.Judge.{judged}
+use Rattle.inforce.specs.declared.Area.{Area}
+use Rattle.inforce.specs.declared.Uncovered.{Uncovered}
+use Rattle.inforce.specs.Hole.{holeOf}
 use Rattle.lookup.specs.declared.Answer.{Answer as Found}
 use Rattle.lookup.specs.Answer.{answerRecord}
 use Rattle.lookup.specs.Lookup.{looked}
@@ -24,7 +28,7 @@ use Rattle.abi.specs.Abi.{groupOfWords, numbersOf}
 
 -- the version of the interface: major · 1,000,000 + minor · 1,000 + patch
 abbrev pub version : ℕ
-version = 1001000
+version = 1002000
 
 -- the refusal and what stands in lent memory afterwards
 pub record Answer (A : Type 0) : Type 0 where
@@ -69,6 +73,26 @@ manyAnswer group nodes points results =
       refusal = verdictRefusal (manyVerdict (groupOfWords group) (length nodes) (eqb (length points) (length results)));
       lent = resultsAfter (groupOfWords group) nodes points results;
     }
+
+-- ---- an area by its sides
+
+abbrev pub areaOf : ℤ → ℤ → ℤ → ℤ → Area
+areaOf west east south north =
+    record {
+      lon = record { west = record { 0 = west }; east = record { 0 = east } };
+      lat = record { south = record { 0 = south }; north = record { 0 = north } };
+    }
+
+-- ---- the hole of an area: 1 if there is one, else 0, and its longitude and latitude
+
+abbrev pub holeNumbers : Uncovered → List ℤ
+holeNumbers h = cond (h .found) (pos 1) (pos 0) ∷ h .lon .0 ∷ h .lat .0 ∷ []
+
+abbrev pub holeLeft : Uncovered → Answer (List ℤ)
+holeLeft h = record { refusal = verdictRefusal (h .verdict); lent = holeNumbers h }
+
+unfoldable pub holeAnswer : List ℤ → Area → Answer (List ℤ)
+holeAnswer group area = holeLeft (holeOf (groupOfWords group) area)
 
 -- ---- writing: the count of bytes, and the lent bytes
 

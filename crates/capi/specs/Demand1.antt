@@ -20,13 +20,14 @@ use Rattle.lookup.specs.Lookup.{looked}
 use Rattle.exercise.specs.Exercise.{manyVerdict}
 use Rattle.inforce.specs.declared.Area.{Area}
 use Rattle.inforce.specs.InForce.{inForceOf}
+use Rattle.inforce.specs.Hole.{holeOf}
 use Rattle.nodes.specs.declared.Loaded.the-variants.{Done}
 use Rattle.nodes.specs.Load.{loaded}
 use Rattle.screen.specs.declared.ScreenAnswer.the-variants as S
 use Rattle.screen.specs.Screen.{plusZero}
 use Rattle.numbers.specs.Order.{countOf}
 use Rattle.abi.specs.Abi.{groupOfWords}
-use Rattle.capi.specs.Answers.{Answer, pointOf, lentText, judgeAnswer, readAnswer, writeAnswer, lookupAnswer, manyAnswer, loadAnswer}
+use Rattle.capi.specs.Answers.{Answer, pointOf, lentText, judgeAnswer, readAnswer, writeAnswer, lookupAnswer, manyAnswer, holeAnswer, loadAnswer}
 use Rattle.capi.specs.InForce.{listWords, inForceAnswer}
 use Rattle.capi.specs.Screen.{shownOf, shiftsAnswer, recordAnswer}
 
@@ -61,6 +62,12 @@ pub record LooksMany (group nodes : List ℤ) (points : List Position) (results 
 pub record Lists (group : List ℤ) (area : Area) : Type 0 where
   pub told : Told (inForceOf (groupOfWords group) area .verdict ≡ Accepted) (inForceAnswer group area .refusal)
   pub zeros : LeftBeside (replicate listWords (pos 0)) (inForceAnswer group area)
+
+pub record FindsHole (group : List ℤ) (area : Area) : Type 0 where
+  pub told : Told (holeOf (groupOfWords group) area .verdict ≡ Accepted) (holeAnswer group area .refusal)
+  pub zeros : LeftBeside (replicate 3 (pos 0)) (holeAnswer group area)
+  -- the same refusal as of the grids in force
+  pub alike : holeAnswer group area .refusal ≡ inForceAnswer group area .refusal
 
 pub record Loads (quantum : ℤ) (flag : Float) (floats : List Float) (nodes : List ℤ) : Type 0 where
   pub told : Told (loaded (countOf quantum) flag floats (length nodes) ≡ Done) (loadAnswer quantum flag floats nodes .refusal)

@@ -12,13 +12,6 @@ use Rattle.group.specs.Refusals.{verdictRefusal}
 use Rattle.abi.specs.Abi.{groupOfWords, stored, joined}
 use Rattle.capi.specs.Answers.{Answer}
 
-abbrev pub areaOf : ℤ → ℤ → ℤ → ℤ → Area
-areaOf west east south north =
-    record {
-      lon = record { west = record { 0 = west }; east = record { 0 = east } };
-      lat = record { south = record { 0 = south }; north = record { 0 = north } };
-    }
-
 -- where the entries begin, behind the count, the numbers of an entry, and how many numbers there are
 abbrev pub entriesFrom : ℕ
 entriesFrom = 1

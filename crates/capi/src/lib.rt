@@ -10,8 +10,9 @@ ghost use Rattle.nodes.specs.Load.{loadedRefusal};
 ghost use Rattle.inforce.specs.InForce.{blankEntry};
 ghost use Rattle.screen.specs.Screen.{screenRefusal, shiftsOf};
 ghost use Rattle.abi.specs.Abi.{joined};
-ghost use Rattle.capi.specs.Answers.{version, left, judgeAnswer, readAnswer, lookupAnswer, manyAnswer, lentText, writeAnswer, fieldPart, loadAnswer};
-ghost use Rattle.capi.specs.InForce.{areaOf, entriesFrom, listWords, storedEntry, storedList, inForceAnswer};
+ghost use Rattle.capi.specs.Answers.{version, left, areaOf, holeNumbers, lentText, fieldPart};
+ghost use Rattle.capi.specs.Answers.{judgeAnswer, readAnswer, writeAnswer, lookupAnswer, manyAnswer, holeAnswer, loadAnswer};
+ghost use Rattle.capi.specs.InForce.{entriesFrom, listWords, storedEntry, storedList, inForceAnswer};
 ghost use Rattle.capi.specs.Screen.{lookupOf, shownOf, shiftsAnswer, recordAnswer};
 use abi::GROUP_WORDS;
 use extent::LatSpan;
@@ -29,12 +30,13 @@ use header::Written;
 use inforce::Area;
 use inforce::GridInForce;
 use inforce::InForce;
+use inforce::Uncovered;
 use lookup::Answer;
 use nodes::Loaded;
 use screen::ScreenAnswer;
 
 // The version of the interface: major * 1,000,000 + minor * 1,000 + patch.
-const VERSION: u64 = 1001000;
+const VERSION: u64 = 1002000;
 
 // The numbers of an entry of a list of grids in force, where the entries begin, and the numbers of the list.
 const ENTRY_WORDS: usize = 3;
@@ -220,6 +222,22 @@ fn store_entries(out: &mut [i64], entries: [GridInForce; GRIDS_MOST])
     }
 }
 
+// An area of its sides.
+fn area_of(west: i64, east: i64, south: i64, north: i64) -> Area
+    ensures { λ r. ⌜ r ≡ areaOf west east south north ⌝ }
+{
+    Area {
+        lon: LonSpan {
+            west: Longitude(west),
+            east: Longitude(east),
+        },
+        lat: LatSpan {
+            south: Latitude(south),
+            north: Latitude(north),
+        },
+    }
+}
+
 // Lists the grids in force in an area, its sides in mas: refusals 2 to 5, then 10.
 #[no_mangle]
 pub extern "C" fn bulhyemik_grids_in_force(
@@ -233,21 +251,43 @@ pub extern "C" fn bulhyemik_grids_in_force(
 ) -> u64
     ensures { λ r. ⌜ left r (now (place .exit)) (now (list .exit)) ≡ inForceAnswer (now (group .entry)) (areaOf west east south north) ⌝ }
 {
-    let area = Area {
-        lon: LonSpan {
-            west: Longitude(west),
-            east: Longitude(east),
-        },
-        lat: LatSpan {
-            south: Latitude(south),
-            north: Latitude(north),
-        },
-    };
-    let found = inforce::force_words(group, area);
+    let found = inforce::force_words(group, area_of(west, east, south, north));
     let verdict = found.verdict;
     let numbers = list_numbers(found);
     let refusal = verdict_refusal(verdict);
     *list = numbers;
+    *place = refusal.place;
+    refusal.number
+}
+
+// The numbers of a hole: 1 if there is one, else 0, and its longitude and latitude.
+fn hole_numbers(hole: Uncovered) -> [i64; 3]
+    ensures { λ r. ⌜ r ≡ holeNumbers hole ⌝ }
+{
+    if hole.found {
+        return [1, hole.lon.0, hole.lat.0];
+    }
+    [0, hole.lon.0, hole.lat.0]
+}
+
+// Finds the southmost, then westmost coordinate of an area at which no grid is chosen, all in mas: refusals 2 to 5, then 10.
+#[no_mangle]
+pub extern "C" fn bulhyemik_hole(
+    group: &[i64; GROUP_WORDS],
+    west: i64,
+    east: i64,
+    south: i64,
+    north: i64,
+    uncovered: &mut [i64; 3],
+    place: &mut u64,
+) -> u64
+    ensures { λ r. ⌜ left r (now (place .exit)) (now (uncovered .exit)) ≡ holeAnswer (now (group .entry)) (areaOf west east south north) ⌝ }
+{
+    let hole = inforce::hole_words(group, area_of(west, east, south, north));
+    let verdict = hole.verdict;
+    let numbers = hole_numbers(hole);
+    let refusal = verdict_refusal(verdict);
+    *uncovered = numbers;
     *place = refusal.place;
     refusal.number
 }

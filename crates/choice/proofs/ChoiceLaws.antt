@@ -24,7 +24,7 @@ Apart held rank n = (i j : ℕ) → i < j → j < n → rank i ≡ rank j → he
 pub record Unblocked (held : ℕ → Bool) (rank : ℕ → ℕ) (n g : ℕ) : Type 0 where
   pub among : g < n
   pub inside : held g ≡ true
-  pub alone : (j : ℕ) → j < n → blocks rank j g ≡ true → held j ≡ true → ⊥
+  pub alone : (j : ℕ) → j < n → blocks rank j (suc g) ≡ true → held j ≡ true → ⊥
 
 module _ (held : ℕ → Bool) (rank : ℕ → ℕ) where
   -- what the number c, 0 for none, says
@@ -83,6 +83,11 @@ module _ (held : ℕ → Bool) (rank : ℕ → ℕ) where
             ]
       ]
 
+-- every grid keeps the choice from none
+pub any-blocks : (rank : ℕ → ℕ) (j : ℕ) → blocks rank j 0 ≡ true
+unfolding blocks
+any-blocks rank j = refl
+
 module _ (held : ℕ → Bool) (rank : ℕ → ℕ) (n : ℕ) where
   -- the chosen grid is the best, and of equal ranks the first
   pub chosen-best : (g : ℕ) → chosen held rank n ≡ suc g → Best held rank n g
@@ -107,8 +112,8 @@ module _ (held : ℕ → Bool) (rank : ℕ → ℕ) (n : ℕ) where
           let w = lowest j (omega arith) h in
           elim (decLt (rank g) (rank j)) [ yes lt ↦ lt | no ge ↦ absurd (apart j g l among (omega arith) h inside) ]
 
-  -- the four laws that coverage cites: a grid is chosen exactly where it holds the point and none of its blockers does, and none is chosen exactly
-  -- where no grid holds it
+  -- the laws that coverage cites, beside `any-blocks`: a grid is chosen exactly where it holds the point and none of its blockers does, and none
+  -- is chosen exactly where no grid holds it
   pub chosen-unblocked : (g : ℕ) → chosen held rank n ≡ suc g → Unblocked held rank n g
   unfolding blocks
   chosen-unblocked g e =

@@ -1,8 +1,8 @@
--- Which of two grids comes before the other: what inner functions go by.
+-- Which grids keep the choice from a grid, or from none: the better ones. What inner functions go by.
 use mathlib.Core.Bool.{Bool}
 use Prim.Native.Nat.{ℕ}
-use lib.Dec.{ltb}
+use Rattle.choice.specs.Choice.{better}
 
--- grid j, where it holds the point too, comes before grid g
+-- grid j, where it holds the point, keeps the choice from the grid numbered k, from 1; where k is 0, for none, any grid does
 unfoldable pub blocks : (ℕ → ℕ) → ℕ → ℕ → Bool
-blocks rank j g = ltb (rank j) (rank g)
+blocks rank j k = better rank j k

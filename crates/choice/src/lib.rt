@@ -25,12 +25,16 @@ pub fn rect_holds(sides: &[u64], i: usize, x: u64, y: u64) -> bool
     (sides[at] <= x) & ((x <= sides[at + 1]) & ((sides[at + 2] <= y) & (y <= sides[at + 3])))
 }
 
-// Whether grid j comes before grid g where both hold the point: its rank number is lower.
-pub fn is_blocker(ranks: &[u64], j: usize, g: usize) -> bool
-    requires { ⌜ (j < length (now ranks)) × (g < length (now ranks)) ⌝ }
-    ensures { λ r. ⌜ r ≡ blocks (at (now (ranks .entry))) j g ⌝ }
+// Whether grid j, where it holds the point, keeps the choice from the grid numbered k, from 1: its rank number is lower. Where k is 0, for
+// none, any grid does.
+pub fn is_blocker(ranks: &[u64], j: usize, k: usize) -> bool
+    requires { ⌜ (j < length (now ranks)) × (k ≤ length (now ranks)) ⌝ }
+    ensures { λ r. ⌜ r ≡ blocks (at (now (ranks .entry))) j k ⌝ }
 {
-    ranks[j] < ranks[g]
+    if k == 0 {
+        return true;
+    }
+    ranks[j] < ranks[k - 1]
 }
 
 // The better of grid i, where it holds the point, and the grid numbered c, one of those before it or 0 for none.
@@ -41,11 +45,7 @@ fn better_of(sides: &[u64], ranks: &[u64], x: u64, y: u64, i: usize, c: u64) -> 
     if !rect_holds(sides, i, x, y) {
         return c;
     }
-    if c == 0 {
-        return i as u64 + 1;
-    }
-    let b = (c - 1) as usize;
-    if ranks[i] < ranks[b] {
+    if is_blocker(ranks, i, c as usize) {
         return i as u64 + 1;
     }
     c

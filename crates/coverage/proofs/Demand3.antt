@@ -16,21 +16,20 @@ use Rattle.region.specs.declared.Bounds.{Bounds}
 use Rattle.region.proofs.SearchLaws.{at-first, none-first, first-same}
 use Rattle.coverage.specs.InForce.{firstTaken, entriesOf, inForceBy}
 use Rattle.coverage.specs.Listing.{noEntry}
-use Rattle.coverage.specs.Demand3.{Inside, EntryPlaced, Ordered, EntriesInForce}
+use Rattle.coverage.specs.Demand3.{Inside, IsFirstTaken, EntryPlaced, Ordered, EntriesInForce}
 use Rattle.coverage.specs.declared.Entry.{Entry}
 use Rattle.numbers.proofs.Lists.{at-mem, mem-at, pairs-at, pairs-by}
 use Rattle.coverage.proofs.EntryLaws.{entries≤, mem-entries, entries-mem, pairs-entries}
 
-module _ (choose : ℕ → ℕ → ℕ) (n : ℕ) (a : Bounds) where
-  -- where the grid numbered k is chosen first
-  first-placed : (k x y : ℕ) → 1 ≤ k → k ≤ n → firstTaken choose a k ≡ At x y → EntryPlaced choose n a (record { grid = k; lon = x; lat = y })
-  first-placed k x y low high e =
+module _ (choose : ℕ → ℕ → ℕ) (a : Bounds) where
+  -- where the grid numbered k is chosen first, or none where k is 0
+  pub first-taken : (k x y : ℕ) → firstTaken choose a k ≡ At x y → IsFirstTaken choose a k x y
+  first-taken k x y e =
       let f = at-first (λ u v. eqb (choose u v) k) (a .west) (a .east) (a .south) (a .north) x y e in
       record {
-        number = (low, high);
         inside = record { west≤ = f .west≤; ≤east = f .≤east; south≤ = f .south≤; ≤north = f .≤north };
         chosen = eqb-true (choose x y) k (f .here);
-        first = λ u v i c. let t = eq-eqb (choose u v) k c in
+        others = λ u v i c. let t = eq-eqb (choose u v) k c in
             elim (decLt y v) [
               | yes lt ↦ inl lt
               | no ge ↦
@@ -46,7 +45,7 @@ module _ (choose : ℕ → ℕ → ℕ) (n : ℕ) (a : Bounds) where
             ];
       }
 
-  first-found : (x y k : ℕ) → Inside a x y → choose x y ≡ k → (u : ℕ) × (v : ℕ) × (firstTaken choose a k ≡ At u v)
+  pub first-found : (x y k : ℕ) → Inside a x y → choose x y ≡ k → (u : ℕ) × (v : ℕ) × (firstTaken choose a k ≡ At u v)
   first-found x y k i p = go (firstTaken choose a k) refl
     where
       go : (s : Spot) → firstTaken choose a k ≡ s → (u : ℕ) × (v : ℕ) × (firstTaken choose a k ≡ At u v)
@@ -75,13 +74,16 @@ in-force choose Before n a order o taken =
         let p = mem-entries (firstTaken choose a) order e m in
         let i = mem-at 0 (p .0) in
         let b = o .number (i .0) (i .1) in
-        first-placed choose n a (e .grid) (e .lon) (e .lat) (omega (arith, b .0, i .2)) (omega (arith, b .1, i .2)) (p .1)
+        record {
+          number = (omega (arith, b .0, i .2), omega (arith, b .1, i .2));
+          first = first-taken choose a (e .grid) (e .lon) (e .lat) (p .1);
+        }
 
     named : (x y g : ℕ) → Inside a x y → choose x y ≡ suc g → (i : ℕ) × (i < length es) × (getD es i noEntry .grid ≡ suc g)
     named x y g i p =
         let q = o .each g (taken x y g p) in
         let m : List·Memᴰ (suc g) order = subst (λ (k : ℕ). List·Memᴰ k order) (q .2) (at-mem 0 order (q .0) (q .1)) in
-        let s = first-found choose n a x y (suc g) i p in
+        let s = first-found choose a x y (suc g) i p in
         let k = mem-at noEntry (entries-mem (firstTaken choose a) m (s .0) (s .1) (s .2)) in
         (k .0, k .1, ap (λ (f : Entry). f .grid) (k .2))
 
@@ -90,9 +92,9 @@ in-force choose Before n a order o taken =
         pairs-at (λ e f. Before (e .grid) (f .grid)) noEntry es
         (pairs-entries (firstTaken choose a) Before order (pairs-by Before 0 order (o .sorted))) i j m q
 
--- The list depends on the choice at the area's coordinates, and on nothing else of it.
+-- A first coordinate and the list depend on the choice at the area's coordinates, and on nothing else of it.
 module _ (choose take : ℕ → ℕ → ℕ) (a : Bounds) (same : (x y : ℕ) → Inside a x y → choose x y ≡ take x y) where
-  first-alike : (k : ℕ) → firstTaken choose a k ≡ firstTaken take a k
+  pub first-alike : (k : ℕ) → firstTaken choose a k ≡ firstTaken take a k
   first-alike k =
       first-same (λ x y. eqb (choose x y) k) (λ x y. eqb (take x y) k) (a .west) (a .east) (a .south) (a .north)
       (λ x y i j u v t. sym (ap (λ (m : ℕ). eqb m k) (same x y (record { west≤ = i; ≤east = j; south≤ = u; ≤north = v }))) ∙ t)

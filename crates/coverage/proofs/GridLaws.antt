@@ -1,4 +1,5 @@
--- Where a grid is chosen first: it is the first point that one of its rectangles holds and that no blocker of the grid holds.
+-- Where a grid is chosen first: it is the first point that one of its rectangles holds and that no blocker of the grid holds. Where none is:
+-- the first that no rectangle holds.
 use mathlib.Core.Path.{_≡_, refl, sym, ap, _∙_, subst}
 use mathlib.Core.Bool.{Bool, true, _&&_, _||_, and-or-distrib-right}
 use mathlib.Core.Logic.{⊎-elim}
@@ -16,16 +17,14 @@ use Rattle.numbers.specs.Lists.{at}
 use Rattle.choice.specs.Rect.{westOf, eastOf, southOf, northOf, rectHolds}
 use Rattle.choice.specs.Blocks.{blocks}
 use Rattle.choice.proofs.RectLaws.{RectHolds, rect-holds-true, true-rect-holds}
-use Rattle.choice.proofs.ChoiceLaws.{chosen-unblocked, unblocked-chosen}
-use Rattle.region.specs.First.{firstIn}
+use Rattle.choice.proofs.ChoiceLaws.{chosen-unblocked, unblocked-chosen, any-blocks, chosen-none, none-chosen}
 use Rattle.region.specs.Earlier.{earlier}
 use Rattle.region.specs.declared.Bounds.{Bounds}
 use Rattle.region.specs.declared.Spot.{Spot}
 use Rattle.region.specs.declared.Spot.the-variants.{Nothing}
 use Rattle.region.proofs.SearchLaws.{narrow, first-same, first-none, first-either}
 use Rattle.coverage.specs.Rectangles.{Rectangles, ownHolds, gridHolds, chosenAt, firstChosen, SoundRects}
-use Rattle.coverage.specs.Demand3.{Inside}
-use Rattle.coverage.specs.Steps.{blockHolds, unblocked, firstOf, firstOfRect, partOf}
+use Rattle.coverage.specs.Steps.{blockHolds, unblocked, firstUnblocked, firstOf, firstOfRect, partOf}
 
 -- a rectangle of a grid, and the grid
 module _ (l : Rectangles) (x y : ℕ) where
@@ -42,49 +41,62 @@ module _ (l : Rectangles) (x y : ℕ) where
       let r = s .0 in
       (r, s .1, eqb-true (at (l .owners) r) g (and-left (eqb (at (l .owners) r) g) (rectHolds (l .rects) r x y) (s .2)), true-rect-holds (l .rects) r x y (and-right (eqb (at (l .owners) r) g) (rectHolds (l .rects) r x y) (s .2)))
 
--- the points that no rectangle of g's blockers holds
-module _ (l : Rectangles) (sound : SoundRects l) (g x y : ℕ) where
-  free-of : unblocked l g x y ≡ true → (j : ℕ) → blocks (at (l .ranks)) j g ≡ true → gridHolds l j x y ≡ true → ⊥
+-- the points that no rectangle of a blocker holds, for a grid or for none
+module _ (l : Rectangles) (sound : SoundRects l) (k x y : ℕ) where
+  free-of : unblocked l k x y ≡ true → (j : ℕ) → blocks (at (l .ranks)) j k ≡ true → gridHolds l j x y ≡ true → ⊥
   unfolding unblocked
   free-of f j b h =
       let r = grid-rect l x y j h in
-      let k = some-by (blockHolds l g x y) (length (l .owners)) (r .0) (r .1) (both (ap (λ (i : ℕ). blocks (at (l .ranks)) i g) (r .2) ∙ b) (rect-holds-true (l .rects) (r .0) x y (r .3))) in
-      true-false f (rw k refl)
+      let s = some-by (blockHolds l k x y) (length (l .owners)) (r .0) (r .1) (both (ap (λ (i : ℕ). blocks (at (l .ranks)) i k) (r .2) ∙ b) (rect-holds-true (l .rects) (r .0) x y (r .3))) in
+      true-false f (rw s refl)
 
-  of-free : ((j : ℕ) → j < length (l .ranks) → blocks (at (l .ranks)) j g ≡ true → gridHolds l j x y ≡ true → ⊥) → unblocked l g x y ≡ true
+  of-free : ((j : ℕ) → j < length (l .ranks) → blocks (at (l .ranks)) j k ≡ true → gridHolds l j x y ≡ true → ⊥) → unblocked l k x y ≡ true
   unfolding unblocked
   of-free h =
-      rw (untrue (some (blockHolds l g x y) (length (l .owners)))
+      rw (untrue (some (blockHolds l k x y) (length (l .owners)))
       (λ e.
-      let s = by-some (blockHolds l g x y) (length (l .owners)) e in
-      let b = blocks (at (l .ranks)) (at (l .owners) (s .0)) g in
+      let s = by-some (blockHolds l k x y) (length (l .owners)) e in
+      let b = blocks (at (l .ranks)) (at (l .owners) (s .0)) k in
       h (at (l .owners) (s .0)) (sound .owned (s .0) (s .1)) (and-left b (rectHolds (l .rects) (s .0) x y) (s .2))
       (rect-grid l x y (s .0) (s .1) (true-rect-holds (l .rects) (s .0) x y (and-right b (rectHolds (l .rects) (s .0) x y) (s .2))))))
       refl
 
+module _ (l : Rectangles) (sound : SoundRects l) (g x y : ℕ) where
   -- g is chosen just where it holds the point and no blocker of it does
-  free-chosen : g < length (l .ranks) → (gridHolds l g x y && unblocked l g x y) ≡ true → chosenAt l x y ≡ suc g
+  free-chosen : g < length (l .ranks) → (gridHolds l g x y && unblocked l (suc g) x y) ≡ true → chosenAt l x y ≡ suc g
   unfolding chosenAt
   free-chosen m e =
       unblocked-chosen (λ i. gridHolds l i x y) (at (l .ranks)) (length (l .ranks)) (sound .apart x y) g
       (record {
         among = m;
-        inside = and-left (gridHolds l g x y) (unblocked l g x y) e;
-        alone = λ j k b h. free-of (and-right (gridHolds l g x y) (unblocked l g x y) e) j b h;
+        inside = and-left (gridHolds l g x y) (unblocked l (suc g) x y) e;
+        alone = λ j k b h. free-of l sound (suc g) x y (and-right (gridHolds l g x y) (unblocked l (suc g) x y) e) j b h;
       })
 
-  chosen-free : chosenAt l x y ≡ suc g → (gridHolds l g x y && unblocked l g x y) ≡ true
+  chosen-free : chosenAt l x y ≡ suc g → (gridHolds l g x y && unblocked l (suc g) x y) ≡ true
   unfolding chosenAt
   chosen-free e =
       let u = chosen-unblocked (λ i. gridHolds l i x y) (at (l .ranks)) (length (l .ranks)) g e in
-      both (u .inside) (of-free (λ j m b h. u .alone j m b h))
+      both (u .inside) (of-free l sound (suc g) x y (λ j m b h. u .alone j m b h))
+
+-- the search for no grid: none is chosen just where no rectangle holds the point, since every one blocks that choice
+pub hole-chosen : (l : Rectangles) → SoundRects l → (a : Bounds) → {s : Spot} → s ≡ firstUnblocked l a 0 → s ≡ firstChosen l a 0
+unfolding chosenAt
+hole-chosen l sound a q =
+    q ∙ first-same (unblocked l 0) (λ x y. eqb (chosenAt l x y) 0) (a .west) (a .east) (a .south) (a .north)
+    (λ x y i j u v e.
+    eq-eqb (chosenAt l x y) 0
+    (none-chosen (λ g. gridHolds l g x y) (at (l .ranks)) (length (l .ranks)) (λ g m h. free-of l sound 0 x y e g (any-blocks (at (l .ranks)) g) h)))
+    (λ x y i j u v e.
+    of-free l sound 0 x y
+    (λ g m b h. chosen-none (λ g. gridHolds l g x y) (at (l .ranks)) (length (l .ranks)) (eqb-true (chosenAt l x y) 0 e) g m h))
 
 -- the search for g
 pub spot-chosen : (l : Rectangles) → SoundRects l → (a : Bounds) (g : ℕ) → g < length (l .ranks) → {s : Spot} → s ≡ firstOf l a g (length (l .owners))
     → s ≡ firstChosen l a (g + 1)
 unfolding gridHolds
 spot-chosen l sound a g m q =
-    q ∙ first-same (λ x y. gridHolds l g x y && unblocked l g x y) (λ x y. eqb (chosenAt l x y) (g + 1)) (a .west) (a .east) (a .south) (a .north)
+    q ∙ first-same (λ x y. gridHolds l g x y && unblocked l (suc g) x y) (λ x y. eqb (chosenAt l x y) (g + 1)) (a .west) (a .east) (a .south) (a .north)
     (λ x y i j u v e. eq-eqb (chosenAt l x y) (g + 1) (free-chosen l sound g x y m e ∙ sym (add-one g)))
     (λ x y i j u v e. chosen-free l sound g x y (eqb-true (chosenAt l x y) (g + 1) e ∙ add-one g))
 
@@ -110,46 +122,45 @@ module _ (l : Rectangles) (a : Bounds) (g : ℕ) where
 
   pub first-of-none : Nothing ≡ firstOf l a g 0
   first-of-none =
-      sym (first-none (λ x y. some (own x y) 0 && unblocked l g x y) (a .west) (a .east) (a .south) (a .north)
-      (λ i j b c d e. untrue (some (own i j) 0 && unblocked l g i j)
-      (λ t. let s = by-some (own i j) 0 (and-left (some (own i j) 0) (unblocked l g i j) t) in absurd (omega (arith, s .1)))))
+      sym (first-none (λ x y. some (own x y) 0 && unblocked l (suc g) x y) (a .west) (a .east) (a .south) (a .north)
+      (λ i j b c d e. untrue (some (own i j) 0 && unblocked l (suc g) i j)
+      (λ t. let s = by-some (own i j) 0 (and-left (some (own i j) 0) (unblocked l (suc g) i j) t) in absurd (omega (arith, s .1)))))
 
   pub first-of-more : (n : ℕ) (s t r : Spot) → s ≡ firstOf l a g n → t ≡ firstOfRect l a g n → r ≡ earlier t s → r ≡ firstOf l a g (n + 1)
   first-of-more n s t r e f h =
       h ∙ rw (e, f)
-      (sym (first-either (λ x y. own x y n && unblocked l g x y) (λ x y. some (own x y) n && unblocked l g x y) (a .west) (a .east) (a .south) (a .north))
-      ∙ first-same (λ x y. (own x y n && unblocked l g x y) || (some (own x y) n && unblocked l g x y)) (λ x y. some (own x y) (n + 1) && unblocked l g x y)
+      (sym (first-either (λ x y. own x y n && unblocked l (suc g) x y) (λ x y. some (own x y) n && unblocked l (suc g) x y) (a .west) (a .east) (a .south) (a .north))
+      ∙ first-same (λ x y. (own x y n && unblocked l (suc g) x y) || (some (own x y) n && unblocked l (suc g) x y)) (λ x y. some (own x y) (n + 1) && unblocked l (suc g) x y)
       (a .west) (a .east) (a .south) (a .north)
       (λ x y i j k m q.
-      let u = and-or-distrib-right (own x y n) (some (own x y) n) (unblocked l g x y) ∙ q in
-      both (some-more (own x y) n (and-left (own x y n || some (own x y) n) (unblocked l g x y) u)) (and-right (own x y n || some (own x y) n) (unblocked l g x y) u))
-      (λ x y i j k m q. sym (and-or-distrib-right (own x y n) (some (own x y) n) (unblocked l g x y))
-      ∙ both (more-some (own x y) n (and-left (some (own x y) (n + 1)) (unblocked l g x y) q)) (and-right (some (own x y) (n + 1)) (unblocked l g x y) q)))
+      let u = and-or-distrib-right (own x y n) (some (own x y) n) (unblocked l (suc g) x y) ∙ q in
+      both (some-more (own x y) n (and-left (own x y n || some (own x y) n) (unblocked l (suc g) x y) u)) (and-right (own x y n || some (own x y) n) (unblocked l (suc g) x y) u))
+      (λ x y i j k m q. sym (and-or-distrib-right (own x y n) (some (own x y) n) (unblocked l (suc g) x y))
+      ∙ both (more-some (own x y) n (and-left (some (own x y) (n + 1)) (unblocked l (suc g) x y) q)) (and-right (some (own x y) (n + 1)) (unblocked l (suc g) x y) q)))
 
   -- a rectangle's part of the area
   pub rect-other : (r : ℕ) → (at (l .owners) r ≡ g → ⊥) → Nothing ≡ firstOfRect l a g r
   rect-other r h =
-      sym (first-none (λ x y. own x y r && unblocked l g x y) (a .west) (a .east) (a .south) (a .north) (λ i j b c d e. rw (ne-eqb (at (l .owners) r) g h) refl))
+      sym (first-none (λ x y. own x y r && unblocked l (suc g) x y) (a .west) (a .east) (a .south) (a .north) (λ i j b c d e. rw (ne-eqb (at (l .owners) r) g h) refl))
 
-  pub rect-own : (r : ℕ) → at (l .owners) r ≡ g → (p : Bounds) → p ≡ partOf (l .rects) r a → (q : ℕ → ℕ → Bool)
-      → ((x y : ℕ) → Inside p x y → q x y ≡ unblocked l g x y) → {t : Spot}
-      → t ≡ firstIn q (p .west) (p .east) (p .south) (p .north) → t ≡ firstOfRect l a g r
-  rect-own r o p d q same e =
+  pub rect-own : (r : ℕ) → at (l .owners) r ≡ g → (p : Bounds) → p ≡ partOf (l .rects) r a → {t : Spot} → t ≡ firstUnblocked l p (suc g)
+      → t ≡ firstOfRect l a g r
+  rect-own r o p d e =
       let pw : p .west ≡ max (a .west) (westOf (l .rects) r) = ap (λ (z : Bounds). z .west) d in
       let pe : p .east ≡ min (a .east) (eastOf (l .rects) r) = ap (λ (z : Bounds). z .east) d in
       let ps : p .south ≡ max (a .south) (southOf (l .rects) r) = ap (λ (z : Bounds). z .south) d in
       let pn : p .north ≡ min (a .north) (northOf (l .rects) r) = ap (λ (z : Bounds). z .north) d in
-      e ∙ narrow (λ x y. own x y r && unblocked l g x y) q (a .west) (a .east) (a .south) (a .north) (p .west) (p .east) (p .south) (p .north)
+      e ∙ narrow (λ x y. own x y r && unblocked l (suc g) x y) (unblocked l (suc g)) (a .west) (a .east) (a .south) (a .north) (p .west) (p .east) (p .south) (p .north)
       (omega arith) (omega arith) (omega arith) (omega arith)
       (λ i j h k m f t.
-      let u = and-left (own i j r) (unblocked l g i j) t in
+      let u = and-left (own i j r) (unblocked l (suc g) i j) t in
       let v = true-rect-holds (l .rects) r i j (and-right (eqb (at (l .owners) r) g) (rectHolds (l .rects) r i j) u) in
       let w : p .west ≤ i = omega (arith, v .west≤) in
       let x : i ≤ p .east = omega (arith, v .≤east) in
       let y : p .south ≤ j = omega (arith, v .south≤) in
       let z : j ≤ p .north = omega (arith, v .≤north) in
-      (w, x, y, z, same i j (record { west≤ = w; ≤east = x; south≤ = y; ≤north = z }) ∙ and-right (own i j r) (unblocked l g i j) t))
+      (w, x, y, z, and-right (own i j r) (unblocked l (suc g) i j) t))
       (λ i j h k m f t.
       both
       (both (eq-eqb (at (l .owners) r) g o) (rect-holds-true (l .rects) r i j (record { west≤ = omega arith; ≤east = omega arith; south≤ = omega arith; ≤north = omega arith })))
-      (sym (same i j (record { west≤ = h; ≤east = k; south≤ = m; ≤north = f })) ∙ t))
+      t)

@@ -24,13 +24,17 @@ pub record Inside (a : Bounds) (x y : ℕ) : Type 0 where
   pub south≤ : a .south ≤ y
   pub ≤north : y ≤ a .north
 
--- the entry's coordinate is of the area, its grid is chosen there, and every other such coordinate lies farther north, or equally far north and
--- farther east
+-- (x, y) is of the area, the choice takes the grid numbered k there, or none where k is 0, and every other such coordinate lies farther north,
+-- or equally far north and farther east
+pub record IsFirstTaken (choose : ℕ → ℕ → ℕ) (a : Bounds) (k x y : ℕ) : Type 0 where
+  pub inside : Inside a x y
+  pub chosen : choose x y ≡ k
+  pub others : (u v : ℕ) → Inside a u v → choose u v ≡ k → (y < v) ⊎ ((y ≡ v) × (x ≤ u))
+
+-- the entry's coordinate is the first at which its grid is chosen
 pub record EntryPlaced (choose : ℕ → ℕ → ℕ) (n : ℕ) (a : Bounds) (e : Entry) : Type 0 where
   pub number : (1 ≤ e .grid) × (e .grid ≤ n)
-  pub inside : Inside a (e .lon) (e .lat)
-  pub chosen : choose (e .lon) (e .lat) ≡ e .grid
-  pub first : (x y : ℕ) → Inside a x y → choose x y ≡ e .grid → (e .lat < y) ⊎ ((e .lat ≡ y) × (e .lon ≤ x))
+  pub first : IsFirstTaken choose a (e .grid) (e .lon) (e .lat)
 
 -- Demand 3 over unsigned coordinates: es lists the grids that a choice takes in the area.
 pub record EntriesInForce (choose : ℕ → ℕ → ℕ) (Before : ℕ → ℕ → Type 0) (n : ℕ) (a : Bounds) (es : List Entry) : Type 0 where

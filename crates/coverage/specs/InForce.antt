@@ -8,7 +8,7 @@ use Rattle.coverage.specs.declared.Entry.{Entry}
 use lib.Dec.{eqb}
 use Rattle.region.specs.First.{firstIn}
 
--- the southmost, then westmost coordinate of the area at which a choice takes the grid numbered k
+-- the southmost, then westmost coordinate of the area at which a choice takes the grid numbered k, or none where k is 0
 abbrev pub firstTaken : (ℕ → ℕ → ℕ) → Bounds → ℕ → Spot
 firstTaken choose a k = firstIn (λ x y. eqb (choose x y) k) (a .west) (a .east) (a .south) (a .north)
 

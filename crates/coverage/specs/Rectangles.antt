@@ -41,6 +41,7 @@ gridHolds l g x y = some (ownHolds (l .rects) (l .owners) g x y) (length (l .own
 unfoldable pub chosenAt : Rectangles → ℕ → ℕ → ℕ
 chosenAt l x y = chosen (λ g. gridHolds l g x y) (at (l .ranks)) (length (l .ranks))
 
+-- the first point of the area at which the grid numbered k is chosen, or none where k is 0
 abbrev pub firstChosen : Rectangles → Bounds → ℕ → Spot
 firstChosen l a k = firstTaken (chosenAt l) a k
 

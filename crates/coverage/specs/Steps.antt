@@ -1,9 +1,9 @@
--- What the inner functions answer: where a grid's blockers leave it free, the search over its rectangles, the blockers near a part of the
--- area, and the rectangles from west to east.
+-- What the inner functions answer: where blockers leave the choice to a grid, or to none, the search over a grid's rectangles, the blockers
+-- near a part of the area, and the rectangles from west to east.
 use mathlib.Core.Path.{_≡_}
 use mathlib.Core.Bool.{Bool, true, not, _&&_}
 use mathlib.Core.List.{List}
-use Prim.Native.Nat.{ℕ, _+_, _*_, _≤_, _<_, min, max}
+use Prim.Native.Nat.{ℕ, suc, _+_, _*_, _≤_, _<_, min, max}
 use lib.Dec.{leb}
 use lib.ListN.{length, set}
 use Rattle.numbers.specs.First.{some}
@@ -15,23 +15,27 @@ use Rattle.region.specs.declared.Bounds.{Bounds}
 use Rattle.region.specs.declared.Spot.{Spot}
 use Rattle.coverage.specs.Rectangles.{Rectangles, SoundRects, ownHolds, firstChosen}
 
--- rectangle r is one of a blocker of grid g and holds the point
+-- rectangle r is one of a blocker of the grid numbered k, from 1, or of none where k is 0, and holds the point
 abbrev pub blockHolds : Rectangles → ℕ → ℕ → ℕ → ℕ → Bool
-blockHolds l g x y r = blocks (at (l .ranks)) (at (l .owners) r) g && rectHolds (l .rects) r x y
+blockHolds l k x y r = blocks (at (l .ranks)) (at (l .owners) r) k && rectHolds (l .rects) r x y
 
--- no blocker of grid g holds the point
+-- no blocker of the grid numbered k, or of none, holds the point
 unfoldable pub unblocked : Rectangles → ℕ → ℕ → ℕ → Bool
-unblocked l g x y = not (some (blockHolds l g x y) (length (l .owners)))
+unblocked l k x y = not (some (blockHolds l k x y) (length (l .owners)))
+
+-- the first such point of a part of the area
+abbrev pub firstUnblocked : Rectangles → Bounds → ℕ → Spot
+firstUnblocked l part k = firstIn (unblocked l k) (part .west) (part .east) (part .south) (part .north)
 
 -- of the area, the first point that rectangle r, if it is one of grid g's, holds and that no blocker of g holds
 abbrev pub firstOfRect : Rectangles → Bounds → ℕ → ℕ → Spot
 firstOfRect l a g r =
-    firstIn (λ x y. ownHolds (l .rects) (l .owners) g x y r && unblocked l g x y) (a .west) (a .east) (a .south) (a .north)
+    firstIn (λ x y. ownHolds (l .rects) (l .owners) g x y r && unblocked l (suc g) x y) (a .west) (a .east) (a .south) (a .north)
 
 -- the same of grid g's rectangles among the first n
 abbrev pub firstOf : Rectangles → Bounds → ℕ → ℕ → Spot
 firstOf l a g n =
-    firstIn (λ x y. some (ownHolds (l .rects) (l .owners) g x y) n && unblocked l g x y) (a .west) (a .east) (a .south) (a .north)
+    firstIn (λ x y. some (ownHolds (l .rects) (l .owners) g x y) n && unblocked l (suc g) x y) (a .west) (a .east) (a .south) (a .north)
 
 -- the part of the area that lies in rectangle r
 abbrev pub partOf : List ℕ → ℕ → Bounds → Bounds
@@ -48,9 +52,9 @@ unfoldable pub meets : List ℕ → ℕ → Bounds → Bool
 meets rs r a =
     leb (westOf rs r) (a .east) && (leb (a .west) (eastOf rs r) && (leb (southOf rs r) (a .north) && leb (a .south) (northOf rs r)))
 
--- rectangle r is one of a blocker of grid g and meets the part
+-- rectangle r is one of a blocker of the grid numbered k, or of none, and meets the part
 unfoldable pub isNear : Rectangles → ℕ → Bounds → ℕ → Bool
-isNear l g part r = blocks (at (l .ranks)) (at (l .owners) r) g && meets (l .rects) r part
+isNear l k part r = blocks (at (l .ranks)) (at (l .owners) r) k && meets (l .rects) r part
 
 -- rectangle r of rs stored as rectangle i of near
 abbrev pub copied : List ℕ → ℕ → List ℕ → ℕ → List ℕ
@@ -61,21 +65,24 @@ copied rs r near i =
 abbrev pub Alike : List ℕ → ℕ → List ℕ → ℕ → Type 0
 Alike near i rs r = (x y : ℕ) → rectHolds near i x y ≡ rectHolds rs r x y
 
--- rectangle r is one of a blocker of grid g
+-- rectangle r is one of a blocker of the grid numbered k, or of none
 abbrev pub Blocker : Rectangles → ℕ → ℕ → Type 0
-Blocker l g r = (r < length (l .owners)) × (blocks (at (l .ranks)) (at (l .owners) r) g ≡ true)
+Blocker l k r = (r < length (l .owners)) × (blocks (at (l .ranks)) (at (l .owners) r) k ≡ true)
 
--- the first count rectangles of near are of g's blockers, and all of those that meet the part are among them
-pub record Near (l : Rectangles) (g : ℕ) (part : Bounds) (near : List ℕ) (count : ℕ) : Type 0 where
+-- the first count rectangles of near are of such blockers, and all of those that meet the part are among them
+pub record Near (l : Rectangles) (k : ℕ) (part : Bounds) (near : List ℕ) (count : ℕ) : Type 0 where
   pub few : count ≤ length (l .owners)
-  pub only : (i : ℕ) → i < count → (r : ℕ) × Blocker l g r × Alike near i (l .rects) r
-  pub all : (r : ℕ) → r < length (l .owners) → isNear l g part r ≡ true → (i : ℕ) × (i < count) × Alike near i (l .rects) r
+  pub only : (i : ℕ) → i < count → (r : ℕ) × Blocker l k r × Alike near i (l .rects) r
+  pub all : (r : ℕ) → r < length (l .owners) → isNear l k part r ≡ true → (i : ℕ) × (i < count) × Alike near i (l .rects) r
 
 -- they are filled in, and the list is as long as it was
 abbrev pub NearFilled : Rectangles → ℕ → Bounds → (near after : List ℕ) → ℕ → Type 0
-NearFilled l g part near after count = Near l g part after count × (length after ≡ length near)
+NearFilled l k part near after count = Near l k part after count × (length after ≡ length near)
 
 -- a search's answer, and the list that it overwrites as long as it was
+abbrev pub PartAnswer : Rectangles → Bounds → ℕ → Spot → (near after : List ℕ) → Type 0
+PartAnswer l part k s near after = (s ≡ firstUnblocked l part k) × (length after ≡ length near)
+
 abbrev pub RectAnswer : Rectangles → Bounds → ℕ → ℕ → Spot → (near after : List ℕ) → Type 0
 RectAnswer l a g r s near after = (s ≡ firstOfRect l a g r) × (length after ≡ length near)
 

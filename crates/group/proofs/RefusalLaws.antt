@@ -85,6 +85,11 @@ module _ {A : Type 0} (refused : Refusal → A) where
     passed-verdict Accepted next e = (refl, e)
     passed-verdict (Refused r) next e = absurd (apart r e)
 
+  -- a verdict that is one after another refuses as they do in turn
+  pub in-turn : (v w : Verdict) (next : A) → unlessRefused refused (unlessRefused Refused v w) next ≡ unlessRefused refused v (unlessRefused refused w next)
+  in-turn Accepted w next = refl
+  in-turn (Refused r) w next = refl
+
   -- what holds of its refusals and of the answer at its end holds of a chain
   module _ (P : A → Type 0) where
     pub chain-if : (t : Bool) (number place : ℕ) (next : A) → P (refused (refusal number place)) → P next → P (refuseIf refused t number place next)

@@ -1,12 +1,13 @@
 -- An admitted area's sides, and its coordinates as distances from the least longitude and latitude.
-use Prim.Native.Nat.{ℕ, _+_, _*_, _≤_}
+use Prim.Native.Nat.{ℕ, _+_, _*_, _≤_, _<_}
 use mathlib.Core.Path.{_≡_, sym, _∙_}
 use mathlib.Core.Bool.{true, _&&_}
 use native.Mathlib.Omega.{arith}
 use borrow.Author.Tests.{leb-true, le-leb}
-use lib.IntN.{ℤ, natAbs}
-use lib.Signed.{leZ}
+use lib.IntN.{ℤ, pos, _-ℤ_, natAbs}
+use lib.Signed.{leZ, _≤ℤ_, _<ℤ_}
 use Rattle.numbers.specs.Order.{between, within, raised}
+use Rattle.numbers.proofs.Diff.{diff-pos, diff--, diff-<, diff-≤}
 use Rattle.numbers.proofs.Bools.{and-left, and-right, both}
 use Rattle.numbers.proofs.OrderLaws.{within-size, raised-order, raised-bound, leZ-size}
 use Rattle.numbers.proofs.Machine.{lowered-size, raised-lowered}
@@ -15,6 +16,20 @@ use Rattle.extent.specs.Sides.{lonFromLeast, latFromLeast}
 use Rattle.coverage.specs.Demand3.{Inside}
 use Rattle.inforce.specs.declared.Area.{Area}
 use Rattle.inforce.specs.Area.{lonFits, latFits, areaFits, InArea, lonAt, latAt, areaFromLeast}
+
+-- the order of distances is that of coordinates
+module _ (m a b : ℕ) where
+  pub lowered-< : a < b → (pos a -ℤ pos m) <ℤ (pos b -ℤ pos m)
+  lowered-< h =
+      let p = diff-- (diff-pos a) (diff-pos m) .diff in
+      let q = diff-- (diff-pos b) (diff-pos m) .diff in
+      diff-< (omega arith)
+
+  pub lowered-≤ : a ≤ b → (pos a -ℤ pos m) ≤ℤ (pos b -ℤ pos m)
+  lowered-≤ h =
+      let p = diff-- (diff-pos a) (diff-pos m) .diff in
+      let q = diff-- (diff-pos b) (diff-pos m) .diff in
+      diff-≤ (omega arith)
 
 -- two sides within a limit, the first not above the second, and distances from a zero that is no nearer
 module _ (l m : ℕ) (near : l ≤ m) (a b : ℤ) (e : (within l a && within l b && leZ a b) ≡ true) where

@@ -1,4 +1,4 @@
--- The list over flat lists, one rectangle a grid: it is that of the grids that the choice takes.
+-- The list and the hole over flat lists, one rectangle a grid: they are those of the choice.
 use Prim.Native.Nat.{ℕ, _*_, _≤_, _<_}
 use mathlib.Core.Path.{_≡_, sym, _∙_, ap}
 use mathlib.Core.List.{List}
@@ -13,11 +13,11 @@ use Rattle.flat.proofs.OrderLaws.{begins-number, by-rank-alike}
 use Rattle.group.specs.Numbers.{gridsMost, rankMost}
 use Rattle.choice.proofs.PartLaws.{part-holds, chosen-part}
 use Rattle.region.specs.declared.Bounds.{Bounds}
-use Rattle.coverage.specs.Rectangles.{Rectangles, rectangles, chosenAt, SoundRects}
+use Rattle.coverage.specs.Rectangles.{Rectangles, rectangles, chosenAt, firstChosen, SoundRects}
 use Rattle.coverage.specs.Listing.{inForce, listingOf, Numbers}
 use Rattle.coverage.proofs.OneEach.{OneEach, one-chosen, one-sound}
-use Rattle.coverage.proofs.Demand3.{in-force-alike}
-use Rattle.inforce.specs.Flat.{FlatSound, flatChosen, flatListing}
+use Rattle.coverage.proofs.Demand3.{first-alike, in-force-alike}
+use Rattle.inforce.specs.Flat.{FlatSound, flatChosen, flatListing, flatHole}
 
 -- the order of the part that the grids of the group fill has at most as many numbers as a group has grids
 pub order-short : (ranks : List ℕ) (n : ℕ) → n ≤ length ranks → n ≤ gridsMost → (order : List ℕ) (count : ℕ)
@@ -61,6 +61,14 @@ module _ (sides owners ranks : List ℕ) (n : ℕ) (s : FlatSound sides ranks n)
       let p = part-holds sides ranks n x y (s .room .sides-room) (s .room .ranks-room) in
       s .apart x y i j l b (sym (rank-at i a) ∙ e ∙ rank-at j b) (sym (p i a) ∙ h) (sym (p j b) ∙ k))
 
+  -- the choice among the part's grids
+  part-chosen : (x y : ℕ) → chosenAt part x y ≡ flatChosen sides ranks n x y
+  part-chosen x y = one-chosen part one-each x y ∙ chosen-part sides ranks n x y (s .room .sides-room) (s .room .ranks-room)
+
+  pub flat-hole : (a : Bounds) → firstChosen part a 0 ≡ flatHole sides ranks n a
+  unfolding flatHole
+  flat-hole a = first-alike (chosenAt part) (flatChosen sides ranks n) a (λ x y i. part-chosen x y) 0
+
   -- the order by the part's ranks
   part-order : byRank (at (take n ranks)) (length (take n ranks)) rankMost ≡ byRank (at ranks) n rankMost
   part-order = ap (λ (m : ℕ). byRank (at (take n ranks)) m rankMost) ranks-length ∙ by-rank-alike (at (take n ranks)) (at ranks) n rankMost rank-at
@@ -81,5 +89,4 @@ module _ (sides owners ranks : List ℕ) (n : ℕ) (s : FlatSound sides ranks n)
     flat-list a =
         ap listingOf
         (ap (λ (ns : List ℕ). inForce part ns a) (b .same ∙ part-order)
-        ∙ in-force-alike (chosenAt part) (flatChosen sides ranks n) a
-        (λ x y i. one-chosen part one-each x y ∙ chosen-part sides ranks n x y (s .room .sides-room) (s .room .ranks-room)) (byRank (at ranks) n rankMost))
+        ∙ in-force-alike (chosenAt part) (flatChosen sides ranks n) a (λ x y i. part-chosen x y) (byRank (at ranks) n rankMost))

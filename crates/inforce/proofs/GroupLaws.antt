@@ -1,15 +1,19 @@
--- An accepted group's flat lists are sound, and the list over them is that of the grids chosen in the group.
+-- An accepted group's flat lists are sound, and the list and the hole over them are those of the choice in the group. What is known of them.
 use Prim.Native.Nat.{ℕ, _≤_}
-use mathlib.Core.Path.{_≡_, sym, _∙_, ap, ap₂}
+use mathlib.Core.Path.{_≡_, sym, _∙_, ap, ap₂, subst}
 use mathlib.Core.Bool.{true}
 use mathlib.Core.List.{List}
+use mathlib.Core.Logic.{inl, inr, ⊎-elim}
 use native.Mathlib.Omega.{arith}
+use lib.IntN.{ℤ}
 use lib.ListN.{length}
-use Rattle.numbers.proofs.Machine.{lowered-size, raised-lowered}
+use lib.Signed.{_≤ℤ_, _<ℤ_}
+use Rattle.numbers.proofs.Machine.{lowered-size, lowered-raised, raised-lowered}
 use Rattle.group.specs.declared.Group.{Group}
 use Rattle.group.specs.declared.Verdict.the-variants.{Accepted}
 use Rattle.group.specs.Numbers.{gridsMost, rankMost, lonZero, latZero}
 use Rattle.group.specs.Record.{gridAt}
+use Rattle.extent.specs.Sides.{lonFromLeast, latFromLeast}
 use Rattle.judge.specs.Judge.{judged}
 use Rattle.flat.specs.Lists.{Sided, Room}
 use Rattle.judge.proofs.Accepted.{accepted-head}
@@ -20,17 +24,20 @@ use Rattle.flat.proofs.OrderSteps.{byRank≤}
 use Rattle.flat.proofs.OrderLaws.{mem-byRank, byRank-mem, pairs-byRank, before-differs, by-rank-alike}
 use Rattle.ingroup.specs.InGroup.{chosenIn}
 use Rattle.ingroup.proofs.InGroupLaws.{chosen-holds, rank-limits, flat-apart, flat-chosen}
+use Rattle.region.specs.declared.Spot.the-variants.{At}
 use Rattle.coverage.specs.InForce.{inForceBy}
-use Rattle.coverage.specs.Demand3.{Inside, Ordered, EntriesInForce}
+use Rattle.coverage.specs.Demand3.{Inside, Ordered, IsFirstTaken, EntriesInForce}
 use Rattle.coverage.specs.Listing.{listingOf}
 use Rattle.coverage.proofs.EntryLaws.{filled-used, filled-length}
-use Rattle.coverage.proofs.Demand3.{in-force, in-force-alike}
+use Rattle.coverage.proofs.Demand3.{first-taken, first-found, first-alike, in-force, in-force-alike}
 use Rattle.inforce.specs.declared.Area.{Area}
-use Rattle.inforce.specs.Area.{areaFits, lonAt, latAt, areaFromLeast}
-use Rattle.inforce.specs.Flat.{FlatSound, flatChosen, flatListing}
-use Rattle.inforce.specs.InForce.{inForceIn}
-use Rattle.inforce.specs.Handed.{Narrow}
-use Rattle.inforce.proofs.AreaLaws.{inside-most}
+use Rattle.inforce.specs.Area.{areaFits, InArea, lonAt, latAt, areaFromLeast}
+use Rattle.inforce.specs.Flat.{FlatSound, flatChosen, flatListing, flatHole}
+use Rattle.inforce.specs.InForce.{choiceAt, inForceIn}
+use Rattle.inforce.specs.Hole.{holeIn}
+use Rattle.inforce.specs.Demand3.{IsFirstChosen}
+use Rattle.inforce.specs.Handed.{Narrow, NarrowSpot}
+use Rattle.inforce.proofs.AreaLaws.{lowered-<, lowered-≤, area-size, area-inside, inside-most, inside-area}
 
 module _ (g : Group) (e : judged g ≡ Accepted) where
   -- the grids by rank are an order of all of them
@@ -73,18 +80,59 @@ module _ (g : Group) (e : judged g ≡ Accepted) where
       same-list =
           ap (λ (ns : List ℕ). inForceBy (flatChosen sides ranks (g .grids)) ns (areaFromLeast a))
           (by-rank-alike (at ranks) (λ k. gridAt g k .rank) (g .grids) rankMost (s .rank))
-          ∙ in-force-alike (flatChosen sides ranks (g .grids)) (λ x y. chosenIn g (lonAt x) (latAt y)) (areaFromLeast a) same-choice
+          ∙ in-force-alike (flatChosen sides ranks (g .grids)) (choiceAt g) (areaFromLeast a) same-choice
           (byRank (λ k. gridAt g k .rank) (g .grids) rankMost)
 
       pub group-listed : flatListing sides ranks (g .grids) (areaFromLeast a) ≡ listingOf (inForceIn g a)
       unfolding flatListing
       group-listed = ap listingOf same-list
 
+      pub group-hole : flatHole sides ranks (g .grids) (areaFromLeast a) ≡ holeIn g a
+      unfolding flatHole
+      group-hole = first-alike (flatChosen sides ranks (g .grids)) (choiceAt g) (areaFromLeast a) same-choice 0
+
+-- the choice at an admitted area's coordinates
+module _ (g : Group) (a : Area) (f : areaFits a ≡ true) where
+  -- the same by its distances
+  pub by-distances : (x y : ℤ) → InArea a x y → chosenIn g (lonAt (lonFromLeast x)) (latAt (latFromLeast y)) ≡ chosenIn g x y
+  by-distances x y i =
+      let n = area-size a f x y i in
+      ap₂ (chosenIn g) (lowered-raised lonZero x (n .0)) (lowered-raised latZero y (n .1))
+
+  -- the first by distances is the first
+  pub first-chosen : (k x y : ℕ) → IsFirstTaken (choiceAt g) (areaFromLeast a) k x y → IsFirstChosen g a k (lonAt x) (latAt y)
+  first-chosen k x y p =
+      record {
+        inside = inside-area a f x y (p .inside);
+        chosen = p .chosen;
+        others = λ u v h c.
+            let n = area-size a f u v h in
+            let m = lowered-raised lonZero u (n .0) in
+            let o = lowered-raised latZero v (n .1) in
+            ⊎-elim
+            (λ q. inl (subst (λ (z : ℤ). latAt y <ℤ z) o (lowered-< latZero y (latFromLeast v) q)))
+            (λ q. inr (ap latAt (q .0) ∙ o, subst (λ (z : ℤ). lonAt x ≤ℤ z) m (lowered-≤ lonZero x (lonFromLeast u) (q .1))))
+            (p .others (lonFromLeast u) (latFromLeast v) (area-inside a f u v h) (by-distances u v h ∙ c));
+      }
+
+  -- the hole is the first coordinate at which no grid is chosen, and there is one where such a coordinate is
+  pub hole-first : (x y : ℕ) → holeIn g a ≡ At x y → IsFirstChosen g a 0 (lonAt x) (latAt y)
+  hole-first x y e = first-chosen 0 x y (first-taken (choiceAt g) (areaFromLeast a) 0 x y e)
+
+  pub hole-found : (x y : ℤ) → InArea a x y → chosenIn g x y ≡ 0 → (u : ℕ) × (v : ℕ) × (holeIn g a ≡ At u v)
+  hole-found x y i c =
+      first-found (choiceAt g) (areaFromLeast a) (lonFromLeast x) (latFromLeast y) 0 (area-inside a f x y i) (by-distances x y i ∙ c)
+
+  pub narrow-hole : NarrowSpot (holeIn g a)
+  narrow-hole x y e =
+      let m = inside-most a f x y (first-taken (choiceAt g) (areaFromLeast a) 0 x y e .inside) in
+      (omega (arith, m .0), omega (arith, m .1))
+
 -- what is known of the list
 module _ (g : Group) (e : judged g ≡ Accepted) (a : Area) (f : areaFits a ≡ true) where
-  pub placed-in : EntriesInForce (λ x y. chosenIn g (lonAt x) (latAt y)) (Before (λ k. gridAt g k .rank)) (g .grids) (areaFromLeast a) (inForceIn g a)
+  pub placed-in : EntriesInForce (choiceAt g) (Before (λ k. gridAt g k .rank)) (g .grids) (areaFromLeast a) (inForceIn g a)
   placed-in =
-      in-force (λ x y. chosenIn g (lonAt x) (latAt y)) (Before (λ k. gridAt g k .rank)) (g .grids) (areaFromLeast a)
+      in-force (choiceAt g) (Before (λ k. gridAt g k .rank)) (g .grids) (areaFromLeast a)
       (byRank (λ k. gridAt g k .rank) (g .grids) rankMost) (ranked-order g e) (λ x y k c. chosen-holds g (lonAt x) (latAt y) k c .0)
 
   few : length (inForceIn g a) ≤ gridsMost
@@ -95,6 +143,6 @@ module _ (g : Group) (e : judged g ≡ Accepted) (a : Area) (f : areaFits a ≡ 
       record {
         few = few;
         room = filled-length (inForceIn g a) few;
-        lon = λ i l. rw (filled-used (inForceIn g a) i l) (omega (arith, inside-most a f _ _ (placed-in .placed i l .inside) .0));
-        lat = λ i l. rw (filled-used (inForceIn g a) i l) (omega (arith, inside-most a f _ _ (placed-in .placed i l .inside) .1));
+        lon = λ i l. rw (filled-used (inForceIn g a) i l) (omega (arith, inside-most a f _ _ (placed-in .placed i l .first .inside) .0));
+        lat = λ i l. rw (filled-used (inForceIn g a) i l) (omega (arith, inside-most a f _ _ (placed-in .placed i l .first .inside) .1));
       }

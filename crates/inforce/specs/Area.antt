@@ -1,14 +1,20 @@
--- Areas: refusal 10, an area's coordinates, and coordinates as distances from the zero of longitudes and of latitudes.
+-- Areas: what a call over an area refuses, an area's coordinates, and coordinates as distances from the zero of longitudes and of latitudes.
 use Prim.Native.Nat.{ℕ}
 use mathlib.Core.Path.{_≡_}
-use mathlib.Core.Bool.{Bool, true, _&&_}
+use mathlib.Core.Bool.{Bool, true, false, not, _&&_}
 use lib.IntN.{ℤ, pos, _-ℤ_}
 use lib.Signed.{leZ}
 use Rattle.numbers.specs.Order.{between}
+use Rattle.group.specs.declared.Group.{Group}
+use Rattle.group.specs.declared.Refusal.{Refusal}
+use Rattle.group.specs.declared.Verdict.{Verdict}
+use Rattle.group.specs.declared.Verdict.the-variants.{Accepted, Refused}
 use Rattle.group.specs.Numbers.{lonAdmitted, latAdmitted, lonZero, latZero}
+use Rattle.group.specs.Refusals.{refusal, refuseIf, unlessRefused}
 use Rattle.extent.specs.declared.LonSpan.{LonSpan}
 use Rattle.extent.specs.declared.LatSpan.{LatSpan}
 use Rattle.extent.specs.Sides.{lonFromLeast, latFromLeast}
+use Rattle.judge.specs.Judge.{judged}
 use Rattle.region.specs.declared.Bounds as least
 use Rattle.inforce.specs.declared.Area.{Area}
 
@@ -21,6 +27,16 @@ latFits s = latAdmitted (s .south .0) && latAdmitted (s .north .0) && leZ (s .so
 
 unfoldable pub areaFits : Area → Bool
 areaFits a = lonFits (a .lon) && latFits (a .lat)
+
+-- what a call over an area refuses: 2 to 5, then 10
+unfoldable pub areaJudged : Group → Area → Verdict
+areaJudged g a = unlessRefused Refused (judged g) (refuseIf Refused (not (areaFits a)) 10 0 Accepted)
+
+-- a verdict that refuses so: the group by its own refusal, else an area that is not admitted by 10, and nothing else
+pub record JudgesArea (g : Group) (a : Area) (v : Verdict) : Type 0 where
+  pub group : (r : Refusal) → judged g ≡ Refused r → v ≡ Refused r
+  pub area : judged g ≡ Accepted → areaFits a ≡ false → v ≡ Refused (refusal 10 0)
+  pub neither : judged g ≡ Accepted → areaFits a ≡ true → v ≡ Accepted
 
 -- longitude x and latitude y are a coordinate of the area, sides included
 pub record InArea (a : Area) (x y : ℤ) : Type 0 where

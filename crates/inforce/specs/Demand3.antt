@@ -10,7 +10,6 @@ use Rattle.group.specs.declared.Group.{Group}
 use Rattle.group.specs.declared.Verdict.the-variants.{Accepted}
 use Rattle.group.specs.Numbers.{gridsMost}
 use Rattle.group.specs.Record.{gridAt}
-use Rattle.group.specs.Refusals.{noRefusal, verdictRefusal}
 use Rattle.extent.specs.Extent.{holds}
 use Rattle.judge.specs.Judge.{judged}
 use Rattle.ingroup.specs.InGroup.{chosenIn}
@@ -27,17 +26,25 @@ entryAt r i = getD (r .entries) i blankEntry
 abbrev pub rankOf : Group → ℕ → ℕ
 rankOf g k = gridAt g (k - 1) .rank
 
--- the entry's coordinate is of the area, its grid is chosen there, and every other such coordinate lies farther north, or equally far
--- north and farther east
+-- the coordinate (u, v) lies farther north than (x, y), or equally far north and farther east, or is (x, y) itself
+abbrev pub NotEarlier : (x y u v : ℤ) → Type 0
+NotEarlier x y u v = (y <ℤ v) ⊎ ((y ≡ v) × (x ≤ℤ u))
+
+-- (x, y) is of the area, the grid numbered k is chosen there, or none where k is 0, and every other such coordinate lies farther north, or
+-- equally far north and farther east
+pub record IsFirstChosen (g : Group) (a : Area) (k : ℕ) (x y : ℤ) : Type 0 where
+  pub inside : InArea a x y
+  pub chosen : chosenIn g x y ≡ k
+  pub others : (u v : ℤ) → InArea a u v → chosenIn g u v ≡ k → NotEarlier x y u v
+
+-- the entry's coordinate is the first at which its grid is chosen
 pub record GridPlaced (g : Group) (a : Area) (e : GridInForce) : Type 0 where
   pub number : (1 ≤ e .grid) × (e .grid ≤ g .grids)
-  pub inside : InArea a (e .lon .0) (e .lat .0)
-  pub chosen : chosenIn g (e .lon .0) (e .lat .0) ≡ e .grid
-  pub first : (x y : ℤ) → InArea a x y → chosenIn g x y ≡ e .grid → (e .lat .0 <ℤ y) ⊎ ((e .lat .0 ≡ y) × (e .lon .0 ≤ℤ x))
+  pub first : IsFirstChosen g a (e .grid) (e .lon .0) (e .lat .0)
 
 pub record GridsInForce (g : Group) (a : Area) (r : InForce) : Type 0 where
   -- the list is no refusal, also where it is empty
-  pub accepted : verdictRefusal (r .verdict) ≡ noRefusal
+  pub accepted : r .verdict ≡ Accepted
   -- a grid chosen at one or more coordinates of the area is named
   pub named : (x y : ℤ) (k : ℕ) → InArea a x y → chosenIn g x y ≡ suc k → (i : ℕ) × (i < r .count) × (entryAt r i .grid ≡ suc k)
   -- and no other: a grid named is chosen at the coordinate beside it, which is the southmost, then westmost such

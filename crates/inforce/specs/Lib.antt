@@ -1,6 +1,8 @@
--- What the contracts of `inforce` cite, and demand 3.
+-- What the contracts of `inforce` cite, demand 3 and order 2.
 pub mod Area
 pub mod InForce
 pub mod Handed
+pub mod Hole
 pub mod Demand3
+pub mod Order2
 pub mod Flat

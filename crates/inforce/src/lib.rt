@@ -1,15 +1,14 @@
-// Grids in force: which grids of a group are chosen at one or more coordinates of an area, and where first.
+// Which grids of a group are chosen at one or more coordinates of an area, and where first: the grids in force. And where none is: the hole.
 ghost use mathlib.Core.Path.{_≡_};
-ghost use mathlib.Core.Bool.{true};
 ghost use Prim.Native.Nat.{_<_, _^_};
 ghost use Rattle.group.specs.Numbers.{gridsMost};
 ghost use Rattle.abi.specs.Abi.{groupOfWords};
-ghost use Rattle.flat.specs.Lists.{Sided, Room};
-ghost use Rattle.judge.specs.Judge.{judged};
-ghost use Rattle.inforce.specs.Area.{lonFits, latFits, areaFits, areaFromLeast};
-ghost use Rattle.inforce.specs.Flat.{FlatSound, flatListing};
+ghost use Rattle.flat.specs.Lists.{Room};
+ghost use Rattle.inforce.specs.Area.{lonFits, latFits, areaFits, lonAt, latAt, areaFromLeast, areaJudged};
+ghost use Rattle.inforce.specs.Flat.{FlatSound, Ready, SidesLeft, flatListing, flatHole};
 ghost use Rattle.inforce.specs.InForce.{inForceIn, shownEntry, blankEntry, acceptedList, refusedBy, inForceOf};
-ghost use Rattle.inforce.specs.Handed.{shownList, Narrow};
+ghost use Rattle.inforce.specs.Hole.{holeIn, noHole, acceptedHole, holeOf};
+ghost use Rattle.inforce.specs.Handed.{shownList, Narrow, NarrowSpot};
 use abi::GROUP_WORDS;
 use coverage::Entry;
 use coverage::Listing;
@@ -27,6 +26,7 @@ use group::Latitude;
 use group::Longitude;
 use group::Refusal;
 use group::Verdict;
+use region::Spot;
 
 // The zeros of the distances.
 const LON_ZERO: u64 = group::LON_ZERO as u64;
@@ -51,6 +51,15 @@ pub struct InForce {
     pub verdict: Verdict,
     pub count: u64,
     pub entries: [GridInForce; GRIDS_MOST],
+}
+
+// Whether an area has a coordinate at which no grid is chosen, and the southmost, then westmost such, in mas; zeros where it has none, and
+// beside a refusal.
+pub struct Uncovered {
+    pub verdict: Verdict,
+    pub found: bool,
+    pub lon: Longitude,
+    pub lat: Latitude,
 }
 
 // Whether longitudes are within the limits, west not above east.
@@ -92,6 +101,48 @@ fn area_from_least(a: Area) -> region::Bounds
     }
 }
 
+// Judges a group and an area: refusals 2 to 5, then 10, a side outside the limits, west above east or south above north. Stores the sides and
+// ranks of an accepted group's grids.
+fn judge_area(
+    words: &[i64; GROUP_WORDS],
+    area: Area,
+    sides: &mut [u64],
+    ranks: &mut [u64],
+) -> Verdict
+    requires { ⌜ Room (now sides) (now ranks) gridsMost ⌝ }
+    ensures { λ v. ⌜ (v ≡ areaJudged (groupOfWords (now (words .entry))) area)
+        × SidesLeft v (groupOfWords (now (words .entry))) (now (sides .exit)) (now (ranks .exit)) ⌝ }
+{
+    let mut frames = [0u64; flat::FRAMES];
+    let verdict = judge::judge_into(words, sides, ranks, &mut frames);
+    if let Verdict::Refused(r) = verdict {
+        return Verdict::Refused(r);
+    }
+    if !area_fits(area) {
+        return Verdict::Refused(Refusal {
+            number: 10,
+            place: 0,
+        });
+    }
+    Verdict::Accepted
+}
+
+// The longitude at a distance from the least.
+fn lon_at(x: u64) -> Longitude
+    requires { ⌜ x < 2 ^ 63 ⌝ }
+    ensures { λ r. ⌜ r .0 ≡ lonAt x ⌝ }
+{
+    Longitude(numbers::lowered(x, LON_ZERO))
+}
+
+// The latitude at a distance from the least.
+fn lat_at(y: u64) -> Latitude
+    requires { ⌜ y < 2 ^ 63 ⌝ }
+    ensures { λ r. ⌜ r .0 ≡ latAt y ⌝ }
+{
+    Latitude(numbers::lowered(y, LAT_ZERO))
+}
+
 // An entry with its coordinate in mas.
 fn shown_entry(e: Entry) -> GridInForce
     requires { ⌜ (e .lon < 2 ^ 63) × (e .lat < 2 ^ 63) ⌝ }
@@ -99,8 +150,8 @@ fn shown_entry(e: Entry) -> GridInForce
 {
     GridInForce {
         grid: e.grid,
-        lon: Longitude(numbers::lowered(e.lon, LON_ZERO)),
-        lat: Latitude(numbers::lowered(e.lat, LAT_ZERO)),
+        lon: lon_at(e.lon),
+        lat: lat_at(e.lat),
     }
 }
 
@@ -163,8 +214,7 @@ fn refused_by(r: Refusal) -> InForce
 
 // The list of an accepted group, whose grids' sides and ranks are these, and an admitted area.
 fn list_in(words: &[i64; GROUP_WORDS], sides: &[u64], ranks: &[u64], area: Area) -> InForce
-    requires { ⌜ (judged (groupOfWords (now words)) ≡ Verdict.Accepted) × (areaFits area ≡ true)
-        × Sided (groupOfWords (now words)) (groupOfWords (now words) .grids) (now sides) (now ranks) × Room (now sides) (now ranks) gridsMost ⌝ }
+    requires { ⌜ Ready (groupOfWords (now words)) area (now sides) (now ranks) ⌝ }
     ensures { λ r. ⌜ r ≡ acceptedList (inForceIn (groupOfWords (now (words .entry))) area) ⌝ }
 {
     let n = abi::grid_count(words) as usize;
@@ -178,28 +228,88 @@ pub fn force_words(words: &[i64; GROUP_WORDS], area: Area) -> InForce
 {
     let mut sides = [0u64; flat::SIDES];
     let mut ranks = [0u64; GRIDS_MOST];
-    let mut frames = [0u64; flat::FRAMES];
-    let verdict = judge::judge_into(words, &mut sides, &mut ranks, &mut frames);
+    let verdict = judge_area(words, area, &mut sides, &mut ranks);
     match verdict {
         Verdict::Refused(r) => refused_by(r),
-        Verdict::Accepted => {
-            if area_fits(area) {
-                list_in(words, &sides, &ranks, area)
-            } else {
-                refused_by(Refusal {
-                    number: 10,
-                    place: 0,
-                })
-            }
-        }
+        Verdict::Accepted => list_in(words, &sides, &ranks, area),
     }
 }
 
 // The grids in force in an area: each grid chosen at one or more of its coordinates, best rank first, with the southmost, then westmost
-// such coordinate. Refusals 2 to 5 of the group, then 10: a side outside the limits, west above east or south above north.
+// such coordinate. Refusals 2 to 5, then 10.
 pub fn grids_in_force(group: Group, area: Area) -> InForce
     ensures { λ r. ⌜ r ≡ inForceOf group area ⌝ }
 {
     let words = abi::numbers_of(group);
     force_words(&words, area)
+}
+
+// The hole by an accepted group's flat lists, the area and the coordinate as distances.
+fn hole_flat(sides: &[u64], ranks: &[u64], n: usize, a: region::Bounds) -> Spot
+    requires { ⌜ FlatSound (now sides) (now ranks) n ⌝ }
+    ensures { λ s. ⌜ s ≡ flatHole (now (sides .entry)) (now (ranks .entry)) n a ⌝ }
+{
+    let mut owners = [0u64; GRIDS_MOST];
+    flat::fill_owners(n, &mut owners);
+    let m = n * 4;
+    coverage::hole(&sides[..m], &owners[..n], &ranks[..n], a)
+}
+
+// None, with zeros.
+fn no_hole(verdict: Verdict) -> Uncovered
+    ensures { λ r. ⌜ r ≡ noHole verdict ⌝ }
+{
+    Uncovered {
+        verdict: verdict,
+        found: false,
+        lon: Longitude(0),
+        lat: Latitude(0),
+    }
+}
+
+// The coordinate that was found, in mas, or none.
+fn shown_hole(s: Spot) -> Uncovered
+    requires { ⌜ NarrowSpot s ⌝ }
+    ensures { λ r. ⌜ r ≡ acceptedHole s ⌝ }
+{
+    match s {
+        Spot::At(x, y) => Uncovered {
+            verdict: Verdict::Accepted,
+            found: true,
+            lon: lon_at(x),
+            lat: lat_at(y),
+        },
+        Spot::Nothing => no_hole(Verdict::Accepted),
+    }
+}
+
+// The hole of an accepted group, whose grids' sides and ranks are these, and an admitted area.
+fn hole_in(words: &[i64; GROUP_WORDS], sides: &[u64], ranks: &[u64], area: Area) -> Uncovered
+    requires { ⌜ Ready (groupOfWords (now words)) area (now sides) (now ranks) ⌝ }
+    ensures { λ r. ⌜ r ≡ acceptedHole (holeIn (groupOfWords (now (words .entry))) area) ⌝ }
+{
+    let n = abi::grid_count(words) as usize;
+    let s = hole_flat(sides, ranks, n, area_from_least(area));
+    shown_hole(s)
+}
+
+// The hole of a group handed over as a list of numbers, as `hole` says.
+pub fn hole_words(words: &[i64; GROUP_WORDS], area: Area) -> Uncovered
+    ensures { λ r. ⌜ r ≡ holeOf (groupOfWords (now (words .entry))) area ⌝ }
+{
+    let mut sides = [0u64; flat::SIDES];
+    let mut ranks = [0u64; GRIDS_MOST];
+    let verdict = judge_area(words, area, &mut sides, &mut ranks);
+    match verdict {
+        Verdict::Refused(r) => no_hole(Verdict::Refused(r)),
+        Verdict::Accepted => hole_in(words, &sides, &ranks, area),
+    }
+}
+
+// Whether an area has a coordinate at which no grid is chosen, and the southmost, then westmost such. Refusals 2 to 5, then 10.
+pub fn hole(group: Group, area: Area) -> Uncovered
+    ensures { λ r. ⌜ r ≡ holeOf group area ⌝ }
+{
+    let words = abi::numbers_of(group);
+    hole_words(&words, area)
 }

@@ -23,7 +23,7 @@ use Rattle.judge.proofs.LimitLaws.{rank-between}
 use Rattle.judge.proofs.Accepted.{accepted, accepted-edges}
 use Rattle.choice.specs.Rect as rect
 use Rattle.choice.specs.Choice.{chosen}
-use Rattle.choice.proofs.ChoiceLaws.{Apart, chosen-best, chosen≤, chosen-agree}
+use Rattle.choice.proofs.ChoiceLaws.{Apart, chosen-best, chosen-none, chosen≤, chosen-agree}
 use Rattle.ingroup.specs.InGroup.{chosenIn}
 
 module _ (g : Group) (x y : ℤ) where
@@ -31,6 +31,11 @@ module _ (g : Group) (x y : ℤ) where
   pub chosen-holds : (k : ℕ) → chosenIn g x y ≡ suc k → (k < g .grids) × (holds (gridAt g k) x y ≡ true)
   unfolding chosenIn
   chosen-holds k c = let b = chosen-best (λ i. holds (gridAt g i) x y) (λ i. gridAt g i .rank) (g .grids) k c in (b .among, b .inside)
+
+  -- and where none is chosen, no grid does
+  pub none-holds : chosenIn g x y ≡ 0 → (k : ℕ) → k < g .grids → holds (gridAt g k) x y ≡ true → ⊥
+  unfolding chosenIn
+  none-holds c = chosen-none (λ i. holds (gridAt g i) x y) (λ i. gridAt g i .rank) (g .grids) c
 
   pub chosen-most : chosenIn g x y ≤ g .grids
   unfolding chosenIn

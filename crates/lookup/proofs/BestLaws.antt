@@ -1,4 +1,4 @@
--- The choice in an accepted group is its best grid, of which there is one; where no grid is chosen, none holds the point.
+-- The choice in an accepted group is its best grid, of which there is one.
 use Prim.Native.Nat.{ℕ, suc}
 use mathlib.Core.Path.{_≡_, sym}
 use native.Mathlib.Omega.{arith}
@@ -14,8 +14,8 @@ use Rattle.extent.proofs.SideLaws.{holds-meet}
 use Rattle.judge.specs.Judge.{judged, sameRank}
 use Rattle.judge.proofs.Accepted.{accepted}
 use Rattle.ingroup.specs.InGroup.{chosenIn}
-use Rattle.choice.proofs.ChoiceLaws.{chosen-best, chosen-none}
-use Rattle.lookup.specs.Demand2.{BestGrid, NoneHolds}
+use Rattle.choice.proofs.ChoiceLaws.{chosen-best}
+use Rattle.lookup.specs.Demand2.{BestGrid}
 
 module _ (g : Group) (p : Point) where
   pub chosen-is-best : judged g ≡ Accepted → (k : ℕ) → chosenIn g (p .lon .0) (p .lat .0) ≡ suc k → BestGrid g p k
@@ -43,10 +43,6 @@ module _ (g : Group) (p : Point) where
                   ]
             ];
       }
-
-  pub none-chosen-holds : chosenIn g (p .lon .0) (p .lat .0) ≡ 0 → NoneHolds g p
-  unfolding chosenIn
-  none-chosen-holds e = chosen-none (λ i. holds (gridAt g i) (p .lon .0) (p .lat .0)) (λ i. gridAt g i .rank) (g .grids) e
 
   pub one-best : (j k : ℕ) → BestGrid g p j → BestGrid g p k → j ≡ k
   one-best j k a b =

@@ -13,15 +13,14 @@ use Rattle.numbers.proofs.OrderLaws.{within-test}
 use Rattle.group.specs.declared.Group.{Group}
 use Rattle.group.specs.declared.Point.{Point}
 use Rattle.group.specs.declared.Refusal.{Refusal}
-use Rattle.group.specs.declared.Verdict.{Verdict}
 use Rattle.group.specs.declared.Verdict.the-variants.{Accepted, Refused}
 use Rattle.judge.specs.Judge.{judged}
 use Rattle.ingroup.specs.InGroup.{chosenIn}
+use Rattle.ingroup.proofs.InGroupLaws.{none-holds}
 use Rattle.group.specs.Numbers.{lonMost, latMost, lonAdmitted, latAdmitted, valueMost, mark, isMark, dayMost, dayFits}
 use Rattle.cell.specs.Cell.{isBeyond}
 use Rattle.cell.proofs.ValueLaws.{is-mark, is-beyond}
 use Rattle.day.specs.Day.{factorOf}
-use Rattle.fix.specs.declared.Lookup.{Lookup}
 use Rattle.fix.specs.declared.Lookup.the-variants as L
 use Rattle.fix.specs.Answers.{lookupRefusal}
 use Rattle.fix.specs.Fix.{cornerSome, resultAt, fixIn}
@@ -29,7 +28,7 @@ use Rattle.fix.proofs.FixLaws.{corner-some, some-corner}
 use Rattle.lookup.specs.Lookup.{pointFits, offsetOf, fixAt, fixOf, lookedIn, looked}
 use Rattle.lookup.specs.Demand2.{seenFrom, BestGrid, PointOutside, NoneHolds, UsedCorner, DayOutside, TableRow, ShortList, NothingRefused, _then_, Refuses}
 use Rattle.lookup.proofs.RowLaws.{Single, single-then, single-judged, single-row, single-short, single-none, row-stage, judge-stage, short-stage}
-use Rattle.lookup.proofs.BestLaws.{chosen-is-best, none-chosen-holds, one-best}
+use Rattle.lookup.proofs.BestLaws.{chosen-is-best, one-best}
 
 -- ---- what each test says
 
@@ -106,7 +105,7 @@ module _ (g : Group) (nodes : List ℤ) (p : Point) (t : ℤ) where
   in-choice : judged g ≡ Accepted → (c : ℕ) → chosenIn g (p .lon .0) (p .lat .0) ≡ c → (factor : ℤ)
       → From7 (lookupRefusal (fixAt c (seenFrom g p) nodes factor))
   unfolding fixAt
-  in-choice a zero e factor = inl (refl, none-chosen-holds g p e)
+  in-choice a zero e factor = inl (refl, none-holds g (p .lon .0) (p .lat .0) e)
   in-choice a (suc k) e factor = let b = chosen-is-best g p a k e in inr (λ r h. h .1 k (b .among) (b .held), in-grid k factor b)
 
   stands : Refuses g nodes p t (lookupRefusal (looked g nodes p t))

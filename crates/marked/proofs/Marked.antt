@@ -15,7 +15,7 @@ use Rattle.lookup.specs.Lookup.{offsetOf, fixAt, lookedIn, looked}
 use Rattle.region.specs.First.{firstInRow, firstInRows, firstIn}
 use Rattle.flat.specs.Order.{ofRank, byRank}
 use Rattle.coverage.specs.InForce.{entriesOf}
-use Rattle.inforce.specs.Area.{areaFits}
+use Rattle.inforce.specs.Area.{areaFits, areaJudged}
 use Rattle.inforce.specs.InForce.{inForceOf}
 use Rattle.marked.specs.Marked.{CaseHolds, AllHold, table}
 
@@ -24,5 +24,5 @@ unfolding AllHold CaseHolds table first gain nearest roundZ byteFits nameFits na
     farEdge spanOf lonSpan latSpan holds meet inside sameName sameRank refuseIf refuseFirst judgedLines judgedLimits judgedGrids judgedRanks judged
     betterOf chosen cellIndex cellAlong weightsOf usedSome valueOf rampFactor sumOf factorOf resultOf
     F.cellOf F.cornersAt F.cornersOf F.cornerSome F.valueIn F.resultAt F.fixIn
-    chosenIn offsetOf fixAt lookedIn looked firstInRow firstInRows firstIn ofRank byRank entriesOf areaFits inForceOf
+    chosenIn offsetOf fixAt lookedIn looked firstInRow firstInRows firstIn ofRank byRank entriesOf areaFits areaJudged inForceOf
 all-marked = (refl, (refl, (refl, (refl, (refl, (refl, (refl, (refl, (refl, (refl, (refl, (refl, (refl, (refl, tt))))))))))))))

@@ -1,4 +1,5 @@
-// Runs the marked cases of document 01 through the public calls and prints what they answer; M10 also in one call for many points.
+// Runs the marked cases of document 01 through the public calls and prints what they answer; M10 also in one call for many points, M11 and M12
+// also with their holes.
 use extent::LatSpan;
 use extent::LonSpan;
 use fix::Lookup;
@@ -12,6 +13,7 @@ use group::Verdict;
 use inforce::Area;
 use inforce::GridInForce;
 use inforce::InForce;
+use inforce::Uncovered;
 use libc::STDOUT_FILENO;
 use nodes::Loaded;
 
@@ -174,6 +176,29 @@ fn in_force(label: &[u8], group: Group, a: Area) {
     say(b"\n");
 }
 
+// Writes where a hole is, if there is one.
+fn say_hole(h: Uncovered) {
+    if h.found {
+        say(b"at ");
+        say_point(h.lon, h.lat);
+        return;
+    }
+    say(b"none");
+}
+
+// The hole in an area, or the refusal.
+fn hole(label: &[u8], group: Group, a: Area) {
+    say(label);
+    say(b": ");
+    let found = inforce::hole(group, a);
+    let verdict = found.verdict;
+    match verdict {
+        Verdict::Accepted => say_hole(found),
+        Verdict::Refused(r) => say_refused(r),
+    }
+    say(b"\n");
+}
+
 // Writes a node's value, in steps.
 fn say_node(n: i32) {
     say_number(n as i64);
@@ -268,6 +293,22 @@ fn areas() {
     in_force(b"M11 in the whole earth", m11(), earth);
 }
 
+// No hole in M11's area, one a column beyond it, one at the last coordinate of M12's north row, since G3 ends at 22 there, and a refused area.
+fn holes() {
+    hole(b"M11, the hole", m11(), area(0, 20, 0, 10));
+    hole(
+        b"M11, one column wider, the hole",
+        m11(),
+        area(0, 21, 0, 10),
+    );
+    hole(
+        b"M12, its north row up to 23, the hole",
+        m12(),
+        area(0, 23, 10, 10),
+    );
+    hole(b"M11, west above east, the hole", m11(), area(20, 0, 0, 10));
+}
+
 // M11 with G2 and G3 of equal ranks.
 fn equal_ranks() {
     header(
@@ -284,6 +325,7 @@ fn main() {
     factors();
     days_at_once();
     areas();
+    holes();
     equal_ranks();
     loaded(b"0.5 at Q 0", 0.5);
     loaded(b"1.5 at Q 0", 1.5);

@@ -1,10 +1,12 @@
-// Rounding to the nearest whole number, ties to even, and signed numbers as unsigned ones.
+// Rounding to the nearest whole number, ties to even; signed numbers as unsigned ones; a list of indices.
 ghost use mathlib.Core.Path.{_≡_};
 ghost use Prim.Native.Nat.{_+_, _*_, _≤_, _<_, _^_, max, min};
 ghost use lib.IntN.{natAbs, pos, _+ℤ_};
+ghost use lib.ListN.{length};
 ghost use lib.Signed.{ltZ};
 ghost use Rattle.numbers.specs.Round.{gain, nearest};
 ghost use Rattle.numbers.specs.Order.{raised, countOf};
+ghost use Rattle.numbers.specs.Lists.{Indices, Kept};
 
 // What stands for a number below zero where numbers are unsigned: beyond every limit.
 pub const BEYOND: u64 = 18446744073709551615;
@@ -135,4 +137,16 @@ pub fn smaller(a: u64, b: u64) -> u64
     ensures { λ r. ⌜ r ≡ min a b ⌝ }
 {
     if a < b { a } else { b }
+}
+
+// Stores in each of the first n places its own index.
+pub fn fill_indices(n: usize, out: &mut [u64])
+    requires { ⌜ n ≤ length (now out) ⌝ }
+    ensures { λ _. ⌜ Indices n (now (out .exit)) × Kept n (now (out .entry)) (now (out .exit)) ⌝ }
+{
+    let mut i = 0;
+    while i < n {
+        out[i] = i as u64;
+        i += 1;
+    }
 }

@@ -1,6 +1,6 @@
-//! Groups of up to 64 grids: layouts that make the grids in force hard to find.
+//! Groups of up to 64 grids: layouts that make the grids in force, or a hole, hard to find.
 
-use interface::{Grid, Group, Name, Timed};
+use interface::{Area, Grid, Group, Name, Timed};
 
 /// A grid of 3 by 3 nodes: its west and south side, its width and height, both even, in milliarcseconds, and its rank.
 #[derive(Clone, Copy)]
@@ -22,6 +22,18 @@ pub fn group(rectangles: &[Rectangle]) -> Group {
     }
     record.grids = rectangles.len() as i64;
     record
+}
+
+/// The least area that has all grids of a group in it.
+pub fn bounds(group: &Group) -> Area {
+    let ends = |first: i64, spacing: i64, count: i64| [first, first + (count - 1) * spacing];
+    let grids = &group.grid[..group.grids as usize];
+    let mut lons: Vec<i64> = grids.iter().flat_map(|g| ends(g.lon, g.dlon, g.ni)).collect();
+    let mut lats: Vec<i64> = grids.iter().flat_map(|g| ends(g.lat, g.dlat, g.nj)).collect();
+    lons.sort_unstable();
+    lats.sort_unstable();
+    let last = lons.len() - 1;
+    Area { west: lons[0], east: lons[last], south: lats[0], north: lats[last] }
 }
 
 /// The rectangles of these west and south sides, widths and heights, the earlier ones ranking better.
@@ -71,6 +83,25 @@ pub fn wall() -> Vec<Rectangle> {
         [[k * 100, 0, 100, joint], [k * 100, joint, 100, 3_000 - joint]]
     });
     ranked(courses.chain([[0, 0, ACROSS * 100, 3_000]]))
+}
+
+/// The wall of `bricks` without its base. It covers all but the last coordinate: in place of the last brick stand two, moved a
+/// step to the west and a step to the south.
+pub fn corner() -> Group {
+    let mut bricks = wall();
+    let base = bricks.pop().expect("it stands last");
+    let last = bricks[1];
+    bricks[1].west -= 1;
+    bricks.push(Rectangle { south: last.south - 1, rank: base.rank, ..last });
+    group(&bricks)
+}
+
+/// Two stacks of flat bricks side by side. No two bricks end in the same row, so that however they are taken as many rows are to
+/// be walked as there are bricks; the lower stack leaves a hole behind its last one.
+pub fn stacks() -> Group {
+    let west = (0..32).map(|k| [0, 100 * k, 1_000, 100]);
+    let east = (1..32).map(|k| [1_000, 100 * k - 50, 1_000, 100]);
+    group(&ranked(west.chain([[1_000, 0, 1_000, 50]]).chain(east)))
 }
 
 /// The worst layout that `bench --search` has found, as it printed it.

@@ -2,9 +2,9 @@
 
 use crate::layouts;
 use crate::work::{Row, Work};
-use crate::works::{Exercise, InForceEverywhere, Judge, Load, Lookups, Read, Write};
+use crate::works::{Exercise, Hole, InForceEverywhere, Judge, Load, Lookups, Read, Write};
 use differ::Random;
-use interface::{Grid, Group, HEADER_BYTES, MOST_RAMPS, Name, Position, Ramp, Timed};
+use interface::{Area, Grid, Group, HEADER_BYTES, MOST_RAMPS, Name, Position, Ramp, Timed};
 
 /// How many points, digits and floats the long works have.
 #[derive(Clone, Copy)]
@@ -89,29 +89,49 @@ fn floats(count: usize) -> Vec<f32> {
     (0..count).map(|k| (k % 100_003) as f32 / 1_024.0 - 40.0).collect()
 }
 
-fn row<W: Work + 'static>(name: &'static str, repeats: u32, make: impl Fn() -> W + 'static) -> Row {
-    Row { name, repeats, make: Box::new(move || Box::new(make())) }
+fn row<W: Work + 'static>(name: &str, repeats: u32, make: impl Fn() -> W + 'static) -> Row {
+    Row { name: name.to_string(), repeats, make: Box::new(move || Box::new(make())) }
 }
 
-fn in_force(name: &'static str, layout: fn() -> Group) -> Row {
-    row(name, 20, move || InForceEverywhere::new(layout()))
+/// A layout and its name.
+type Layout = (&'static str, fn() -> Group);
+
+/// The layouts in which grids in force and holes are looked for.
+const LAYOUTS: [Layout; 6] = [
+    ("63 tiles hide one grid", layouts::hidden),
+    ("narrow lanes", layouts::lanes),
+    ("squares in squares", layouts::nested),
+    ("crossed bars", layouts::crossed),
+    ("stairs", layouts::stairs),
+    ("bricks from east to west", layouts::bricks),
+];
+
+/// Layouts for holes alone, in which many rows are to be walked.
+const COVERS: [Layout; 2] =
+    [("bricks but for the last coordinate", layouts::corner), ("two stacks of bricks", layouts::stacks)];
+
+fn in_force((name, layout): Layout) -> Row {
+    row(&format!("grids in force, {name}"), 20, move || InForceEverywhere::new(layout()))
+}
+
+/// The hole of the area that a layout's grids fill.
+fn hole((name, layout): Layout) -> Row {
+    row(&format!("hole, {name}"), 20, move || {
+        let group = layout();
+        let area = layouts::bounds(&group);
+        Hole::new(group, area)
+    })
 }
 
 /// Points of some waters looked up by one call.
-fn exercise(
-    name: &'static str,
-    count: i64,
-    waters: Waters,
-    points: fn(Waters, i64) -> Vec<Position>,
-    ramps: bool,
-) -> Row {
+fn exercise(name: &str, count: i64, waters: Waters, points: fn(Waters, i64) -> Vec<Position>, ramps: bool) -> Row {
     row(name, 5, move || Exercise::new(with_ramps((waters.group)(), ramps), points(waters, count)))
 }
 
 /// Every row, in the order of the table.
 pub fn all(sizes: Sizes) -> Vec<Row> {
     let Sizes { points, .. } = sizes;
-    vec![
+    let mut rows = vec![
         row("judge of 64 grids", 100, || Judge::new(layouts::nested())),
         row("one lookup, 1 grid", 500, || Lookups::new(one_grid(), track(1, 3_000))),
         row("one lookup, 64 grids", 100, || Lookups::new(layouts::nested(), track(1, 1))),
@@ -125,18 +145,19 @@ pub fn all(sizes: Sizes) -> Vec<Row> {
         exercise("10,000 points at once, a track, 64 grids, 8 ramps", points, NESTED, neighbours, true),
         exercise("10,000 points at once, random, 64 grids", points, NESTED, scattered, false),
         exercise("10,000 points at once, random, 64 grids, 8 ramps", points, NESTED, scattered, true),
-        in_force("grids in force, 63 tiles hide one grid", layouts::hidden),
-        in_force("grids in force, narrow lanes", layouts::lanes),
-        in_force("grids in force, squares in squares", layouts::nested),
-        in_force("grids in force, crossed bars", layouts::crossed),
-        in_force("grids in force, stairs", layouts::stairs),
-        in_force("grids in force, bricks from east to west", layouts::bricks),
-        in_force("grids in force, annealed", layouts::annealed),
+    ];
+    rows.extend(LAYOUTS.map(in_force));
+    rows.push(in_force(("annealed", layouts::annealed)));
+    rows.push(row("hole, the whole earth", 20, || Hole::new(layouts::nested(), Area::EARTH)));
+    rows.extend(LAYOUTS.map(hole));
+    rows.extend(COVERS.map(hole));
+    rows.extend([
         row("read a header of 64 grids", 50, || Read::new(text(&layouts::nested()))),
         row("write a header of 64 grids", 50, || Write::new(layouts::nested())),
         row("read a line of a million digits", 1, move || Read::new(digits(sizes.digits))),
         row("load 16 million floats", 1, move || Load::new(floats(sizes.floats))),
-    ]
+    ]);
+    rows
 }
 
 /// The indices of the rows with one of these words in their name, of all rows if there are no words. Words that no name has
@@ -154,9 +175,9 @@ pub fn named(rows: &[Row], words: &[&str]) -> Result<Vec<usize>, String> {
 #[cfg(test)]
 mod tests {
     use super::{Sizes, WHOLE, all, named};
-    use crate::back_end;
     use crate::measure::answers;
-    use interface::Answer;
+    use crate::{back_end, layouts};
+    use interface::{Answer, Area, Group, Timed, Uncovered};
     use reference::Reference;
 
     /// Every work once, on small inputs: the plain versions answer as the second program does, and so that the work is done whole.
@@ -177,16 +198,34 @@ mod tests {
         }
     }
 
+    /// Of the layouts for holes all rows are to be walked: the hole is at the end. Four of the others have none.
+    #[test]
+    fn the_hardest_holes_come_last() {
+        let found = |layout: fn() -> Group| {
+            let group = layout();
+            let area = layouts::bounds(&group);
+            let mut uncovered = Uncovered::default();
+            assert_eq!(Reference.hole(&group, area, &mut uncovered, &mut 0), 0);
+            (uncovered, area)
+        };
+        for covered in [layouts::hidden, layouts::lanes, layouts::nested, layouts::bricks] {
+            assert_eq!(found(covered).0, Uncovered::default());
+        }
+        let (corner, Area { east, north, .. }) = found(layouts::corner);
+        assert_eq!(corner, Uncovered { found: 1, lon: east, lat: north });
+        assert_eq!(found(layouts::stacks).0, Uncovered { found: 1, lon: 1_001, lat: 3_151 });
+    }
+
     #[test]
     fn words_choose_the_rows_that_have_one_of_them() {
         let rows = all(WHOLE);
         let chosen = |words: &[&str]| -> Vec<&str> {
-            named(&rows, words).expect("each is in a name").into_iter().map(|k| rows[k].name).collect()
+            named(&rows, words).expect("each is in a name").into_iter().map(|k| rows[k].name.as_str()).collect()
         };
         assert_eq!(chosen(&[]).len(), rows.len());
         assert_eq!(chosen(&["one lookup"]), ["one lookup, 1 grid", "one lookup, 64 grids"]);
-        assert_eq!(chosen(&["stairs", "judge"]), ["judge of 64 grids", "grids in force, stairs"]);
-        let layouts = chosen(&["grids in force", "stairs"]);
+        assert_eq!(chosen(&["stairs", "judge"]), ["judge of 64 grids", "grids in force, stairs", "hole, stairs"]);
+        let layouts = chosen(&["grids in force", "force, stairs"]);
         assert!(layouts.len() > 1 && layouts.iter().all(|name| name.starts_with("grids in force")));
         let why = named(&rows, &["stairs", "stares"]).expect_err("no name has it");
         assert!(why.starts_with("no row has 'stares' in its name; the rows are\n  judge of 64 grids\n"), "{why}");

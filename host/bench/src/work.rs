@@ -13,7 +13,7 @@ pub trait Work {
 
 /// A row of the table.
 pub struct Row {
-    pub name: &'static str,
+    pub name: String,
     /// How often the work is done in one timed run.
     pub repeats: u32,
     /// Makes the work's inputs.

@@ -3,7 +3,7 @@
 use crate::back_end::BackEnd;
 use crate::work::Work;
 use interface::lent::Words;
-use interface::{Answer, Area, Fix, Grid, Group, HEADER_BYTES, InForce, Position};
+use interface::{Answer, Area, Fix, Grid, Group, HEADER_BYTES, InForce, Position, Uncovered};
 use std::hash::{DefaultHasher, Hash, Hasher};
 
 pub struct Judge {
@@ -112,6 +112,30 @@ impl Work for InForceEverywhere {
 
     fn answer(&self) -> Vec<i64> {
         [&[self.number as i64], self.list.words()].concat()
+    }
+}
+
+/// The hole of an area.
+pub struct Hole {
+    group: Group,
+    area: Area,
+    uncovered: Uncovered,
+    number: u64,
+}
+
+impl Hole {
+    pub fn new(group: Group, area: Area) -> Hole {
+        Hole { group, area, uncovered: Uncovered::default(), number: 0 }
+    }
+}
+
+impl Work for Hole {
+    fn run(&mut self, back_end: &BackEnd) {
+        self.number = back_end.calls.hole(&self.group, self.area, &mut self.uncovered, &mut 0);
+    }
+
+    fn answer(&self) -> Vec<i64> {
+        [&[self.number as i64], self.uncovered.words()].concat()
     }
 }
 

@@ -14,6 +14,7 @@ Looks up shifts in groups of grids.
   screen HEADER NODES LON LAT DAY         degrees and shifts in units, as floats
   screen HEADER NODES                     the same for points from standard input
   inforce HEADER WEST EAST SOUTH NORTH    grids in force in an area
+  hole HEADER WEST EAST SOUTH NORTH       the first point that no grid holds
   load FLOATS NODES Q [FLAG]              make a node file from a file of floats
   help [COMMAND]                          say more of a command
 
@@ -127,6 +128,19 @@ milliarcseconds.
 exit status: 0 accepted, 1 refused, 2 usage or file error
 ";
 
+const HOLE: &str = "\
+usage: bulhyemik hole HEADER WEST EAST SOUTH NORTH
+
+Says whether an area, sides included, has a coordinate that no grid holds.
+Prints `hole`, and longitude and latitude of the southmost, then westmost such
+coordinate, parted by tabs; or `none`. The sides are in milliarcseconds.
+Nodes play no part: where a grid has no data, a lookup is still refused by 8.
+
+  bulhyemik hole examples/canyon.txt 27360000 28320000 143640000 144540000
+
+exit status: 0 accepted, hole or none, 1 refused, 2 usage or file error
+";
+
 const LOAD: &str = "\
 usage: bulhyemik load FLOATS NODES Q [FLAG]
 
@@ -159,6 +173,7 @@ pub fn of(command: &str) -> &'static str {
         "lookup" => LOOKUP,
         "screen" => SCREEN,
         "inforce" => INFORCE,
+        "hole" => HOLE,
         "load" => LOAD,
         "help" => HELP,
         _ => ALL,

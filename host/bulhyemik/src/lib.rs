@@ -1,5 +1,6 @@
 //! The command line: it parses arguments, reads and writes files, calls the C interface and prints.
 
+mod area;
 mod arguments;
 mod check;
 mod files;
@@ -8,6 +9,7 @@ mod grids;
 mod group;
 mod help;
 mod hint;
+mod hole;
 mod inforce;
 mod kinds;
 mod load;
@@ -38,13 +40,14 @@ struct Command {
     run: fn(&dyn Calls, &Arguments, &mut Output) -> Result<(), Stop>,
 }
 
-const COMMANDS: [Command; 8] = [
+const COMMANDS: [Command; 9] = [
     Command { name: "check", options: &[], run: check::check },
     Command { name: "grids", options: grids::OPTIONS, run: grids::grids },
     Command { name: "format", options: &[], run: format::format },
     Command { name: "lookup", options: &[], run: lookup::lookup },
     Command { name: "screen", options: &[], run: screen::screen },
     Command { name: "inforce", options: &[], run: inforce::inforce },
+    Command { name: "hole", options: &[], run: hole::hole },
     Command { name: "load", options: &[], run: load::load },
     Command { name: "help", options: &[], run: explain },
 ];

@@ -3,7 +3,7 @@
 use crate::file::Definitions;
 use crate::parts::{bits32, bits64, bytes, list, number};
 use crate::record::{functions, record};
-use interface::{Answer, Entry, Fix, Group, Part, Position, Ramp};
+use interface::{Answer, Area, Entry, Fix, Group, Part, Position, Ramp, Uncovered};
 
 /// What a case hands to its call. Groups and node lists stand under their ids in the file.
 #[derive(Clone, Debug)]
@@ -14,7 +14,8 @@ pub enum Input {
     Field { line: Vec<u8>, number: u64 },
     Lookup { group: String, nodes: String, lon: i64, lat: i64, day: i64 },
     Batch { group: String, nodes: String, out_len: usize, points: Vec<Position> },
-    InForce { group: String, west: i64, east: i64, south: i64, north: i64 },
+    InForce { group: String, area: Area },
+    Hole { group: String, area: Area },
     Load { quantum: i64, flag: f32, out_len: usize, floats: Vec<f32> },
     Screen { lon: i64, lat: i64, quantum: i64, parameters: i64, number: u64, at: u64, fix: Fix },
     DayFactor { ramps: Vec<Ramp>, day: i64 },
@@ -31,6 +32,7 @@ pub enum Expected {
     Fix(Fix),
     Answers(Vec<Answer>),
     InForce { count: i64, entries: Vec<Entry> },
+    Hole(Uncovered),
     Nodes(Vec<i32>),
     Screen([u64; 5]),
     Factor(i64),
@@ -66,13 +68,12 @@ pub fn input(call: &str, words: &[&str], defined: &Definitions) -> Result<Input,
             out_len: number(len)?,
             points: some(&[points], position)?,
         },
-        ("in_force", &[id, west, east, south, north]) => Input::InForce {
-            group: group(id)?,
-            west: number(west)?,
-            east: number(east)?,
-            south: number(south)?,
-            north: number(north)?,
-        },
+        ("in_force", &[id, west, east, south, north]) => {
+            Input::InForce { group: group(id)?, area: area([west, east, south, north])? }
+        }
+        ("hole", &[id, west, east, south, north]) => {
+            Input::Hole { group: group(id)?, area: area([west, east, south, north])? }
+        }
         ("load", &[q, flag, len, ref floats @ ..]) => Input::Load {
             quantum: number(q)?,
             flag: f32::from_bits(bits32(flag)?),
@@ -106,6 +107,9 @@ pub fn expected(call: &str, words: &[&str]) -> Result<Expected, String> {
         ("in_force", &["ok", count, ref entries @ ..]) => {
             Expected::InForce { count: number(count)?, entries: list(&entries.join(" "), entry)? }
         }
+        ("hole", &["ok", found, lon, lat]) => {
+            Expected::Hole(Uncovered { found: number(found)?, lon: number(lon)?, lat: number(lat)? })
+        }
         ("load", &["ok", ref nodes @ ..]) => Expected::Nodes(some(nodes, number)?),
         ("screen", &["ok", floats]) => {
             let bits = list(floats, bits64)?;
@@ -124,6 +128,11 @@ fn some<T>(words: &[&str], one: impl Fn(&str) -> Result<T, String>) -> Result<Ve
 /// A grid's number and three results.
 fn fix([grid, r1, r2, r3]: [&str; 4]) -> Result<Fix, String> {
     Ok(Fix { grid: number(grid)?, result: [number(r1)?, number(r2)?, number(r3)?] })
+}
+
+/// An area by its four sides.
+fn area([west, east, south, north]: [&str; 4]) -> Result<Area, String> {
+    Ok(Area { west: number(west)?, east: number(east)?, south: number(south)?, north: number(north)? })
 }
 
 /// `lon,lat,day`

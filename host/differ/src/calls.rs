@@ -1,5 +1,6 @@
 //! One random input for each call, and the call's outcome on it.
 
+use crate::covers::cover;
 use crate::floats::floats;
 use crate::groups::{damage, sound};
 use crate::outcome::Outcome;
@@ -7,7 +8,7 @@ use crate::places::{area, nodes, position, positions};
 use crate::random::Random;
 use crate::texts;
 use interface::lent::{Element, Words, patterned};
-use interface::{Answer, Calls, Fix, Found, Group, HEADER_BYTES, InForce, Part, Screen, Timed};
+use interface::{Answer, Calls, Fix, Found, Group, HEADER_BYTES, InForce, Part, Screen, Timed, Uncovered};
 
 /// An input that is ready to be given to any back end that has its call.
 pub type Input<B> = Box<dyn Fn(&B) -> Outcome>;
@@ -20,13 +21,14 @@ pub struct Call<B: ?Sized> {
 }
 
 /// The calls of `Timed`.
-pub const TIMED: [Call<dyn Timed>; 7] = [
+pub const TIMED: [Call<dyn Timed>; 8] = [
     Call { name: "judge", input: judge, numbers: &[0, 2, 3, 4, 5] },
     Call { name: "read_header", input: read_header, numbers: &[0, 1, 2, 3, 4, 5] },
     Call { name: "write_header", input: write_header, numbers: &[0, 2, 3, 4, 5, 12] },
     Call { name: "lookup", input: lookup, numbers: &[0, 2, 3, 4, 5, 6, 7, 8, 9, 11, 13] },
     Call { name: "lookup_many", input: lookup_many, numbers: &[0, 2, 3, 4, 5, 12, 13] },
     Call { name: "grids_in_force", input: grids_in_force, numbers: &[0, 2, 3, 4, 5, 10] },
+    Call { name: "hole", input: hole, numbers: &[0, 2, 3, 4, 5, 10] },
     Call { name: "load_nodes", input: load_nodes, numbers: &[0, 2, 11, 12] },
 ];
 
@@ -45,13 +47,18 @@ fn lent() -> u64 {
 /// A group, damaged in so many percent of the cases, some of these twice.
 fn group(random: &mut Random, percent: usize) -> Group {
     let mut record = sound(random);
+    damage_some(random, &mut record, percent);
+    record
+}
+
+/// Damages a group in so many percent of the cases, in some of these twice.
+fn damage_some(random: &mut Random, record: &mut Group, percent: usize) {
     if random.percent(percent) {
-        damage(random, &mut record);
+        damage(random, record);
         if random.percent(20) {
-            damage(random, &mut record);
+            damage(random, record);
         }
     }
-    record
 }
 
 fn judge(random: &mut Random) -> Input<dyn Timed> {
@@ -140,6 +147,22 @@ fn grids_in_force(random: &mut Random) -> Input<dyn Timed> {
         let (mut list, mut place) = (InForce::patterned(), lent());
         let number = calls.grids_in_force(&group, area, &mut list, &mut place);
         Outcome::new(number).with("place", &[place]).with("list", list.words())
+    })
+}
+
+fn hole(random: &mut Random) -> Input<dyn Timed> {
+    let (mut group, within) = if random.percent(50) {
+        cover(random)
+    } else {
+        let record = sound(random);
+        let within = area(random, &record);
+        (record, within)
+    };
+    damage_some(random, &mut group, 35);
+    Box::new(move |calls| {
+        let (mut uncovered, mut place) = (Uncovered::patterned(), lent());
+        let number = calls.hole(&group, within, &mut uncovered, &mut place);
+        Outcome::new(number).with("place", &[place]).with("uncovered", uncovered.words())
     })
 }
 

@@ -3,9 +3,12 @@
 use crate::random::Random;
 use interface::{Grid, Group, Name, Ramp};
 
-const LONGITUDE: i64 = 1_296_000_000;
-const LATITUDE: i64 = 324_000_000;
+pub const LONGITUDE: i64 = 1_296_000_000;
+pub const LATITUDE: i64 = 324_000_000;
 const NODE_LIST: i64 = 16_777_216;
+
+/// An axis of a grid: its first node, spacing and count.
+pub type Axis = (i64, i64, i64);
 
 /// A corner or the middle of the world, and how large spacings and counts are there.
 #[derive(Clone, Copy)]
@@ -44,8 +47,8 @@ fn overlap(a: &Grid, b: &Grid) -> bool {
         && share(reach(a.lat, a.dlat, a.nj), reach(b.lat, b.dlat, b.nj))
 }
 
-/// An axis inside ±limit: its first node, spacing and count.
-fn axis(random: &mut Random, centre: i64, limit: i64, world: World) -> (i64, i64, i64) {
+/// An axis inside ±limit.
+fn axis(random: &mut Random, centre: i64, limit: i64, world: World) -> Axis {
     loop {
         let size = if random.percent(70) { random.between(1, 6) } else { random.between(1, world.spacing) };
         let spacing = if random.percent(50) { size } else { -size };
@@ -71,9 +74,8 @@ fn name(random: &mut Random, number: usize) -> Name {
     Name::new(&text)
 }
 
-fn grid(random: &mut Random, world: World, k: usize, parameters: i64) -> Grid {
-    let (lon, dlon, ni) = axis(random, world.lon, LONGITUDE, world);
-    let (lat, dlat, nj) = axis(random, world.lat, LATITUDE, world);
+fn grid(random: &mut Random, axes: [Axis; 2], k: usize, parameters: i64) -> Grid {
+    let [(lon, dlon, ni), (lat, dlat, nj)] = axes;
     let last = NODE_LIST - ni * nj * parameters;
     let start = match random.below(400) {
         0 => last,
@@ -103,6 +105,14 @@ fn ramp(random: &mut Random) -> Ramp {
 pub fn sound(random: &mut Random) -> Group {
     let world = world(random);
     let grids = random.pick(&[1, 1, 2, 2, 3, 3, 4, 5, 6, 8, 16, 64]);
+    of_grids(random, grids, |random, _| {
+        [axis(random, world.lon, LONGITUDE, world), axis(random, world.lat, LATITUDE, world)]
+    })
+}
+
+/// An accepted group of so many grids, each along its two axes, which are made from its index. One that shares a coordinate and
+/// its rank with an earlier one gets a greater rank.
+pub fn of_grids(random: &mut Random, grids: usize, axes: impl Fn(&mut Random, usize) -> [Axis; 2]) -> Group {
     let ramps = random.pick(&[0, 0, 1, 2, 3, 8]);
     let parameters = random.between(1, 3);
     let mut record = Group {
@@ -118,7 +128,8 @@ pub fn sound(random: &mut Random) -> Group {
         record.ramp[k] = ramp(random);
     }
     for k in 0..grids {
-        let mut next = grid(random, world, k, parameters);
+        let axes = axes(random, k);
+        let mut next = grid(random, axes, k, parameters);
         while record.grid[..k].iter().any(|g| g.rank == next.rank && overlap(g, &next)) {
             next.rank += 1;
         }

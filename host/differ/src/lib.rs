@@ -2,6 +2,7 @@
 
 mod calls;
 mod command;
+mod covers;
 mod floats;
 mod groups;
 mod outcome;
@@ -12,6 +13,7 @@ mod texts;
 
 pub use calls::{Call, OTHERS, TIMED};
 pub use command::main;
+pub use covers::cover;
 pub use groups::{damage, sound};
 pub use places::area;
 pub use random::Random;

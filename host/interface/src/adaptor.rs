@@ -1,6 +1,6 @@
 //! The timed calls over a program written in Rust, whose answers are values or refusals.
 
-use crate::{Answer, Area, Entry, Fix, Group, InForce, Position, Timed};
+use crate::{Answer, Area, Entry, Fix, Group, InForce, Position, Timed, Uncovered};
 
 /// A refusal: its number in document 01's table and its place.
 #[derive(Clone, Copy, Debug, PartialEq, Eq)]
@@ -10,6 +10,7 @@ pub struct Refusal {
 }
 
 type Outcome<T> = Result<T, Refusal>;
+type Hole = fn(&Group, Area) -> Outcome<Option<(i64, i64)>>;
 type LookupMany = fn(&Group, &[i32], &[Position], &mut [Answer]) -> Outcome<()>;
 
 /// What answers each timed call. `out`, `nodes` and `results` are unchanged after a refusal.
@@ -21,6 +22,8 @@ pub struct Answers {
     pub lookup: fn(&Group, &[i32], Position) -> Outcome<Fix>,
     pub lookup_many: LookupMany,
     pub grids_in_force: fn(&Group, Area) -> Outcome<Vec<Entry>>,
+    /// Longitude and latitude.
+    pub hole: Hole,
     pub load_nodes: fn(&[f32], f32, i64, &mut [i32]) -> Outcome<()>,
 }
 
@@ -77,6 +80,10 @@ impl<T: Program> Timed for T {
 
     fn grids_in_force(&self, group: &Group, area: Area, list: &mut InForce, place: &mut u64) -> u64 {
         hand_back((T::ANSWERS.grids_in_force)(group, area).map(|entries| InForce::new(&entries)), list, place)
+    }
+
+    fn hole(&self, group: &Group, area: Area, uncovered: &mut Uncovered, place: &mut u64) -> u64 {
+        hand_back((T::ANSWERS.hole)(group, area).map(Uncovered::new), uncovered, place)
     }
 
     fn load_nodes(&self, floats: &[f32], flag: f32, quantum: i64, nodes: &mut [i32], place: &mut u64) -> u64 {

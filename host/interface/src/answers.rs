@@ -52,6 +52,22 @@ impl Default for InForce {
     }
 }
 
+/// Whether an area has a coordinate that no grid holds, 1 or 0, and the southmost, then westmost such; zeros where there is none.
+#[repr(C)]
+#[derive(Clone, Copy, Debug, Default, PartialEq, Eq)]
+pub struct Uncovered {
+    pub found: i64,
+    pub lon: i64,
+    pub lat: i64,
+}
+
+impl Uncovered {
+    /// The answer of this longitude and latitude, or of none.
+    pub fn new(first: Option<(i64, i64)>) -> Uncovered {
+        first.map_or(Uncovered::default(), |(lon, lat)| Uncovered { found: 1, lon, lat })
+    }
+}
+
 /// A field of a line: its first byte, and the byte behind its last.
 #[repr(C)]
 #[derive(Clone, Copy, Debug, Default, PartialEq, Eq)]

@@ -9,7 +9,7 @@
 macro_rules! timed_in_c {
     ($back_end:ident, $prefix:literal) => {
         const _: () = {
-            use $crate::{Answer, Area, Fix, Group, InForce, Position};
+            use $crate::{Answer, Area, Fix, Group, InForce, Position, Uncovered};
 
             unsafe extern "C" {
                 #[link_name = concat!($prefix, "judge")]
@@ -48,6 +48,16 @@ macro_rules! timed_in_c {
                     south: i64,
                     north: i64,
                     list: &mut InForce,
+                    place: &mut u64,
+                ) -> u64;
+                #[link_name = concat!($prefix, "hole")]
+                fn hole(
+                    group: &Group,
+                    west: i64,
+                    east: i64,
+                    south: i64,
+                    north: i64,
+                    uncovered: &mut Uncovered,
                     place: &mut u64,
                 ) -> u64;
                 #[link_name = concat!($prefix, "load_nodes")]
@@ -95,6 +105,11 @@ macro_rules! timed_in_c {
                 fn grids_in_force(&self, group: &Group, area: Area, list: &mut InForce, place: &mut u64) -> u64 {
                     let Area { west, east, south, north } = area;
                     unsafe { grids_in_force(group, west, east, south, north, list, place) }
+                }
+
+                fn hole(&self, group: &Group, area: Area, uncovered: &mut Uncovered, place: &mut u64) -> u64 {
+                    let Area { west, east, south, north } = area;
+                    unsafe { hole(group, west, east, south, north, uncovered, place) }
                 }
 
                 fn load_nodes(

@@ -1,6 +1,6 @@
 //! The calls of the C interface as traits: one method for each function of include/bulhyemik.h, a slice for pointer and length.
 
-use crate::{Answer, Area, Fix, Found, Group, InForce, MOST_PARAMETERS, Part, Position, Screen};
+use crate::{Answer, Area, Fix, Found, Group, InForce, MOST_PARAMETERS, Part, Position, Screen, Uncovered};
 
 /// The calls that the benchmark times, which plain programs answer too.
 ///
@@ -31,6 +31,9 @@ pub trait Timed {
 
     /// Lists the grids in force in an area: refusals 2 to 5, 10.
     fn grids_in_force(&self, group: &Group, area: Area, list: &mut InForce, place: &mut u64) -> u64;
+
+    /// Finds the southmost, then westmost coordinate of an area that no grid holds: refusals 2 to 5, 10.
+    fn hole(&self, group: &Group, area: Area, uncovered: &mut Uncovered, place: &mut u64) -> u64;
 
     /// Loads floats as nodes: refusals 2, 11, 12.
     fn load_nodes(&self, floats: &[f32], flag: f32, quantum: i64, nodes: &mut [i32], place: &mut u64) -> u64;

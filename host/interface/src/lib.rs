@@ -10,13 +10,13 @@ mod group;
 pub mod lent;
 
 pub use adaptor::{Answers, Program, Refusal, hand_back};
-pub use answers::{Answer, Entry, Fix, InForce, Part, Screen};
+pub use answers::{Answer, Entry, Fix, InForce, Part, Screen, Uncovered};
 pub use arguments::{Area, Found, Position};
 pub use calls::{Calls, Timed};
 pub use group::{Grid, Group, Name, Ramp};
 
 /// The version of the interface: major * 1,000,000 + minor * 1,000 + patch.
-pub const VERSION: u64 = 1_001_000;
+pub const VERSION: u64 = 1_002_000;
 
 /// Bytes of a name, used or not.
 pub const NAME_BYTES: usize = 24;

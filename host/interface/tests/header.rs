@@ -65,6 +65,7 @@ fn every_struct_is_laid_out_as_the_header_checks() {
         layout!("answer", Answer, "number" = number, "place" = place, "fix" = fix),
         layout!("entry", Entry, "grid" = grid, "lon" = lon, "lat" = lat),
         layout!("in_force", InForce, "count" = count, "entry" = entry),
+        layout!("uncovered", Uncovered, "found" = found, "lon" = lon, "lat" = lat),
         layout!("part", Part, "from" = from, "to" = to),
         layout!("screen", Screen, "longitude" = longitude, "latitude" = latitude, "shift" = shift),
     ];
@@ -129,7 +130,7 @@ fn every_function_has_an_example_that_the_examples_hold_word_for_word() {
         assert!(examples.iter().any(|example| example.contains(&format!("{function}("))), "{function}");
         count += 1;
     }
-    assert_eq!((count, examples.len()), (11, 12), "one for each function, and the nodes that they use");
+    assert_eq!((count, examples.len()), (12, 13), "one for each function, and the nodes that they use");
     let shown = examples.iter().find(|example| example.contains("bulhyemik_lookup(")).expect("found just now");
     assert!(README.contains(shown), "README shows the example of the lookup");
 }

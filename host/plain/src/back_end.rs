@@ -1,5 +1,6 @@
 //! The plain versions as a back end.
 
+use crate::hole::hole;
 use crate::in_force::in_force;
 use crate::judge::judge;
 use crate::load::load;
@@ -19,6 +20,7 @@ impl Program for Plain {
         lookup,
         lookup_many,
         grids_in_force: in_force,
+        hole,
         load_nodes: load,
     };
 }

@@ -1,7 +1,7 @@
 //! Grids in force: for each grid the first of its coordinates in the area that no better grid holds.
 
 use crate::group::meet;
-use crate::judge::{LATITUDE, LONGITUDE, judge, refusal, within};
+use crate::judge::judge_area;
 use interface::{Area, Entry, Group, Refusal};
 
 /// The part of a rectangle in an area, if there is one.
@@ -38,14 +38,7 @@ fn first_free_in_row(mut lon: i64, lat: i64, blockers: &[Area]) -> i64 {
 
 /// The grids in force in an area.
 pub fn in_force(group: &Group, area: Area) -> Result<Vec<Entry>, Refusal> {
-    let extents = judge(group)?;
-    let admitted = within(area.west, LONGITUDE)
-        && within(area.east, LONGITUDE)
-        && within(area.south, LATITUDE)
-        && within(area.north, LATITUDE);
-    if !admitted || area.west > area.east || area.south > area.north {
-        return Err(refusal(10, 0));
-    }
+    let extents = judge_area(group, &area)?;
     let grids = &group.grid[..group.grids as usize];
     let mut order: Vec<(i64, usize)> = grids.iter().enumerate().map(|(k, grid)| (grid.rank, k)).collect();
     order.sort_unstable();

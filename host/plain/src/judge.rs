@@ -1,4 +1,4 @@
-//! The judge: limits and refusals 2 to 5.
+//! The judge: limits and refusals 2 to 5, and 10 of an area.
 
 use crate::group::{end, extent, meet};
 use interface::{Area, Grid, Group, MOST_GRIDS, NAME_BYTES, Name, Ramp, Refusal};
@@ -105,4 +105,17 @@ pub fn sound(group: &Group) -> Result<[Area; MOST_GRIDS], Refusal> {
 pub fn judge(group: &Group) -> Result<[Area; MOST_GRIDS], Refusal> {
     limits(group)?;
     sound(group)
+}
+
+/// Judges a group, then an area; the extents of the group's grids.
+pub fn judge_area(group: &Group, area: &Area) -> Result<[Area; MOST_GRIDS], Refusal> {
+    let extents = judge(group)?;
+    let admitted = within(area.west, LONGITUDE)
+        && within(area.east, LONGITUDE)
+        && within(area.south, LATITUDE)
+        && within(area.north, LATITUDE);
+    if !admitted || area.west > area.east || area.south > area.north {
+        return Err(refusal(10, 0));
+    }
+    Ok(extents)
 }

@@ -2,6 +2,7 @@
 
 mod back_end;
 mod group;
+mod hole;
 mod in_force;
 mod judge;
 mod load;

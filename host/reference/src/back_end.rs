@@ -1,6 +1,6 @@
 //! The second program as a back end.
 
-use crate::coverage::grids_in_force;
+use crate::coverage::{grids_in_force, hole};
 use crate::field::field;
 use crate::header::{read_header, write_header};
 use crate::judge::judge;
@@ -14,7 +14,7 @@ pub struct Reference;
 
 impl Program for Reference {
     const ANSWERS: Answers =
-        Answers { judge, read_header, write_header, lookup, lookup_many, grids_in_force, load_nodes };
+        Answers { judge, read_header, write_header, lookup, lookup_many, grids_in_force, hole, load_nodes };
 }
 
 impl Calls for Reference {

@@ -15,7 +15,7 @@ mod screen;
 mod text;
 
 pub use back_end::Reference;
-pub use coverage::{by_compression, by_every_coordinate, grids_in_force};
+pub use coverage::{Seen, by_compression, by_every_coordinate, grids_in_force, hole};
 pub use field::field;
 pub use header::{read_header, write_header};
 pub use judge::judge;

@@ -1,7 +1,7 @@
-//! The marked cases of document 01, M1 to M12 and the others it names.
+//! The marked cases of document 01, M1 to M12 and the others it names, and the holes of their groups.
 
 use interface::{Area, Entry, Fix, Grid, Group, MARK, Name, Position, Ramp, Refusal};
-use reference::{day_factor, grids_in_force, judge, load_nodes, lookup};
+use reference::{day_factor, grids_in_force, hole, judge, load_nodes, lookup};
 
 const RAMP: Ramp = Ramp { a: 100, s0: 0, b: 200, s1: 1_000_000 };
 
@@ -76,6 +76,21 @@ fn m11_and_m12_are_grids_in_force() {
     assert_eq!(in_force(&m12, area), [(2, 0, 0), (3, 12, 0), (1, 11, 0)]);
     let touching = [m11[0], m11[1], grid("G3", 10, 2, 1)];
     assert_eq!(judge(&group(&touching)), Err(Refusal { number: 5, place: 3 }));
+}
+
+#[test]
+fn the_holes_of_m11_lie_beside_its_grids() {
+    let m11 = [grid("G1", 0, 3, 3), grid("G2", 0, 2, 1), grid("G3", 10, 2, 2)];
+    let within = |grids: &[Grid], east, north| hole(&group(grids), Area { west: 0, east, south: 0, north });
+    assert_eq!(within(&m11, 20, 10), Ok(None));
+    assert_eq!(within(&m11, 21, 10), Ok(Some((21, 0))));
+    assert_eq!(within(&m11, 20, 11), Ok(Some((0, 11))));
+    assert_eq!(within(&m11, -1, 10), Err(Refusal { number: 10, place: 0 }));
+    assert_eq!(hole(&group(&m11), Area::EARTH), Ok(Some((-648_000_000, -324_000_000))));
+    let apart = [m11[1], grid("G3", 12, 2, 2)];
+    assert_eq!(within(&apart, 22, 10), Ok(Some((11, 0))));
+    let same_rank = [m11[1], grid("G3", 10, 2, 1)];
+    assert_eq!(within(&same_rank, -1, 10), Err(Refusal { number: 5, place: 2 }));
 }
 
 #[test]

@@ -5,6 +5,7 @@ use cases::{Case, CaseFile, Expected, Input, NodeList};
 use interface::lent::{Element, Words, compare, patterned};
 use interface::{
     Answer, Area, Calls, Fix, Found, Grid, Group, InForce, MOST_PARAMETERS, Name, Part, Position, Ramp, Screen, Timed,
+    Uncovered,
 };
 use std::fmt;
 
@@ -100,9 +101,8 @@ impl<'a> Runner<'a> {
                 self.make_nodes(nodes);
                 self.batch(self.file.group(group), self.made(), points, *out_len, expected)
             }
-            &Input::InForce { ref group, west, east, south, north } => {
-                self.in_force(self.file.group(group), Area { west, east, south, north }, expected)
-            }
+            Input::InForce { group, area } => self.in_force(self.file.group(group), *area, expected),
+            Input::Hole { group, area } => self.hole(self.file.group(group), *area, expected),
             Input::Load { quantum, flag, out_len, floats } => self.load(floats, *flag, *quantum, *out_len, expected),
             &Input::Screen { lon, lat, quantum, parameters, number, at, fix } => {
                 self.screen(lon, lat, &Found { quantum, parameters, number, at, fix }, expected)
@@ -205,6 +205,17 @@ impl<'a> Runner<'a> {
         };
         returned((number, place), expected)?;
         compare("list", list.words(), listed.words())
+    }
+
+    fn hole(&self, group: &Group, area: Area, expected: &Expected) -> Result<(), String> {
+        let (mut uncovered, mut place) = (Uncovered::patterned(), lent());
+        let number = self.timed.hole(group, area, &mut uncovered, &mut place);
+        let first = match *expected {
+            Expected::Hole(first) => first,
+            _ => Uncovered::default(),
+        };
+        returned((number, place), expected)?;
+        compare("uncovered", uncovered.words(), first.words())
     }
 
     fn load(&self, floats: &[f32], flag: f32, quantum: i64, out_len: usize, expected: &Expected) -> Result<(), String> {

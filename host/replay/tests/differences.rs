@@ -7,7 +7,7 @@ use std::path::{Path, PathBuf};
 use std::process::{Command, Output};
 
 /// One case for each call whose expected answer is wrong, and where the answer differs from it.
-const WRONG: [(&str, &str, &str); 18] = [
+const WRONG: [(&str, &str, &str); 22] = [
     ("read_header", "C\t-\t=>\trefuse\t1\t2\n", "place is 1 instead of 2"),
     ("read_header", "C\t-\t=>\trefuse\t2\t1\n", "returned 1 instead of 2"),
     ("judge_record", "G\tg\t- 0 0 0 0 0 0\nC\tg\t=>\tok\n", "returned 2 instead of 0"),
@@ -53,6 +53,26 @@ const WRONG: [(&str, &str, &str); 18] = [
         "in_force",
         "G\tg\t61 1 0 0 1 0 1|G 0 62 1 0 0 1 1 2 2 1 0 0\nC\tg\t0\t9\t0\t9\t=>\tok\t0\t\n",
         "list[0] is 1 instead of 0",
+    ),
+    (
+        "hole",
+        "G\tg\t61 1 0 0 1 0 1|G 0 62 1 0 0 1 1 2 2 1 0 0\nC\tg\t0\t9\t0\t9\t=>\tok\t0\t0\t0\n",
+        "uncovered[0] is 1 instead of 0",
+    ),
+    (
+        "hole",
+        "G\tg\t61 1 0 0 1 0 1|G 0 62 1 0 0 1 1 2 2 1 0 0\nC\tg\t0\t9\t0\t9\t=>\tok\t1\t1\t0\n",
+        "uncovered[1] is 2 instead of 1",
+    ),
+    (
+        "hole",
+        "G\tg\t61 1 0 0 1 0 1|G 0 62 1 0 0 1 1 2 2 1 0 0\nC\tg\t0\t1\t0\t1\t=>\tok\t0\t0\t1\n",
+        "uncovered[2] is 0 instead of 1",
+    ),
+    (
+        "hole",
+        "G\tg\t61 1 0 0 1 0 1|G 0 62 1 0 0 1 1 2 2 1 0 0\nC\tg\t1\t0\t0\t1\t=>\tok\t0\t0\t0\n",
+        "returned 10 instead of 0",
     ),
     ("load", "C\t0\t7fc00000\t1\t3f800000\t=>\tok\t2\n", "nodes[0] is 1 instead of 2"),
     ("load", "C\t0\t7fc00000\t1\t7f800000\t=>\trefuse\t11\t2\n", "place is 1 instead of 2"),
@@ -133,6 +153,8 @@ fn bad_files_have_status_2() {
             "G\tg\t- 0 0 0 0 0 0\nN\tn\t0\tlist\nC\tg\tn\t0\t-\t=>\tok\tok,1\n",
             "line 3: 'ok,1' is no answer of a point",
         ),
+        ("hole.tsv", "G\tg\t- 0 0 0 0 0 0\nC\tg\t0\t0\t0\t=>\tok\t0\t0\t0\n", "line 2: no inputs of a hole case"),
+        ("hole.tsv", "G\tg\t- 0 0 0 0 0 0\nC\tg\t0\t0\t0\t0\t=>\tok\t0\n", "line 2: no answer of a hole case"),
         ("plan.tsv", "C\t1\t=>\tok\n", "line 1: no inputs of a plan case"),
     ];
     for (k, (name, text, why)) in cases.into_iter().enumerate() {

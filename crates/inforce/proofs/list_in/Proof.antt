@@ -8,6 +8,7 @@ use Rattle.inforce.specs.InForce.{inForceIn}
 use Rattle.inforce.specs.Handed.{shownList}
 use Rattle.inforce.proofs.ShownLaws.{shown-whole}
 use Rattle.inforce.proofs.GroupLaws.{group-flat, group-listed, narrow-list}
+use Rattle.inforce.proofs.StageLaws.{ready-judged}
 use borrow.Author.Needs.{needs}
 use Rattle.inforce.proofs.list_in.Statement.{statement}
 use Rattle.inforce.proofs.list_in.Tie as tie
@@ -24,8 +25,8 @@ g s = groupOfWords (s .args .words .now)
 
 list-flat-requires : tie.Need-list-flat-requires
 list-flat-requires c κs =
-    let s = c .before .before .before .before in let a = s .args in let p = s .pre in
-    subst (FlatSound (a .sides .now) (a .ranks .now)) (sym (c .before .grid-count .ensures)) (group-flat (g s) (p .0) (a .sides .now) (a .ranks .now) (p .2) (p .3))
+    let s = c .before .before .before .before in let a = s .args in
+    subst (FlatSound (a .sides .now) (a .ranks .now)) (sym (c .before .grid-count .ensures)) (group-flat (g s) (ready-judged (s .pre) .0) (a .sides .now) (a .ranks .now) (s .pre .sided) (s .pre .room))
 
 -- the list of the area, its coordinates as distances
 listing : (c : tie.After-list-flat) → let s = c .before .before .before .before .before in
@@ -34,12 +35,12 @@ listing c =
     let s = c .before .before .before .before .before in let a = s .args in
     c .list-flat .ensures
     ∙ (λ i. flatListing (a .sides .now) (a .ranks .now) (c .before .before .grid-count .ensures i) (c .before .area-from-least .ensures i))
-    ∙ group-listed (g s) (s .pre .0) (a .sides .now) (a .ranks .now) (s .pre .2) (a .area) (s .pre .1)
+    ∙ group-listed (g s) (ready-judged (s .pre) .0) (a .sides .now) (a .ranks .now) (s .pre .sided) (a .area) (ready-judged (s .pre) .1)
 
 shown-list-requires : tie.Need-shown-list-requires
 shown-list-requires c κs =
     let s = c .before .before .before .before .before in
-    rw (listing c) (narrow-list (g s) (s .pre .0) (s .args .area) (s .pre .1))
+    rw (listing c) (narrow-list (g s) (ready-judged (s .pre) .0) (s .args .area) (ready-judged (s .pre) .1))
 
 returns : tie.Need-returns
 returns c =

@@ -33,16 +33,33 @@ fn screen_prints_floats_that_read_back() {
     assert_eq!([1, 2, 5].map(float), [5.0 / 3_600_000.0, 5.0 / 3_600_000.0, 55.0 / 8192.0].map(Some));
 }
 
+/// The header of the marked case M12.
+const M12: &str = "group\tm11\tmetre\t0\t1\t0\t3\n\
+    grid\tG1\t0\t0\t10\t10\t3\t2\t3\t0\ngrid\tG2\t0\t0\t10\t10\t2\t2\t1\t0\ngrid\tG3\t12\t0\t10\t10\t2\t2\t2\t0\n";
+
 #[test]
 fn inforce_lists_grids() {
     let folder = Folder::new("inforce");
-    let grids = "group\tm11\tmetre\t0\t1\t0\t3\n\
-        grid\tG1\t0\t0\t10\t10\t3\t2\t3\t0\ngrid\tG2\t0\t0\t10\t10\t2\t2\t1\t0\ngrid\tG3\t12\t0\t10\t10\t2\t2\t2\t0\n";
-    folder.put("m12.txt", grids.as_bytes());
+    folder.put("m12.txt", M12.as_bytes());
     assert_eq!(folder.run("inforce m12.txt 0 20 0 10"), accepted("2\tG2\t0\t0\n3\tG3\t12\t0\n1\tG1\t11\t0\n"));
     assert_eq!(folder.run("inforce m12.txt 30 40 0 10"), accepted(""));
     let world = folder.run("inforce m12.txt -648000000 648000000 -324000000 324000000");
     assert_eq!(world, accepted("2\tG2\t0\t0\n3\tG3\t12\t0\n1\tG1\t11\t0\n"));
+}
+
+#[test]
+fn hole_names_the_first_uncovered_coordinate_or_none() {
+    let folder = Folder::new("hole");
+    folder.put("m12.txt", M12.as_bytes());
+    assert_eq!(folder.run("hole m12.txt 0 22 0 10"), accepted("none\n"));
+    assert_eq!(folder.run("hole m12.txt 0 23 0 10"), accepted("hole\t23\t0\n"));
+    assert_eq!(folder.run("hole m12.txt 0 22 -1 10"), accepted("hole\t0\t-1\n"));
+    assert_eq!(folder.run("hole m12.txt 22 22 10 11"), accepted("hole\t22\t11\n"));
+    let apart = M12.replacen("1\t0\t3\n", "1\t0\t2\n", 1).replace("grid\tG1\t0\t0\t10\t10\t3\t2\t3\t0\n", "");
+    let answer = folder.run_with(&["hole", "-", "0", "22", "0", "10"], apart.as_bytes());
+    assert_eq!(answer, accepted("hole\t11\t0\n"));
+    let world = folder.run("hole m12.txt -648000000 648000000 -324000000 324000000");
+    assert_eq!(world, accepted("hole\t-648000000\t-324000000\n"));
 }
 
 #[test]
@@ -83,7 +100,7 @@ fn refusals_have_status_1_and_words() {
     folder.put("short.nodes", &[0; 20]);
     folder.put("mark.nodes", &words(&[i32::MIN; 6].map(i32::to_le_bytes)));
     folder.put("far.nodes", &words(&[4_000_001; 6].map(i32::to_le_bytes)));
-    let cases: [(&str, Answer); 13] = [
+    let cases: [(&str, Answer); 15] = [
         (
             "check early.txt",
             refused(1, 2, "the header ends before line 2, a ramp line: line 1 counts 1 ramp and 1 grid"),
@@ -116,6 +133,11 @@ fn refusals_have_status_1_and_words() {
             "inforce dock.txt 1 0 0 0",
             refused(10, 0, "the area has a side outside the limits, west above east or south above north"),
         ),
+        (
+            "hole dock.txt 1 0 0 0",
+            refused(10, 0, "the area has a side outside the limits, west above east or south above north"),
+        ),
+        ("hole limit.txt 1 0 0 0", refused(2, 1, "line 1: Q is 21, its limit is 0 to 20")),
         ("load dock.floats new.nodes 21", refused(2, 0, "Q is outside 0 to 20")),
         ("load dock.floats new.nodes -1", refused(2, 0, "Q is outside 0 to 20")),
     ];
@@ -130,7 +152,9 @@ fn refusals_have_status_1_and_words() {
 fn empty_files_go_to_the_library() {
     let folder = Folder::new("empty");
     folder.put("empty", b"");
-    for arguments in ["check empty", "check -", "format empty", "grids empty", "inforce empty 0 0 0 0"] {
+    let commands =
+        ["check empty", "check -", "format empty", "grids empty", "inforce empty 0 0 0 0", "hole empty 0 0 0 0"];
+    for arguments in commands {
         assert_eq!(folder.run(arguments), refused(1, 1, "the header is empty"), "{arguments}");
     }
     let short = "the node list ends before the nodes of grid 1 do";

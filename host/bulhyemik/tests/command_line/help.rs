@@ -3,7 +3,7 @@
 use crate::program::{Folder, accepted};
 use std::fs;
 
-const COMMANDS: [&str; 8] = ["check", "grids", "format", "lookup", "screen", "inforce", "load", "help"];
+const COMMANDS: [&str; 9] = ["check", "grids", "format", "lookup", "screen", "inforce", "hole", "load", "help"];
 
 /// A file of the repository.
 fn paper(name: &str) -> String {

@@ -2,6 +2,7 @@
 
 use interface::{
     Answer, Area, Calls, Fix, Found, Grid, Group, InForce, MARK, MOST_PARAMETERS, Part, Position, Screen, Timed,
+    Uncovered,
 };
 use reference::Reference;
 
@@ -36,6 +37,7 @@ mutant! {
             place: &mut u64
         ) -> u64;
         fn grids_in_force(group: &Group, area: Area, list: &mut InForce, place: &mut u64) -> u64;
+        fn hole(group: &Group, area: Area, uncovered: &mut Uncovered, place: &mut u64) -> u64;
         fn load_nodes(floats: &[f32], flag: f32, quantum: i64, nodes: &mut [i32], place: &mut u64) -> u64;
     }
     Calls {
@@ -65,6 +67,9 @@ mutants! {
         too_few_nodes_refuse_each_point, results_may_be_too_many, length_is_judged_behind_the_nodes,
         refused_point_keeps_its_results;
     grids_in_force: empty_list, full_list, corner_of_the_grid_for_its_first_coordinate;
+    hole: westmost_before_southmost, east_edge_is_no_cover, last_coordinate_is_not_tried, area_is_not_judged,
+        worst_grid_is_no_cover, only_the_first_row_is_walked, gap_of_one_is_passed_over, coordinate_beside_none,
+        coordinate_beside_a_refusal;
     load_nodes: last_node_is_not_written, zero_flag_catches_both_zeros, negative_quantum_is_zero;
     screen_answer: missing_shift_is_minus_zero, number_outside_the_table_is_handed_on, place_of_the_lookup_is_lost;
     screen_record: degrees_after_a_refusal, negative_parameters_are_three;
@@ -151,7 +156,7 @@ fn halves_away_from_zero(group: &Group, nodes: &[i32], at: Position, fix: &mut F
     number
 }
 
-/// Where the best grid has no data, it is left out: the last one takes its entry.
+/// Where the best grid has no data, it is left out.
 fn worse_grid_where_the_best_lacks_data(
     group: &Group,
     nodes: &[i32],
@@ -166,12 +171,17 @@ fn worse_grid_where_the_best_lacks_data(
     let blank: Vec<i32> = nodes.iter().map(|&v| if v == MARK { 0 } else { v.clamp(-3, 3) }).collect();
     let mut best = Fix::default();
     Reference.lookup(group, &blank, at, &mut best, place);
+    Reference.lookup(&without(group, best.grid as usize - 1), nodes, at, fix, place)
+}
+
+/// The group without grid k, from 0: the last one takes its entry.
+fn without(group: &Group, k: usize) -> Group {
     let mut others = group.clone();
     others.grids -= 1;
     let last = others.grids as usize;
-    others.grid[best.grid as usize - 1] = group.grid[last];
+    others.grid[k] = group.grid[last];
     others.grid[last] = Grid::default();
-    Reference.lookup(&others, nodes, at, fix, place)
+    others
 }
 
 fn grid_and_first_result_swapped(group: &Group, nodes: &[i32], at: Position, fix: &mut Fix, place: &mut u64) -> u64 {
@@ -301,6 +311,94 @@ fn corner_of_the_grid_for_its_first_coordinate(group: &Group, area: Area, list: 
         let grid = &group.grid[entry.grid as usize - 1];
         let far = grid.lon + (grid.ni - 1) * grid.dlon;
         entry.lon = grid.lon.min(far).max(area.west);
+    }
+    number
+}
+
+/// Longitudes and latitudes change places, as far as the group is accepted so.
+fn westmost_before_southmost(group: &Group, area: Area, uncovered: &mut Uncovered, place: &mut u64) -> u64 {
+    let number = Reference.hole(group, area, uncovered, place);
+    let mut turned = group.clone();
+    for grid in &mut turned.grid {
+        let Grid { lon, lat, dlon, dlat, ni, nj, .. } = *grid;
+        *grid = Grid { lon: lat, lat: lon, dlon: dlat, dlat: dlon, ni: nj, nj: ni, ..*grid };
+    }
+    let across = Area { west: area.south, east: area.north, south: area.west, north: area.east };
+    let mut found = Uncovered::default();
+    if number == 0 && Reference.hole(&turned, across, &mut found, &mut 0) == 0 {
+        *uncovered = Uncovered { lon: found.lat, lat: found.lon, ..found };
+    }
+    number
+}
+
+/// Each grid ends a milliarcsecond before its east edge, as far as two nodes can have it so.
+fn east_edge_is_no_cover(group: &Group, area: Area, uncovered: &mut Uncovered, place: &mut u64) -> u64 {
+    let number = Reference.hole(group, area, uncovered, place);
+    if number != 0 {
+        return number;
+    }
+    let mut narrow = group.clone();
+    for grid in &mut narrow.grid[..group.grids as usize] {
+        let width = (grid.ni - 1) * grid.dlon;
+        if (2..=1_000_001).contains(&width.abs()) {
+            *grid = Grid { lon: grid.lon.min(grid.lon + width), dlon: width.abs() - 1, ni: 2, ..*grid };
+        }
+    }
+    Reference.hole(&narrow, area, uncovered, place)
+}
+
+fn last_coordinate_is_not_tried(group: &Group, area: Area, uncovered: &mut Uncovered, place: &mut u64) -> u64 {
+    let number = Reference.hole(group, area, uncovered, place);
+    if (uncovered.lon, uncovered.lat) == (area.east, area.north) {
+        *uncovered = Uncovered::default();
+    }
+    number
+}
+
+fn area_is_not_judged(group: &Group, area: Area, uncovered: &mut Uncovered, place: &mut u64) -> u64 {
+    let number = Reference.hole(group, area, uncovered, place);
+    if number == 10 { 0 } else { number }
+}
+
+fn worst_grid_is_no_cover(group: &Group, area: Area, uncovered: &mut Uncovered, place: &mut u64) -> u64 {
+    let number = Reference.hole(group, area, uncovered, place);
+    if number != 0 || group.grids == 1 {
+        return number;
+    }
+    let worst = (0..group.grids as usize).max_by_key(|&k| group.grid[k].rank).expect("there are two or more");
+    Reference.hole(&without(group, worst), area, uncovered, place)
+}
+
+fn only_the_first_row_is_walked(group: &Group, area: Area, uncovered: &mut Uncovered, place: &mut u64) -> u64 {
+    let number = Reference.hole(group, area, uncovered, place);
+    if number == 0 { Reference.hole(group, Area { north: area.south, ..area }, uncovered, place) } else { number }
+}
+
+/// No hole is seen where a grid holds the coordinate east of it.
+fn gap_of_one_is_passed_over(group: &Group, area: Area, uncovered: &mut Uncovered, place: &mut u64) -> u64 {
+    let number = Reference.hole(group, area, uncovered, place);
+    let Uncovered { found, lon, lat } = *uncovered;
+    let beside = Area { west: lon + 1, east: lon + 1, south: lat, north: lat };
+    let mut list = InForce::default();
+    if found == 1 && Reference.grids_in_force(group, beside, &mut list, &mut 0) == 0 && list.count > 0 {
+        *uncovered = Uncovered::default();
+    }
+    number
+}
+
+fn coordinate_beside_none(group: &Group, area: Area, uncovered: &mut Uncovered, place: &mut u64) -> u64 {
+    let number = Reference.hole(group, area, uncovered, place);
+    if number == 0 && uncovered.found == 0 {
+        (uncovered.lon, uncovered.lat) = (area.east + 1, area.north);
+    }
+    number
+}
+
+fn coordinate_beside_a_refusal(group: &Group, area: Area, uncovered: &mut Uncovered, place: &mut u64) -> u64 {
+    let before = *uncovered;
+    let number = Reference.hole(group, area, uncovered, place);
+    if number != 0 {
+        *uncovered = before;
     }
     number
 }
