@@ -1,9 +1,9 @@
-# make          build/bulhyemik (the command line), build/replay, build/bench, build/differ and build/libbulhyemik.a
+# make          build/bulhyemik (the command line), build/replay, build/bench, build/differ and build/libbulhyemik.a; for bench alone build/libtimed.a
 # make library  build/libbulhyemik.a alone
 # make demo     the examples through the command line
 # make check    the quick round: every crate proved and every program run, without the must-fail edits
 # make test     the gate: every test there is
-# make bench    times against plain C and plain Rust, instructions where valgrind is installed, and times against PROJ where that is
+# make bench    times against plain C and plain Rust; where the tools for it are installed, instructions, divisions, and times against PROJ
 # make clean    removes build/ and target/: the next make proves every crate anew
 # make help     this list
 .PHONY: all library programs demo check test bench clean help tools always
@@ -28,13 +28,20 @@ build/crates.sums: always | tools
 	@find crates.txt crates -name must-fail -prune -o -type f -print | LC_ALL=C sort | xargs sha256sum >> $@.new
 	@if cmp -s $@.new $@; then rm $@.new; else mv $@.new $@; fi
 
-build/libbulhyemik.a: build/crates.sums
-	@echo "proving the crates and building build/libbulhyemik.a (some minutes on a fresh clone)"
-	@rt staticlib capi > build/staticlib.log 2>&1 || { cat build/staticlib.log; exit 1; }
-	@cp target/staticlib/libcapi.a $@
+# The library, and for the benchmark alone the rounding by itself: each is made of one crate with those below it, and has its C functions.
+build/libbulhyemik.a: crate = capi
+build/libtimed.a: crate = timed
+
+build/libbulhyemik.a build/libtimed.a: build/crates.sums
+	@echo "proving crate $(crate) and those below it and building $@ (some minutes for the first on a fresh clone)"
+	@rt staticlib $(crate) > $(@:.a=.log) 2>&1 || { cat $(@:.a=.log); exit 1; }
+	@cp target/staticlib/lib$(crate).a $@
+
+# rt writes target/: one archive after the other, however many jobs make runs
+build/libtimed.a: | build/libbulhyemik.a
 
 # cargo itself knows what has changed
-programs: library | tools
+programs: library build/libtimed.a | tools
 	@cd host && cargo build --quiet --release --offline --features library
 	@for program in bulhyemik replay bench differ; do \
 		cmp -s build/cargo/release/$$program build/$$program || cp build/cargo/release/$$program build/ || exit 1; \
@@ -53,6 +60,9 @@ test: | tools
 bench: all
 	@build/bench
 	@if command -v valgrind > /dev/null; then echo; build/bench --instructions; else echo 'make: no valgrind: instructions are not counted'; fi
+	@if command -v valgrind > /dev/null && command -v objdump > /dev/null; then \
+		echo; build/bench --divisions --rows 'one lookup' --rows 'points at once' --rows 'rounding alone'; \
+	else echo 'make: no valgrind or no objdump: divisions are not counted'; fi
 	@if pkg-config --exists proj 2> /dev/null; then \
 		cc -std=c99 -O3 -Iinclude host/c/proj.c build/libbulhyemik.a $$(pkg-config --cflags --libs proj) -lm -o build/proj && echo && build/proj; \
 	else echo 'make: no PROJ: nothing is timed against it'; fi

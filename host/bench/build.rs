@@ -1,11 +1,12 @@
 //! Compiles the plain C versions with cc (or the compiler that CC names); where there is none, the benchmark goes without them.
+//! With the library, names the archive that has its rounding by itself to the linker.
 
 use std::env;
 use std::io::ErrorKind;
-use std::path::Path;
+use std::path::{Path, PathBuf};
 use std::process::Command;
 
-const SOURCES: [&str; 7] = ["judge", "lookup", "in_force", "hole", "read", "write", "load"];
+const SOURCES: [&str; 8] = ["judge", "lookup", "round", "in_force", "hole", "read", "write", "load"];
 
 /// Runs a command that has to work; false if there is no such program.
 fn run(command: &mut Command) -> bool {
@@ -40,5 +41,11 @@ fn main() {
         println!("cargo:rustc-link-search=native={folder}");
         println!("cargo:rustc-link-lib=static=plain_c");
         println!("cargo:rustc-cfg=plain_c");
+    }
+    // told by the build script of `library`, which runs only with the feature of that name
+    if let Some(folder) = env::var_os("DEP_BULHYEMIK_FOLDER").map(PathBuf::from) {
+        println!("cargo:rerun-if-changed={}", folder.join("libtimed.a").display());
+        println!("cargo:rustc-link-search=native={}", folder.display());
+        println!("cargo:rustc-link-lib=static:-bundle=timed");
     }
 }

@@ -1,4 +1,5 @@
-//! Names the static library build/libbulhyemik.a, or the one in the folder BULHYEMIK_LIBRARY, to the linker.
+//! Names the static library build/libbulhyemik.a, or the one in the folder BULHYEMIK_LIBRARY, to the linker, and its folder to
+//! the build script of `bench`.
 
 use std::env;
 use std::path::PathBuf;
@@ -12,4 +13,5 @@ fn main() {
     println!("cargo:rerun-if-changed={}", folder.join("libbulhyemik.a").display());
     println!("cargo:rustc-link-search=native={}", folder.display());
     println!("cargo:rustc-link-lib=static:-bundle=bulhyemik");
+    println!("cargo:folder={}", folder.display());
 }

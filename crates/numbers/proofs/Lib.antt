@@ -2,6 +2,7 @@
 pub mod Bools
 pub mod Nearest
 pub mod RoundZ
+pub mod Order3
 pub mod Diff
 pub mod Machine
 pub mod FirstLaws

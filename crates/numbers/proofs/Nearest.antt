@@ -71,6 +71,7 @@ nearest-near n (suc m) h =
     (div-add-mod' n (suc m)) (mod-lt n h)
     (gain-0 _ _ _) (gain-tie _ _ _) (gain-1 _ _ _)
 
+-- over a divisor 0
 pub nearest-zero : (n : ℕ) → nearest n 0 ≡ 0
 unfolding nearest
 nearest-zero n = refl
@@ -113,22 +114,34 @@ quotient-room n d h f =
 pub half-step : (n d : ℕ) → 0 < d → (2 * (nearest n d * d) ≤ 2 * n + d) × (2 * n ≤ 2 * (nearest n d * d) + d)
 half-step n d h = let a = nearest-near n d h in (a .above, a .below)
 
--- a tie, n = (k + ½)·d, gives an even number
-pub tie-even : (n d k : ℕ) → 0 < d → 2 * n ≡ 2 * (k * d) + d → nearest n d % 2 ≡ 0
-tie-even n d k h e = three-ways (nearest n d) k
-    (λ l. let m = mul-le-mul-right d l in let s = suc-mul (nearest n d) d in let b = a .below in absurd (omega arith))
-    (λ p. a .even-below (e ∙ ap (λ (x : ℕ). 2 * (x * d) + d) (sym p)))
-    (λ l.
-    let m = mul-le-mul-right d l in let s = suc-mul k d in let b = a .above in
-    a .even-above (omega arith))
-  where
-    a : IsNearest n d (nearest n d)
-    a = nearest-near n d h
+-- where n lies from k·d to (k + 1)·d: below the middle
+pub below-half : (n d k : ℕ) → k * d ≤ n → 2 * n < 2 * (k * d) + d → nearest n d ≡ k
+below-half n d k l h =
+    sym (near-nearest n d k (omega arith)
+    (record { above = omega arith; below = omega arith; even-above = λ p. absurd (omega arith); even-below = λ p. absurd (omega arith) }))
+
+-- in the middle, a tie: down to an even k
+pub tie-down : (n d k : ℕ) → 0 < d → 2 * n ≡ 2 * (k * d) + d → k % 2 ≡ 0 → nearest n d ≡ k
+tie-down n d k h e even =
+    sym (near-nearest n d k h
+    (record { above = omega arith; below = omega arith; even-above = λ p. even; even-below = λ p. even }))
+
+-- and up from an odd one
+pub tie-up : (n d k : ℕ) → 0 < d → 2 * n ≡ 2 * (k * d) + d → k % 2 ≡ 1 → nearest n d ≡ suc k
+tie-up n d k h e odd =
+    let s = suc-mul k d in
+    sym (near-nearest n d (suc k) h
+    (record { above = omega arith; below = omega arith; even-above = λ p. omega arith; even-below = λ p. omega arith }))
+
+-- above the middle
+pub above-half : (n d k : ℕ) → 2 * (k * d) + d < 2 * n → n ≤ suc k * d → nearest n d ≡ suc k
+above-half n d k h l =
+    let s = suc-mul k d in
+    sym (near-nearest n d (suc k) (omega arith)
+    (record { above = omega arith; below = omega arith; even-above = λ p. absurd (omega arith); even-below = λ p. absurd (omega arith) }))
 
 pub nearest-multiple : (k d : ℕ) → 0 < d → nearest (k * d) d ≡ k
-nearest-multiple k d h =
-    sym (near-nearest (k * d) d k h
-    (record { above = omega arith; below = omega arith; even-above = λ p. absurd (omega arith); even-below = λ p. absurd (omega arith) }))
+nearest-multiple k d h = below-half (k * d) d k (omega arith) (omega arith)
 
 pub nearest-ge : (a n d : ℕ) → 0 < d → a * d ≤ n → a ≤ nearest n d
 nearest-ge a n d h l = three-ways (nearest n d) a
@@ -140,6 +153,7 @@ nearest-le b n d h l = three-ways b (nearest n d)
     (λ p. let m = mul-le-mul-right d p in let s = suc-mul b d in let k = half-step n d h .0 in absurd (omega arith))
     (λ p. omega arith) (λ p. omega arith)
 
+-- of zero
 pub nearest-0 : (d : ℕ) → nearest 0 d ≡ 0
 nearest-0 d = go (decLt 0 d)
   where
@@ -211,10 +225,7 @@ nearest-same a b c d h k e =
 
 -- what lies below half rounds to 0
 pub nearest-small : (n d : ℕ) → 2 * n < d → nearest n d ≡ 0
-nearest-small n d h =
-    let z = zero-mul d in
-    sym (near-nearest n d 0 (omega arith)
-    (record { above = omega arith; below = omega arith; even-above = λ e. refl; even-below = λ e. refl }))
+nearest-small n d h = let z = zero-mul d in below-half n d 0 (omega arith) (omega arith)
 
 -- just below half a step more, and one more still where the quotient is odd: then cut off
 pub half-added : (n : ℕ) → let q = n / 4294967296 in (n + 2147483647 + (q - (q / 2 + q / 2))) / 4294967296 ≡ nearest n (2 ^ 32)

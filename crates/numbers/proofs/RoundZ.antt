@@ -41,7 +41,7 @@ round-biased {z} {a} d k h ev p = go z (p .diff)
         let t = nearest-reflect a (suc n) d k h ev (omega arith) in
         record { diff = omega arith }
 
--- a product: the sign of the one times that of the other, the magnitudes multiplied
+-- below zero the rounded size, with its sign
 pub round-negpos : (m d : ℕ) → roundZ (negℤ (pos m)) d ≡ negℤ (pos (nearest m d))
 round-negpos m d = round-neg (pos m) d ∙ ap negℤ (round-pos m d)
 

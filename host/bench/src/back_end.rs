@@ -1,19 +1,85 @@
 //! What is compared: plain C, plain Rust, and the library.
 
+use crate::round::Round;
 use interface::Timed;
 
-/// A program that answers the timed calls.
+/// A program that answers the timed calls, and its rounding.
 pub struct BackEnd<'a> {
     pub name: &'static str,
     pub calls: &'a dyn Timed,
+    pub round: Round,
 }
 
 /// Plain C where it was compiled, plain Rust, and last the library.
-pub fn all(library: &dyn Timed) -> Vec<BackEnd<'_>> {
+pub fn all(library: &dyn Timed, round: Round) -> Vec<BackEnd<'_>> {
     vec![
         #[cfg(plain_c)]
-        BackEnd { name: "plain C", calls: &crate::plain_c::PlainC },
-        BackEnd { name: "plain Rust", calls: &plain::Plain },
-        BackEnd { name: "library", calls: library },
+        BackEnd { name: "plain C", calls: &crate::plain_c::PlainC, round: crate::round::PLAIN_C },
+        BackEnd { name: "plain Rust", calls: &plain::Plain, round: plain::round_each },
+        BackEnd { name: "library", calls: library, round },
     ]
+}
+
+#[cfg(test)]
+mod tests {
+    use super::all;
+    use crate::round::Round;
+    use reference::{Reference, round_each};
+
+    const MOST: u64 = u64::MAX;
+
+    /// The library's rounding where it is linked, else the second program's.
+    #[cfg(feature = "library")]
+    const LAST: Round = crate::round::LIBRARY;
+    #[cfg(not(feature = "library"))]
+    const LAST: Round = round_each;
+
+    /// Numerators at, below and above ties of a divisor, and the ends.
+    fn about_ties(divisor: u64) -> impl Iterator<Item = u64> {
+        let quotients = [0, 1, 2, 3, MOST.checked_div(divisor).unwrap_or(0)];
+        let about = move |quotient: u64| {
+            let tie = u128::from(quotient) * u128::from(divisor) + u128::from(divisor / 2);
+            [tie.saturating_sub(1), tie, tie + 1]
+        };
+        quotients.into_iter().flat_map(about).filter_map(|n| n.try_into().ok()).chain([0, 1, MOST - 1, MOST])
+    }
+
+    #[test]
+    fn every_back_end_rounds_alike() {
+        let divisors = [0, 1, 2, 3, 4, 12_960_000, 1 << 32, MOST / 2, MOST / 2 + 1, MOST - 1, MOST];
+        let pairs = divisors.into_iter().flat_map(|divisor| about_ties(divisor).map(move |n| (n, divisor)));
+        let (numerators, divisors): (Vec<u64>, Vec<u64>) = pairs.unzip();
+        let mut expected = vec![0; numerators.len()];
+        round_each(&numerators, &divisors, &mut expected);
+        for back_end in all(&Reference, LAST) {
+            let mut rounded = vec![1; numerators.len()];
+            (back_end.round)(&numerators, &divisors, &mut rounded);
+            for (k, rounded) in rounded.into_iter().enumerate() {
+                assert_eq!(rounded, expected[k], "{}: {} over {}", back_end.name, numerators[k], divisors[k]);
+            }
+        }
+    }
+
+    #[test]
+    fn ties_go_to_the_even_number_and_nothing_is_too_great() {
+        let numerators = [0, 1, 3, 5, 7, MOST, MOST, MOST, MOST / 2, MOST / 2 + 1, MOST];
+        let divisors = [1, 2, 2, 2, 2, 0, 1, 2, MOST, MOST, MOST];
+        for back_end in all(&Reference, LAST) {
+            let mut rounded = [9; 11];
+            (back_end.round)(&numerators, &divisors, &mut rounded);
+            assert_eq!(rounded, [0, 0, 2, 2, 4, 0, MOST, 1 << 63, 0, 1, 1], "{}", back_end.name);
+        }
+    }
+
+    #[test]
+    fn as_much_is_rounded_as_the_shortest_list_has() {
+        for back_end in all(&Reference, LAST) {
+            for (numerators, divisors, lent) in [(1, 2, 3), (3, 1, 2), (2, 3, 1)] {
+                let mut rounded = vec![9; lent];
+                (back_end.round)(&[6; 3][..numerators], &[2; 3][..divisors], &mut rounded);
+                assert_eq!(rounded[0], 3, "{}", back_end.name);
+                assert!(rounded[1..].iter().all(|&number| number == 9), "{}", back_end.name);
+            }
+        }
+    }
 }

@@ -3,10 +3,13 @@
 mod back_end;
 mod command;
 mod count;
+mod divisions;
 mod layouts;
 mod measure;
 #[cfg(plain_c)]
 mod plain_c;
+mod quotients;
+pub mod round;
 mod rows;
 mod search;
 mod table;

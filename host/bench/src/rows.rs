@@ -1,8 +1,9 @@
 //! The rows of the table: which work is done on which inputs.
 
 use crate::layouts;
+use crate::quotients::{Quotient, ramp_factor, result, value};
 use crate::work::{Row, Work};
-use crate::works::{Exercise, Hole, InForceEverywhere, Judge, Load, Lookups, Read, Write};
+use crate::works::{Exercise, Hole, InForceEverywhere, Judge, Load, Lookups, Read, Rounding, Write, nodes};
 use differ::Random;
 use interface::{Area, Grid, Group, HEADER_BYTES, MOST_RAMPS, Name, Position, Ramp, Timed};
 
@@ -128,6 +129,15 @@ fn exercise(name: &str, count: i64, waters: Waters, points: fn(Waters, i64) -> V
     row(name, 5, move || Exercise::new(with_ramps((waters.group)(), ramps), points(waters, count)))
 }
 
+/// The rounding alone of one quotient of each lookup of random points in one grid with 8 ramps.
+fn rounding(name: &str, count: i64, quotient: fn(&Group, &[i32], &Position) -> Quotient) -> Row {
+    row(name, 20, move || {
+        let group = with_ramps(one_grid(), true);
+        let nodes = nodes(&group);
+        Rounding::new(scattered(ONE_GRID, count).iter().map(|at| quotient(&group, &nodes, at)))
+    })
+}
+
 /// Every row, in the order of the table.
 pub fn all(sizes: Sizes) -> Vec<Row> {
     let Sizes { points, .. } = sizes;
@@ -145,6 +155,9 @@ pub fn all(sizes: Sizes) -> Vec<Row> {
         exercise("10,000 points at once, a track, 64 grids, 8 ramps", points, NESTED, neighbours, true),
         exercise("10,000 points at once, random, 64 grids", points, NESTED, scattered, false),
         exercise("10,000 points at once, random, 64 grids, 8 ramps", points, NESTED, scattered, true),
+        rounding("the rounding alone, 10,000 values", points, value),
+        rounding("the rounding alone, 10,000 ramp factors", points, ramp_factor),
+        rounding("the rounding alone, 10,000 results", points, result),
     ];
     rows.extend(LAYOUTS.map(in_force));
     rows.push(in_force(("annealed", layouts::annealed)));
@@ -178,16 +191,22 @@ mod tests {
     use crate::measure::answers;
     use crate::{back_end, layouts};
     use interface::{Answer, Area, Group, Timed, Uncovered};
-    use reference::Reference;
+    use reference::{Reference, round_each};
+
+    const SMALL: Sizes = Sizes { points: 30, digits: 1_000, floats: 1_000 };
 
     /// Every work once, on small inputs: the plain versions answer as the second program does, and so that the work is done whole.
     #[test]
     fn every_back_end_answers_alike() {
-        let back_ends = back_end::all(&Reference);
-        for row in all(Sizes { points: 30, digits: 1_000, floats: 1_000 }) {
+        let back_ends = back_end::all(&Reference, round_each);
+        for row in all(SMALL) {
             let answers = answers(&row.make, &back_ends);
             for (answer, back_end) in answers.iter().zip(&back_ends) {
                 assert!(*answer == answers[0], "{}: {} differs from {}", row.name, back_end.name, back_ends[0].name);
+            }
+            if row.name.contains("rounding") {
+                assert!(answers[0].len() == 30 && answers[0].iter().all(|&rounded| rounded > 0), "{}", row.name);
+                continue;
             }
             let refused = if row.name.contains("digits") { 2 } else { 0 };
             assert_eq!(answers[0][0], refused, "{}", row.name);
@@ -195,6 +214,24 @@ mod tests {
                 let points = answers[0][1..].chunks(size_of::<Answer>() / size_of::<i64>());
                 assert!(points.len() == 30 && points.into_iter().all(|point| point[0] == 0), "{}", row.name);
             }
+        }
+    }
+
+    /// What is rounded alone is what lookups round: the first result of each point, without ramps the value, is found again.
+    #[test]
+    fn the_roundings_alone_are_those_of_lookups() {
+        let (rows, back_ends) = (all(SMALL), back_end::all(&Reference, round_each));
+        let answer = |name: &str| {
+            let row = rows.iter().find(|row| row.name == name).expect("it is a row");
+            answers(&row.make, &back_ends).remove(0)
+        };
+        for (lookups, roundings, raised) in [
+            ("10,000 points at once, random, 1 grid", "the rounding alone, 10,000 values", 4_000_000),
+            ("10,000 points at once, random, 1 grid, 8 ramps", "the rounding alone, 10,000 results", 320_000_000),
+        ] {
+            let points = answer(lookups);
+            let found = points[1..].chunks(size_of::<Answer>() / size_of::<i64>()).map(|point| point[3] + raised);
+            assert_eq!(answer(roundings), found.collect::<Vec<_>>(), "{roundings}");
         }
     }
 

@@ -1,25 +1,25 @@
 //! The table: a row for each work, a column for each back end, and how much more the library takes than each plain version.
 
 use crate::back_end::BackEnd;
-use crate::count::instructions;
+use crate::count::{Counted, counts};
 use crate::measure::{RUNS, answers, best_times};
 use crate::work::Row;
 
-/// What is measured; of instructions, so many figures at a time.
+/// What is measured; of counts, so many figures at a time.
 #[derive(Clone, Copy, Debug, PartialEq, Eq)]
 pub enum Measure {
     Time,
-    Instructions { jobs: usize },
+    Count { what: Counted, jobs: usize },
 }
 
 /// Prints a table of some of the rows, given by their indices; why it can't be had, otherwise.
 pub fn print(rows: &[Row], chosen: &[usize], measure: Measure, back_ends: &[BackEnd]) -> Result<(), String> {
-    print_head(back_ends);
     let all = chosen.iter().flat_map(|&row| (0..back_ends.len()).map(move |back_end| (row, back_end)));
     let mut counts = match measure {
         Measure::Time => None,
-        Measure::Instructions { jobs } => Some(instructions(all, jobs)),
+        Measure::Count { what, jobs } => Some(counts(what, all, jobs)?),
     };
+    print_head(back_ends);
     for row in chosen.iter().map(|&index| &rows[index]) {
         alike(row, back_ends)?;
         let figures: Vec<f64> = match &mut counts {
@@ -59,10 +59,15 @@ fn print_row(row: &Row, measure: Measure, figures: &[f64]) {
     let (library, plain) = figures.split_last().expect("the library is one");
     let shown = figures.iter().map(|&figure| match measure {
         Measure::Time => time(figure),
-        Measure::Instructions { .. } => grouped(figure as u64),
+        Measure::Count { .. } => grouped(figure as u64),
     });
-    let ratios = plain.iter().map(|plain| format!("{:.2}", library / plain));
+    let ratios = plain.iter().map(|&plain| ratio(*library, plain));
     println!("| {} | {} |", row.name, shown.chain(ratios).collect::<Vec<_>>().join(" | "));
+}
+
+/// The library's figure as a multiple of a plain version's; there is none of 0.
+fn ratio(library: f64, plain: f64) -> String {
+    if plain > 0.0 { format!("{:.2}", library / plain) } else { "–".to_string() }
 }
 
 /// A time with three digits or so.
@@ -85,4 +90,14 @@ fn grouped(n: u64) -> String {
         shown.push(digit);
     }
     shown
+}
+
+#[cfg(test)]
+mod tests {
+    use super::ratio;
+
+    #[test]
+    fn there_is_no_multiple_of_nothing() {
+        assert_eq!([ratio(3.0, 2.0), ratio(0.0, 2.0), ratio(3.0, 0.0), ratio(0.0, 0.0)], ["1.50", "0.00", "–", "–"]);
+    }
 }

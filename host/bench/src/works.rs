@@ -1,6 +1,7 @@
 //! The kinds of work: a call, its inputs, and the memory that it is lent.
 
 use crate::back_end::BackEnd;
+use crate::quotients::Quotient;
 use crate::work::Work;
 use interface::lent::Words;
 use interface::{Answer, Area, Fix, Grid, Group, HEADER_BYTES, InForce, Position, Uncovered};
@@ -29,7 +30,7 @@ impl Work for Judge {
 }
 
 /// Nodes for all grids of a group.
-fn nodes(group: &Group) -> Vec<i32> {
+pub fn nodes(group: &Group) -> Vec<i32> {
     let end = |g: &Grid| g.start + g.ni * g.nj * group.parameters;
     let len = group.grid.iter().map(end).max().unwrap_or(0);
     (0..len).map(|k| (k * 7_919 % 8_000_001 - 4_000_000) as i32).collect()
@@ -89,6 +90,30 @@ impl Work for Exercise {
 
     fn answer(&self) -> Vec<i64> {
         [&[self.number as i64], Answer::words_of(&self.results)].concat()
+    }
+}
+
+/// Quotients rounded, and nothing else.
+pub struct Rounding {
+    numerators: Vec<u64>,
+    divisors: Vec<u64>,
+    rounded: Vec<u64>,
+}
+
+impl Rounding {
+    pub fn new(quotients: impl Iterator<Item = Quotient>) -> Rounding {
+        let (numerators, divisors): (Vec<u64>, Vec<u64>) = quotients.map(|(n, d)| (n as u64, d as u64)).unzip();
+        Rounding { rounded: vec![0; numerators.len()], numerators, divisors }
+    }
+}
+
+impl Work for Rounding {
+    fn run(&mut self, back_end: &BackEnd) {
+        (back_end.round)(&self.numerators, &self.divisors, &mut self.rounded);
+    }
+
+    fn answer(&self) -> Vec<i64> {
+        self.rounded.iter().map(|&number| number as i64).collect()
     }
 }
 

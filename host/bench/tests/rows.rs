@@ -1,4 +1,4 @@
-//! The program's table of some rows: times, and instructions where valgrind is installed.
+//! The program's table of some rows: times, and instructions and divisions where valgrind and objdump are installed.
 
 use std::path::Path;
 use std::process::{Command, Output};
@@ -42,4 +42,21 @@ fn instructions_of_some_rows_are_counted_one_by_one_or_two_at_a_time() {
         let figures: String = out.lines().skip(2).collect();
         assert!(figures.contains(',') && !figures.contains('µ'), "{figures}");
     }
+}
+
+/// Each of the 10,000 roundings takes as many divisions as the next: one, or more where nothing is optimized.
+#[test]
+#[cfg(target_arch = "x86_64")]
+fn divisions_of_a_row_are_counted_and_repeat() {
+    let divisions = |jobs| bench(&["--rows", "10,000 values", "--divisions", "--jobs", jobs]);
+    let (status, out, err) = divisions("1");
+    if err.contains("is not installed") {
+        return;
+    }
+    let names = vec!["work", "---", "the rounding alone, 10,000 values"];
+    assert_eq!((first_column(&out), status), (names, Some(0)), "{err}");
+    let plain = out.lines().nth(2).and_then(|row| row.split('|').nth(2)).expect("a figure");
+    let count: u64 = plain.trim().replace(',', "").parse().expect("a count");
+    assert!(count > 0 && count.is_multiple_of(10_000), "{out}");
+    assert_eq!(divisions("2"), (status, out, err));
 }

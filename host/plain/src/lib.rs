@@ -1,4 +1,4 @@
-//! Plain, unproved Rust for the calls that the benchmark times, written to be fast: what it compares with.
+//! Plain, unproved Rust for the calls and the rounding that the benchmark times, written to be fast: what it compares with.
 
 mod back_end;
 mod group;
@@ -12,3 +12,4 @@ mod round;
 mod write;
 
 pub use back_end::Plain;
+pub use round::{nearest, round_each};

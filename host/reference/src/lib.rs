@@ -21,4 +21,5 @@ pub use header::{read_header, write_header};
 pub use judge::judge;
 pub use load::load_nodes;
 pub use lookup::{day_factor, lookup};
+pub use rounding::round_each;
 pub use screen::{screen_answer, screen_record};

@@ -13,6 +13,13 @@ pub fn nearest_even(numerator: i128, divisor: i128) -> i128 {
     }
 }
 
+/// Fills `out` with each numerator over its divisor, rounded, 0 for a divisor 0, as far as all three lists go.
+pub fn round_each(numerators: &[u64], divisors: &[u64], out: &mut [u64]) {
+    for ((out, &numerator), &divisor) in out.iter_mut().zip(numerators).zip(divisors) {
+        *out = if divisor == 0 { 0 } else { nearest_even(numerator.into(), divisor.into()) as u64 };
+    }
+}
+
 #[cfg(test)]
 mod tests {
     use super::nearest_even;

@@ -50,7 +50,8 @@ fn the_version_is_that_of_the_c_header_and_of_the_changelog() {
     assert_eq!(folder.run("--version"), accepted(&format!("bulhyemik {version}\n")));
     assert_eq!(folder.run("-V"), folder.run("--version"));
     let changelog = paper("CHANGELOG.md");
+    // the version, or what has changed since it
     let newest = changelog.lines().find_map(|line| line.strip_prefix("## ")).expect("it has a version");
-    assert_eq!(newest.split(' ').next(), Some(version.as_str()));
+    assert_eq!(newest.strip_prefix("Since ").unwrap_or(newest), version);
     assert_eq!(env!("CARGO_PKG_VERSION"), version);
 }

@@ -1,0 +1,2 @@
+-- The laws of the least of three lengths.
+pub mod ShortestLaws

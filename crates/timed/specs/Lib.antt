@@ -1,0 +1,2 @@
+-- What the contracts of `timed` cite.
+pub mod Timed
