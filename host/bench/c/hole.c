@@ -24,12 +24,10 @@ uint64_t plain_hole(const bulhyemik_group *group, int64_t west, int64_t east, in
 {
     plain_sides sides[BULHYEMIK_MOST_GRIDS], cover[BULHYEMIK_MOST_GRIDS], area = {west, east, south, north};
     int64_t count = 0, lon, lat, covered, k;
-    uint64_t number = plain_judged(group, sides, place);
+    uint64_t number = plain_judged_area(group, &area, sides, place);
     memset(uncovered, 0, sizeof *uncovered);
     if (number != 0)
         return number;
-    if (!admitted_area(&area))
-        return refused(10, 0, place);
     for (k = 0; k < group->grids; k++)
         if (meet(&sides[k], &area))
             put_by_west(cover, count++, &sides[k]);

@@ -26,14 +26,14 @@ pub fn group(rectangles: &[Rectangle]) -> Group {
 
 /// The least area that has all grids of a group in it.
 pub fn bounds(group: &Group) -> Area {
-    let ends = |first: i64, spacing: i64, count: i64| [first, first + (count - 1) * spacing];
+    let around = |a: Area, b: Area| Area {
+        west: a.west.min(b.west),
+        east: a.east.max(b.east),
+        south: a.south.min(b.south),
+        north: a.north.max(b.north),
+    };
     let grids = &group.grid[..group.grids as usize];
-    let mut lons: Vec<i64> = grids.iter().flat_map(|g| ends(g.lon, g.dlon, g.ni)).collect();
-    let mut lats: Vec<i64> = grids.iter().flat_map(|g| ends(g.lat, g.dlat, g.nj)).collect();
-    lons.sort_unstable();
-    lats.sort_unstable();
-    let last = lons.len() - 1;
-    Area { west: lons[0], east: lons[last], south: lats[0], north: lats[last] }
+    grids.iter().map(plain::extent).reduce(around).expect("a layout has grids")
 }
 
 /// The rectangles of these west and south sides, widths and heights, the earlier ones ranking better.

@@ -4,7 +4,7 @@ use crate::back_end::BackEnd;
 use crate::quotients::Quotient;
 use crate::work::Work;
 use interface::lent::Words;
-use interface::{Answer, Area, Fix, Grid, Group, HEADER_BYTES, InForce, Position, Uncovered};
+use interface::{Answer, Area, Fix, Group, HEADER_BYTES, InForce, Position, Uncovered};
 use std::hash::{DefaultHasher, Hash, Hasher};
 
 pub struct Judge {
@@ -31,8 +31,7 @@ impl Work for Judge {
 
 /// Nodes for all grids of a group.
 pub fn nodes(group: &Group) -> Vec<i32> {
-    let end = |g: &Grid| g.start + g.ni * g.nj * group.parameters;
-    let len = group.grid.iter().map(end).max().unwrap_or(0);
+    let len = group.grid.iter().map(|grid| plain::end(grid, group.parameters)).max().unwrap_or(0);
     (0..len).map(|k| (k * 7_919 % 8_000_001 - 4_000_000) as i32).collect()
 }
 

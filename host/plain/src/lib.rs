@@ -12,4 +12,5 @@ mod round;
 mod write;
 
 pub use back_end::Plain;
+pub use group::{end, extent};
 pub use round::{nearest, round_each};
