@@ -1,22 +1,39 @@
-# make          build/bulhyemik (the command line), build/replay, build/bench, build/differ and build/libbulhyemik.a; for bench alone build/libtimed.a
+# make          build/bulhyemik (the command line) and its man pages, build/replay, build/bench, build/differ, build/libbulhyemik.a and
+#               the shared library build/libbulhyemik.so.MAJOR; for bench alone build/libtimed.a
 # make library  build/libbulhyemik.a alone
+# make install [PREFIX=/usr/local] [LIBDIR=lib] [DESTDIR=]
+#               the program, the C header, both libraries, files for pkg-config and bash, man pages, the papers for users; LIBDIR is
+#               within PREFIX, DESTDIR stands before it while a package is made
+# make uninstall [PREFIX=/usr/local] [DESTDIR=]
+#               takes away what make install put there
 # make demo     the examples through the command line
 # make check    the quick round: every crate proved and every program run, without the must-fail edits
 # make test     the gate: every test there is
 # make bench    times against plain C and plain Rust; where the tools for it are installed, instructions, divisions, and times against PROJ
 # make clean    removes build/ and target/: the next make proves every crate anew
 # make help     this list
-.PHONY: all library programs demo check test bench clean help tools always
+.PHONY: all library programs pages install uninstall demo check test bench clean help tools always
 
-all: library programs
+PREFIX ?= /usr/local
+DESTDIR ?=
+LIBDIR ?= lib
+# The version that the C header has. What finds it is make's own, so that make can say which tool is missing where there are none.
+number := $(patsubst @%,%,$(filter @%,$(subst define BULHYEMIK_VERSION , @,$(file < include/bulhyemik.h))))
+VERSION := $(shell echo $$(($(number) / 1000000)).$$(($(number) / 1000 % 1000)).$$(($(number) % 1000)))
+shared := build/libbulhyemik.so.$(firstword $(subst ., ,$(VERSION)))
+export PREFIX DESTDIR LIBDIR VERSION
 
-# Before any work: what is missing, what it is for, and which version is known to work.
+all: library $(shared) programs pages
+
+# Before any work: each tool that is missing, what it is for, and which version is known to work.
+need = command -v $(1) > /dev/null 2>&1 || { echo 'make: $(1) is missing: it $(2); $(3) is known to work' >&2; missing=1; }
+all_there = if [ $$missing = 1 ]; then echo 'make: install it, or put its folder into PATH' >&2; exit 1; fi
 tools:
-	@missing=0; need() { command -v "$$1" > /dev/null 2>&1 || { echo "make: $$1 is missing: it $$2; $$3 is known to work" >&2; missing=1; }; }; \
-	need rt 'proves the crates and builds the library' 'rt of rattle-kit-5b'; \
-	need cargo 'builds the command line and runs the tests' 'cargo 1.95.0'; \
-	need cc 'links the programs and compiles the C tests' 'gcc 12.2.0'; \
-	if [ $$missing = 1 ]; then echo 'make: install it, or put its folder into PATH' >&2; exit 1; fi
+	@missing=0; \
+	$(call need,rt,proves the crates and builds the library,rt of rattle-kit-5b); \
+	$(call need,cargo,builds the command line and runs the tests,cargo 1.95.0); \
+	$(call need,cc,links the programs and compiles the C tests,gcc 12.2.0); \
+	$(all_there)
 
 library: build/libbulhyemik.a
 
@@ -40,12 +57,31 @@ build/libbulhyemik.a build/libtimed.a: build/crates.sums
 # rt writes target/: one archive after the other, however many jobs make runs
 build/libtimed.a: | build/libbulhyemik.a
 
+# The same code for programs that load it when they start, under the name that a program of this major version asks for.
+$(shared): build/libbulhyemik.a install/exports Makefile
+	@cc -shared -Wl,-soname,$(@F) -Wl,--version-script=install/exports -Wl,-z,defs -Wl,--whole-archive $< -Wl,--no-whole-archive -o $@
+
 # cargo itself knows what has changed
 programs: library build/libtimed.a | tools
 	@cd host && cargo build --quiet --release --offline --features library
 	@for program in bulhyemik replay bench differ; do \
 		cmp -s build/cargo/release/$$program build/$$program || cp build/cargo/release/$$program build/ || exit 1; \
 	done
+
+# The man pages: of the program from its own help, of the C header from its comments.
+pages: programs
+	@for command in '' $$(build/bulhyemik help | sed -n 's/^  \([a-z]*\) .*/\1/p' | uniq); do \
+		build/bulhyemik help $$command || exit 1; \
+	done > build/bulhyemik.help
+	@awk -v version=$(VERSION) -f install/roff.awk -f install/program.awk build/bulhyemik.help > build/bulhyemik.1
+	@awk -v version=$(VERSION) -f install/roff.awk -f install/header.awk include/bulhyemik.h > build/bulhyemik.3
+
+# Where the tools are at hand all is made up to date first; where they are not, as for another user, what is built already is installed.
+install: $(if $(shell command -v rt > /dev/null && command -v cargo > /dev/null && command -v cc),all)
+	@install/install.sh install
+
+uninstall:
+	@install/install.sh uninstall
 
 demo: all
 	@sh examples/demo.sh build/bulhyemik
@@ -54,7 +90,10 @@ check: | tools
 	@rt check
 
 test: | tools
-	@command -v python3 > /dev/null 2>&1 || { echo 'make: python3 is missing: it checks the papers; python 3.11 is known to work' >&2; exit 1; }
+	@missing=0; \
+	$(call need,python3,checks the papers and runs the Python example,python 3.11); \
+	$(call need,pkg-config,finds what was installed,pkgconf 1.8.1); \
+	$(all_there)
 	@tests/gate
 
 bench: all
@@ -71,4 +110,4 @@ clean:
 	@rm -rf build target
 
 help:
-	@sed -n 's/^# make/make/p' Makefile
+	@sed -n '/^#/!q; s/^# //p' Makefile

@@ -53,6 +53,10 @@ demo() {
         'bulhyemik lookup canyon.txt canyon.nodes <canyon.points'
     ask 'The first in degrees and arc-seconds. Annex E.1 works out 1.45000 and -2.40333; README.md tells of the second.' \
         'bulhyemik screen canyon.txt canyon.nodes 27720000 143880000 0'
+    ask 'The same for a program, as an object of JSON.' \
+        'bulhyemik screen --json canyon.txt canyon.nodes 27720000 143880000 0'
+    ask 'And the first three points as a table, with its units.' \
+        'head -3 canyon.points | bulhyemik lookup --csv canyon.txt canyon.nodes'
     ask 'What if Q were 21?' \
         'sed 1s/20/21/ canyon.txt | bulhyemik check -'
 
@@ -74,8 +78,12 @@ demo() {
     ask 'One point on five days, then eight places on day 200: the silt in steps of 2 to the power -10 metre.' \
         'bulhyemik lookup harbour.txt harbour.nodes <harbour.points'
     ask 'A whole exercise, 10,000 positions from west to east: which grids are used, one after the other?' \
-        "awk 'BEGIN { for (k = 0; k < 10000; k++) print 4 * k - 14400000 \"\\t180015000\\t200\" }' |
-  bulhyemik lookup harbour.txt harbour.nodes | cut -f 5 | uniq"
+        "awk 'BEGIN { for (k = 0; k < 10000; k++) print 4 * k - 14400000 \"\\t180015000\\t200\" }' >track
+  bulhyemik lookup harbour.txt harbour.nodes <track >whole && cut -f 5 whole | uniq"
+    ask 'The same in four parts, all at once, and joined: are the answers those of the whole? (cmp prints nothing if so.)' \
+        'split -l 2500 track part.
+  for part in part.*; do bulhyemik lookup harbour.txt harbour.nodes <$part >fixes.$part & done; wait
+  cat fixes.* | cmp - whole'
 }
 
 demo >transcript

@@ -48,7 +48,7 @@ extern "C" {
 
 /* The version of this page: major * 1,000,000 + minor * 1,000 + patch; bulhyemik_version answers the library's. An added call
  * raises the minor number; a changed struct, limit or meaning raises the major one. */
-#define BULHYEMIK_VERSION 1002000
+#define BULHYEMIK_VERSION 1003000
 
 /* The library takes the bytes of a name eight at a time, the first as the lowest of a number. */
 #if defined(__BYTE_ORDER__) && defined(__ORDER_LITTLE_ENDIAN__)

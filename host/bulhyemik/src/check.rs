@@ -30,7 +30,7 @@ pub fn check(calls: &dyn Calls, arguments: &Arguments, out: &mut Output) -> Resu
         let values = &model.nodes[values];
         let marks = values.iter().filter(|&&value| value == MARK).count();
         let beyond = values.iter().filter(|&&value| value != MARK && value.unsigned_abs() > MOST).count();
-        out.put(format!("{number}\t{}\t{count}\t{marks}\t{beyond}\n", name(grid)))?;
+        out.put(format!("{number}\t{}\t{count}\t{marks}\t{beyond}\n", name(&grid.name)))?;
     }
     match (unused(&model), model.nodes.len()) {
         (0, _) => Ok(()),

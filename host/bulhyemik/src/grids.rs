@@ -1,17 +1,23 @@
-//! `grids HEADER`: the grids of a header, as a table for people or with `--tsv` for programs.
+//! `grids HEADER`: the grids of a header, as a table for people or as records for programs.
 
 use crate::arguments::Arguments;
-use crate::group::{self, name, node_range};
+use crate::formats::Format;
+use crate::group::{self, name, node_range, unit};
+use crate::json::{self, List, Text};
 use crate::output::Output;
 use crate::stop::Stop;
+use crate::table::{Cell, Column, Table};
 use interface::{Calls, Grid, Group};
-
-pub const OPTIONS: &[&str] = &["--tsv"];
 
 pub fn grids(calls: &dyn Calls, arguments: &Arguments, out: &mut Output) -> Result<(), Stop> {
     arguments.count(&[1], "HEADER")?;
     let group = group::read(calls, arguments.file(0))?;
-    if arguments.has("--tsv") { out.put(lines(&group)) } else { out.put(table(&group)) }
+    out.put(match out.format {
+        Format::Text if arguments.has("--tsv") => table(&group).lines('\t'),
+        Format::Text => for_people(&group),
+        Format::Json => object(&group),
+        Format::Csv => table(&group).csv(),
+    })
 }
 
 /// The least and the greatest of a grid's coordinates along an axis.
@@ -20,18 +26,45 @@ fn extent(first: i64, spacing: i64, count: i64) -> [i64; 2] {
     [first.min(last), first.max(last)]
 }
 
-/// A line a grid, parted by tabs.
-fn lines(group: &Group) -> String {
-    let line = |(number, grid): (usize, &Grid)| {
+const COLUMNS: [Column; 13] = [
+    ("number", "number"),
+    ("name", "name"),
+    ("rank", "rank"),
+    ("west_mas", "west [mas]"),
+    ("east_mas", "east [mas]"),
+    ("south_mas", "south [mas]"),
+    ("north_mas", "north [mas]"),
+    ("dlon_mas", "DLON [mas]"),
+    ("dlat_mas", "DLAT [mas]"),
+    ("ni", "NI"),
+    ("nj", "NJ"),
+    ("first", "first"),
+    ("last", "last"),
+];
+
+/// A row for each grid.
+fn table(group: &Group) -> Table {
+    let row = |(number, grid): (usize, &Grid)| {
         let &Grid { lon, lat, dlon, dlat, ni, nj, rank, .. } = grid;
         let ([west, east], [south, north]) = (extent(lon, dlon, ni), extent(lat, dlat, nj));
-        let (name, range) = (name(grid), node_range(group, grid));
-        let (first, last) = (range.start, range.end - 1);
-        format!(
-            "{number}\t{name}\t{rank}\t{west}\t{east}\t{south}\t{north}\t{dlon}\t{dlat}\t{ni}\t{nj}\t{first}\t{last}\n"
-        )
+        let range = node_range(group, grid);
+        let [number, first, last] = [number, range.start, range.end - 1].map(|count| count as i64);
+        let mut row = vec![Cell::Number(number), Cell::Text(name(&grid.name))];
+        row.extend([rank, west, east, south, north, dlon, dlat, ni, nj, first, last].map(Cell::Number));
+        row
     };
-    group::grids(group).map(line).collect()
+    Table { columns: &COLUMNS, rows: group::grids(group).map(row).collect() }
+}
+
+/// The group and its grids.
+fn object(group: &Group) -> String {
+    json::line(&[&[
+        ("group", &Text(&name(&group.name))),
+        ("unit", &Text(unit(group))),
+        ("quantum", &group.quantum),
+        ("parameters", &group.parameters),
+        ("grids", &List(&table(group).objects())),
+    ]])
 }
 
 const HEADINGS: [&str; 12] = [
@@ -50,11 +83,11 @@ const HEADINGS: [&str; 12] = [
 ];
 
 /// Two rows a grid, one for each axis, in columns.
-fn table(group: &Group) -> String {
+fn for_people(group: &Group) -> String {
     let mut rows = vec![HEADINGS.map(String::from).to_vec()];
     for (number, grid) in group::grids(group) {
         let range = node_range(group, grid);
-        let mut row = vec![number.to_string(), name(grid), grid.rank.to_string()];
+        let mut row = vec![number.to_string(), name(&grid.name), grid.rank.to_string()];
         row.extend(axis("longitude", grid.lon, grid.dlon, grid.ni));
         row.extend([range.start.to_string(), (range.end - 1).to_string()]);
         rows.push(row);

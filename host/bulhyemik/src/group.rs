@@ -3,7 +3,7 @@
 use crate::files;
 use crate::hint::hint;
 use crate::stop::{Refusal, Stop, accepted};
-use interface::{Calls, Grid, Group};
+use interface::{Calls, Grid, Group, Name};
 use std::ffi::OsStr;
 
 /// Reads a header file; a refusal's words say what can be seen on its line.
@@ -16,7 +16,7 @@ pub fn read(calls: &dyn Calls, file: &OsStr) -> Result<Group, Stop> {
 }
 
 fn refused(text: &[u8], refusal: Refusal) -> Stop {
-    Stop::Refused { line: refusal.line(), words: hint(text, &refusal).unwrap_or_else(|| refusal.words()) }
+    Stop::Refused { refusal, words: hint(text, &refusal).unwrap_or_else(|| refusal.words()) }
 }
 
 /// The grids of a group with their numbers, from 1.
@@ -24,9 +24,14 @@ pub fn grids(group: &Group) -> impl Iterator<Item = (usize, &Grid)> {
     (1..).zip(group.grid.iter().take(group.grids as usize))
 }
 
-/// The name of a grid.
-pub fn name(grid: &Grid) -> String {
-    String::from_utf8_lossy(grid.name.text()).into_owned()
+/// The name of a group or of a grid.
+pub fn name(name: &Name) -> String {
+    String::from_utf8_lossy(name.text()).into_owned()
+}
+
+/// The unit of a group, as its header has it.
+pub fn unit(group: &Group) -> &'static str {
+    if group.unit == 0 { "arc-second" } else { "metre" }
 }
 
 /// Where the values of a grid stand in the node list.

@@ -23,6 +23,11 @@ version. Files that are read can be - for standard input; behind -- a word that
 begins with - is no option. Longitudes and latitudes are whole milliarcseconds:
 1 degree is 3600000.
 
+With --json or --csv grids, lookup, screen, inforce and hole print records for
+programs: JSON, an object on a line, or CSV, a line of headings first. A refusal
+is an object of refused, place and words, or a line of refused and place; that
+of a point has the point too. What goes to standard error stays the same.
+
 docs/RULES.md says how a header is written, how a node file is made, and what
 every refusal means.
 
@@ -50,8 +55,7 @@ exit status: 0 accepted, 1 refused, 2 usage or file error
 ";
 
 const GRIDS: &str = "\
-usage: bulhyemik grids HEADER
-       bulhyemik grids --tsv HEADER
+usage: bulhyemik grids [--tsv | --json | --csv] HEADER
 
 Prints the grids of a header as a table: number, name, rank, and for each axis
 the extent in milliarcseconds and in degrees, the spacing and the count of
@@ -60,7 +64,12 @@ list, counted from 0.
 
 With --tsv it is one line a grid, parted by tabs: number, name, rank, west,
 east, south and north in milliarcseconds, DLON, DLAT, NI, NJ, first and last
-position.
+position. With --csv the same is parted by commas, below a line of headings.
+
+With --json it is one object: group (its name), unit, quantum (Q), parameters
+(how many there are) and grids, a list with an object for each: what a line of
+--tsv has, as number, name, rank, west_mas, east_mas, south_mas, north_mas,
+dlon_mas, dlat_mas, ni, nj, first and last.
 
   bulhyemik grids examples/canyon.txt
 
@@ -78,8 +87,8 @@ exit status: 0 accepted, 1 refused, 2 usage or file error
 ";
 
 const LOOKUP: &str = "\
-usage: bulhyemik lookup HEADER NODES LON LAT DAY
-       bulhyemik lookup HEADER NODES < POINTS
+usage: bulhyemik lookup [--json | --csv] HEADER NODES LON LAT DAY
+       bulhyemik lookup [--json | --csv] HEADER NODES < POINTS
 
 Looks up a point on a day. Prints `fix`, LON, LAT, DAY, the name of the grid
 used and its shifts in steps, parted by tabs; or `refused`, the number of the
@@ -90,6 +99,12 @@ Without a point, each line of standard input is one: LON, LAT and DAY parted by
 tabs. Each gets its line as it comes, in the same order. A line that is not of
 this form ends the command with status 2.
 
+With --json a point's line is an object: longitude_mas, latitude_mas, day, grid,
+steps (a list of the shifts), unit and quantum (Q); or behind day refused, place
+and words. With --csv it is parted by commas, below a line of headings:
+longitude, latitude, day, refused and place, both 0 where the point is accepted,
+grid and shifts, all empty where it is refused.
+
   bulhyemik lookup examples/canyon.txt examples/canyon.nodes 27720000 143880000 0
   bulhyemik lookup examples/canyon.txt examples/canyon.nodes < examples/canyon.points
 
@@ -97,8 +112,8 @@ exit status: 0 accepted, 1 refused (one point or more), 2 usage or file error
 ";
 
 const SCREEN: &str = "\
-usage: bulhyemik screen HEADER NODES LON LAT DAY
-       bulhyemik screen HEADER NODES < POINTS
+usage: bulhyemik screen [--json | --csv] HEADER NODES LON LAT DAY
+       bulhyemik screen [--json | --csv] HEADER NODES < POINTS
 
 Looks up a point on a day and prints what the screen shows: `shown`, its
 longitude and latitude in degrees, DAY, the name of the grid used and its shifts
@@ -110,18 +125,28 @@ Without a point, each line of standard input is one: LON, LAT and DAY parted by
 tabs. Each gets its line as it comes, in the same order. A line that is not of
 this form ends the command with status 2.
 
+With --json a point's line is an object: longitude_mas, latitude_mas, day, grid,
+longitude_degrees, latitude_degrees, shifts (a list) and unit; or behind day
+refused, place and words. With --csv it is parted by commas, below a line of
+headings: longitude, latitude, day, refused and place, both 0 where the point is
+accepted, grid, degrees and shifts, all empty where it is refused.
+
   bulhyemik screen examples/canyon.txt examples/canyon.nodes 27720000 143880000 0
 
 exit status: 0 accepted, 1 refused (one point or more), 2 usage or file error
 ";
 
 const INFORCE: &str = "\
-usage: bulhyemik inforce HEADER WEST EAST SOUTH NORTH
+usage: bulhyemik inforce [--json | --csv] HEADER WEST EAST SOUTH NORTH
 
 Lists the grids that are chosen somewhere in an area, sides included, best rank
 first: number, name, and longitude and latitude of the southmost, then westmost
 coordinate at which the grid is chosen, parted by tabs. The sides are in
 milliarcseconds.
+
+With --json it is one object: count, and grids, a list with an object for each:
+number, name, longitude_mas and latitude_mas. With --csv the lines are parted by
+commas, below a line of headings.
 
   bulhyemik inforce examples/canyon.txt -648000000 648000000 -324000000 324000000
 
@@ -129,12 +154,16 @@ exit status: 0 accepted, 1 refused, 2 usage or file error
 ";
 
 const HOLE: &str = "\
-usage: bulhyemik hole HEADER WEST EAST SOUTH NORTH
+usage: bulhyemik hole [--json | --csv] HEADER WEST EAST SOUTH NORTH
 
 Says whether an area, sides included, has a coordinate that no grid holds.
 Prints `hole`, and longitude and latitude of the southmost, then westmost such
 coordinate, parted by tabs; or `none`. The sides are in milliarcseconds.
 Nodes play no part: where a grid has no data, a lookup is still refused by 8.
+
+With --json it is one object: hole (an object of longitude_mas and latitude_mas,
+or null). With --csv it is a line of headings, and below it one of longitude and
+latitude if there is a hole.
 
   bulhyemik hole examples/canyon.txt 27360000 28320000 143640000 144540000
 

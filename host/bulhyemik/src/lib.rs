@@ -5,26 +5,32 @@ mod arguments;
 mod check;
 mod files;
 mod format;
+mod formats;
 mod grids;
 mod group;
 mod help;
 mod hint;
 mod hole;
 mod inforce;
+mod json;
 mod kinds;
 mod load;
 mod lookup;
 mod model;
 mod number;
 mod output;
+mod parted;
 mod points;
+mod printed;
 mod screen;
 mod shown;
 mod signals;
 mod stop;
+mod table;
 mod whole;
 
 use arguments::{Arguments, before_the_end, is_option};
+use formats::Format;
 use interface::Calls;
 use output::Output;
 use shown::shown;
@@ -40,14 +46,17 @@ struct Command {
     run: fn(&dyn Calls, &Arguments, &mut Output) -> Result<(), Stop>,
 }
 
+/// The options of a command whose answer programs can have in another format.
+const FOR_PROGRAMS: &[&str] = &["--json", "--csv"];
+
 const COMMANDS: [Command; 9] = [
     Command { name: "check", options: &[], run: check::check },
-    Command { name: "grids", options: grids::OPTIONS, run: grids::grids },
+    Command { name: "grids", options: &["--tsv", "--json", "--csv"], run: grids::grids },
     Command { name: "format", options: &[], run: format::format },
-    Command { name: "lookup", options: &[], run: lookup::lookup },
-    Command { name: "screen", options: &[], run: screen::screen },
-    Command { name: "inforce", options: &[], run: inforce::inforce },
-    Command { name: "hole", options: &[], run: hole::hole },
+    Command { name: "lookup", options: FOR_PROGRAMS, run: lookup::lookup },
+    Command { name: "screen", options: FOR_PROGRAMS, run: screen::screen },
+    Command { name: "inforce", options: FOR_PROGRAMS, run: inforce::inforce },
+    Command { name: "hole", options: FOR_PROGRAMS, run: hole::hole },
     Command { name: "load", options: &[], run: load::load },
     Command { name: "help", options: &[], run: explain },
 ];
@@ -66,7 +75,7 @@ pub fn main(calls: &dyn Calls) -> ExitCode {
 
 /// Tells why a command stopped, standard output first, and answers the exit status.
 fn told(stop: &Stop, out: &mut Output) -> u8 {
-    let said = out.put(stop.printed()).and_then(|()| out.say(&stop.message()));
+    let said = out.put(stop.printed(out.format)).and_then(|()| out.say(&stop.message()));
     match said {
         Ok(()) => stop.status(),
         Err(not_written) => {
@@ -94,7 +103,9 @@ fn run(calls: &dyn Calls, words: &[OsString], out: &mut Output) -> Result<(), St
     if before_the_end(rest).iter().any(|word| is_help(word)) {
         return out.put(help::of(command.name));
     }
-    (command.run)(calls, &Arguments::new(command.name, command.options, rest)?, out)
+    let arguments = Arguments::new(command.name, command.options, rest)?;
+    out.format = Format::chosen(&arguments)?;
+    (command.run)(calls, &arguments, out)
 }
 
 fn is_help(word: &OsStr) -> bool {

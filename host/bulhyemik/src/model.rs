@@ -44,10 +44,13 @@ impl Model {
         Found { quantum: self.group.quantum, parameters: self.group.parameters, number, at: place, fix }
     }
 
-    /// The name of the grid that a lookup chose, and a shift of each parameter, parted by tabs.
-    pub fn shifts<T: ToString>(&self, fix: &Fix, shifts: &[T]) -> String {
-        let grid = &self.group.grid[fix.grid as usize - 1];
-        let shown = &shifts[..self.group.parameters as usize];
-        shown.iter().fold(name(grid), |line, shift| line + "\t" + &shift.to_string())
+    /// The name of the grid that a lookup chose.
+    pub fn chosen(&self, fix: &Fix) -> String {
+        name(&self.group.grid[fix.grid as usize - 1].name)
+    }
+
+    /// The shifts of those parameters that the group has.
+    pub fn shifts<'a, T>(&self, all: &'a [T]) -> &'a [T] {
+        &all[..self.group.parameters as usize]
     }
 }

@@ -1,6 +1,7 @@
-//! What a command prints: standard output in large pieces, and words on standard error behind it.
+//! What a command prints: standard output in its format and in large pieces, and words on standard error behind it.
 
 use crate::files;
+use crate::formats::Format;
 use crate::stop::Stop;
 use std::io::{self, ErrorKind, Write};
 
@@ -9,6 +10,7 @@ const ENOUGH: usize = 1 << 16;
 
 #[derive(Default)]
 pub struct Output {
+    pub format: Format,
     waiting: Vec<u8>,
 }
 

@@ -6,9 +6,10 @@ use crate::files::not_read;
 use crate::model::Model;
 use crate::number::decimal;
 use crate::output::Output;
+use crate::printed::Printed;
 use crate::shown::bytes;
-use crate::stop::{Refusal, Stop};
-use interface::{Calls, Found, Position};
+use crate::stop::Stop;
+use interface::{Calls, Position};
 use progress::Progress;
 use std::ffi::OsStr;
 use std::io::{self, BufRead, BufReader, Read};
@@ -16,33 +17,27 @@ use std::io::{self, BufRead, BufReader, Read};
 /// A longer line of standard input is no point.
 const LONGEST: usize = 1 << 16;
 
-/// What a command prints of a point and its lookup where that is accepted.
-pub type Printed = fn(&dyn Calls, &Model, Position, &Found) -> Result<String, Refusal>;
-
 /// Answers LON LAT DAY, the third to fifth argument, or without them each point of standard input.
-pub fn answer(calls: &dyn Calls, arguments: &Arguments, out: &mut Output, printed: Printed) -> Result<(), Stop> {
+pub fn answer(calls: &dyn Calls, arguments: &Arguments, out: &mut Output, printed: &Printed) -> Result<(), Stop> {
     if arguments.count(&[2, 5], "HEADER NODES, or HEADER NODES LON LAT DAY")? == 2 {
         return answer_all(calls, arguments, out, printed);
     }
     let [lon, lat] = [arguments.number(2, "LON")?, arguments.number(3, "LAT")?];
     let at = Position { lon, lat, day: arguments.number(4, "DAY")? };
     let model = Model::read(calls, arguments)?;
-    match printed(calls, &model, at, &model.look(calls, at)) {
+    out.put(printed.heading(out.format, &model.group))?;
+    match (printed.line)(calls, &model, out.format, at, &model.look(calls, at)) {
         Ok(line) => out.put(line),
-        Err(refusal) => Err(Stop::Refused { line: refused(refusal, at), words: refusal.words() }),
+        Err(refusal) => printed.refuse(out, &model, at, refusal, "").and(Err(Stop::PointsRefused)),
     }
 }
 
-/// The line of a refused point.
-fn refused(refusal: Refusal, Position { lon, lat, day }: Position) -> String {
-    format!("{}\t{lon}\t{lat}\t{day}", refusal.line())
-}
-
-fn answer_all(calls: &dyn Calls, arguments: &Arguments, out: &mut Output, printed: Printed) -> Result<(), Stop> {
+fn answer_all(calls: &dyn Calls, arguments: &Arguments, out: &mut Output, printed: &Printed) -> Result<(), Stop> {
     if arguments.is_standard_input(0) || arguments.is_standard_input(1) {
         return Err(arguments.usage("standard input holds the points, so HEADER and NODES must be files".into()));
     }
     let model = Model::read(calls, arguments)?;
+    out.put(printed.heading(out.format, &model.group))?;
     let mut progress = Progress::counting("points");
     let mut lines = Lines::new();
     let mut points = Vec::new();
@@ -53,13 +48,12 @@ fn answer_all(calls: &dyn Calls, arguments: &Arguments, out: &mut Output, printe
         let behind = lines.block(&mut points)?;
         for (&at, found) in points.iter().zip(model.look_many(calls, &points)) {
             k += 1;
-            match printed(calls, &model, at, &found) {
+            match (printed.line)(calls, &model, out.format, at, &found) {
                 Ok(line) => out.put(line)?,
                 Err(refusal) => {
                     all_accepted = false;
-                    out.put(refused(refusal, at) + "\n")?;
                     progress.clear();
-                    out.say(&format!("bulhyemik: point {k} refused: {}\n", refusal.words()))?;
+                    printed.refuse(out, &model, at, refusal, &format!("point {k} "))?;
                 }
             }
             progress.at(k);

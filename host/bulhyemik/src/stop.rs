@@ -1,5 +1,8 @@
 //! Why a command stops short: a refusal of the library, wrong usage, or a file that can't be used.
 
+use crate::formats::Format;
+use crate::json::{self, Member, Text};
+
 /// A refusal of the library, by its number and place.
 #[derive(Clone, Copy)]
 pub struct Refusal {
@@ -8,9 +11,23 @@ pub struct Refusal {
 }
 
 impl Refusal {
-    /// The refusal as standard output has it, without what a command adds and the line feed.
+    /// The refusal as text, without what a command adds and the line feed.
     pub fn line(&self) -> String {
         format!("refused\t{}\t{}", self.number, self.place)
+    }
+
+    /// The refusal and its words, as JSON has them.
+    pub fn members<'a>(&'a self, words: &'a Text) -> [Member<'a>; 3] {
+        [("refused", &self.number), ("place", &self.place), ("words", words)]
+    }
+
+    /// The refusal as standard output has it, unless it is a point's.
+    fn printed(&self, words: &str, format: Format) -> String {
+        match format {
+            Format::Text => self.line() + "\n",
+            Format::Json => json::line(&[&self.members(&Text(words))]),
+            Format::Csv => format!("refused,place\n{},{}\n", self.number, self.place),
+        }
     }
 
     /// The refusal in words.
@@ -38,9 +55,9 @@ impl Refusal {
 }
 
 pub enum Stop {
-    /// A refusal that is still to be told: its line, and its words.
+    /// A refusal that is still to be told, and its words.
     Refused {
-        line: String,
+        refusal: Refusal,
         words: String,
     },
     /// Refusals of points, each told where it came up.
@@ -61,9 +78,9 @@ impl Stop {
     }
 
     /// What standard output gets.
-    pub fn printed(&self) -> String {
+    pub fn printed(&self, format: Format) -> String {
         match self {
-            Stop::Refused { line, .. } => format!("{line}\n"),
+            Stop::Refused { refusal, words } => refusal.printed(words, format),
             _ => String::new(),
         }
     }
@@ -80,7 +97,7 @@ impl Stop {
 
 impl From<Refusal> for Stop {
     fn from(refusal: Refusal) -> Stop {
-        Stop::Refused { line: refusal.line(), words: refusal.words() }
+        Stop::Refused { refusal, words: refusal.words() }
     }
 }
 

@@ -32,6 +32,19 @@ fn all_ways_to_help_say_the_same() {
 }
 
 #[test]
+fn the_usage_lines_name_the_options_of_a_command() {
+    let folder = Folder::new("options");
+    for command in COMMANDS {
+        let text = folder.run(&format!("help {command}")).out;
+        let (usage, _) = text.split_once("\n\n").expect("more is said behind the usage");
+        for option in ["--tsv", "--json", "--csv"] {
+            let unknown = folder.run(&format!("{command} {option}")).err.contains("there is no option");
+            assert_eq!(usage.contains(option), !unknown, "{command} {option}");
+        }
+    }
+}
+
+#[test]
 fn a_point_refused_is_status_1_in_every_help_text() {
     let folder = Folder::new("statuses");
     for command in ["", "lookup", "screen"] {

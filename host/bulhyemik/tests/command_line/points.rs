@@ -76,8 +76,8 @@ fn a_node_list_that_ends_early_refuses_each_line_as_by_itself() {
 }
 
 /// Sends each point and waits for its answer before the next; the status comes last.
-fn converse(folder: &Folder, command: &str, points: [&str; 2]) -> (Vec<String>, Option<i32>) {
-    let mut command = folder.command(&[command, "dock.txt", "dock.nodes"]);
+pub fn converse(folder: &Folder, command: &[&str], points: &[&str]) -> (Vec<String>, Option<i32>) {
+    let mut command = folder.command(&[command, &["dock.txt", "dock.nodes"]].concat());
     let pipes = command.stdin(Stdio::piped()).stdout(Stdio::piped()).stderr(Stdio::null());
     let mut child = pipes.spawn().expect("the program starts");
     let mut input = child.stdin.take().expect("it has a standard input");
@@ -96,18 +96,18 @@ fn converse(folder: &Folder, command: &str, points: [&str; 2]) -> (Vec<String>, 
 #[test]
 fn answers_come_while_the_input_stays_open() {
     let folder = Folder::new("filter");
-    let points = ["0\t0\t200\n", "21\t10\t0\n"];
+    let points = &["0\t0\t200\n", "21\t10\t0\n"];
     let refused = "refused\t7\t0\t21\t10\t0".to_string();
     let fix = "fix\t0\t0\t200\tbasin\t0".to_string();
-    assert_eq!(converse(&folder, "lookup", points), (vec![fix, refused.clone()], Some(1)));
+    assert_eq!(converse(&folder, &["lookup"], points), (vec![fix, refused.clone()], Some(1)));
     let shown = "shown\t0\t0\t200\tbasin\t0".to_string();
-    assert_eq!(converse(&folder, "screen", points), (vec![shown, refused], Some(1)));
+    assert_eq!(converse(&folder, &["screen"], points), (vec![shown, refused], Some(1)));
 }
 
 #[test]
 fn what_was_read_is_answered_while_the_rest_of_a_line_is_waited_for() {
     let folder = Folder::new("pause");
-    let answers = |lines: &str| converse(&folder, "lookup", [lines, "\t200\n"]);
+    let answers = |lines: &str| converse(&folder, &["lookup"], &[lines, "\t200\n"]);
     let fix = |value: &str| format!("fix\t{value}\t0\t200\tbasin\t{value}");
     assert_eq!(answers("5\t0\t200\n10\t0"), (vec![fix("5"), fix("10")], Some(0)));
 }
