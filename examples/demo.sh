@@ -17,7 +17,7 @@ work=${TMPDIR:-/tmp}/bulhyemik-demo.$$
 (umask 077 && mkdir "$work") || exit 2
 trap 'rm -rf "$work"' EXIT
 trap 'exit 2' HUP INT TERM
-cp "$(dirname "$0")"/canyon.* "$(dirname "$0")"/harbour.* "$(dirname "$0")/demo.expected" "$work" || exit 2
+cp "$(dirname "$0")"/canyon.* "$(dirname "$0")"/harbour[.-]* "$(dirname "$0")/demo.expected" "$work" || exit 2
 cd "$work" || exit 2
 
 bulhyemik() {
@@ -84,6 +84,20 @@ demo() {
         'split -l 2500 track part.
   for part in part.*; do bulhyemik lookup harbour.txt harbour.nodes <$part >fixes.$part & done; wait
   cat fixes.* | cmp - whole'
+
+    printf '\n%s\n' 'Logs: what simulators wrote down in the harbour, a fix a line, judged line by line.'
+    ask 'Does the log of our own points pass?' \
+        'bulhyemik judge harbour.txt harbour.nodes harbour.log'
+    ask 'And all that lookup prints, be it 10,000 lines?' \
+        'bulhyemik lookup harbour.txt harbour.nodes <track | bulhyemik judge harbour.txt harbour.nodes -'
+    ask 'A simulator that logs fractions of steps:' \
+        'bulhyemik judge harbour.txt harbour.nodes harbour-form.log'
+    ask 'One that takes the bay where the better grid has no data:' \
+        'bulhyemik judge harbour.txt harbour.nodes harbour-refused.log'
+    ask 'One that takes rank 1 for the worst:' \
+        'bulhyemik judge harbour.txt harbour.nodes harbour-grid.log'
+    ask 'One that cuts fractions off, where the nearest step is asked for:' \
+        'bulhyemik judge harbour.txt harbour.nodes harbour-shift.log'
 }
 
 demo >transcript

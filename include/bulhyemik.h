@@ -17,12 +17,12 @@
  *   `*place`: a line, a grid from 1 or a position from 1, and 0 if none is named. Where several refusals apply, the one that
  *   comes first in the function's list counts. (bulhyemik_version and bulhyemik_field refuse nothing and have no place.)
  * - Lent memory: `out`, `nodes`, `results` and the group to be read are unchanged after every refusal of the call. Place, fix,
- *   list, uncovered, count, shifts and screen are the handed-back answer: every call writes them whole, and beside a refusal
- *   all but the place are 0. What a call takes as const is only read.
+ *   list, uncovered, fault, count, shifts and screen are the handed-back answer: every call writes them whole, and beside a
+ *   refusal all but the place are 0. What a call takes as const is only read.
  * - It is total: any numbers, any bytes and any lengths get the answer that this page gives. Nothing is asked of the caller
  *   but valid memory: a pointer that is not NULL, aligned for its type, good for its type or for the length beside it, and
- *   written memory that overlaps no other argument. `text`, `nodes`, `points`, `results`, `floats`, `out` and `line` may be NULL
- *   where the length beside them is 0. A length counts elements, not bytes.
+ *   written memory that overlaps no other argument. `text`, `nodes`, `points`, `results`, `log`, `floats`, `out` and `line` may
+ *   be NULL where the length beside them is 0. A length counts elements, not bytes.
  * - It keeps no memory, allocates none and has no state; calls may run at once on different threads. It needs at most 96 KiB
  *   of stack.
  * - bulhyemik_screen_answer and bulhyemik_screen_record want the processor to round to nearest, as it does unless fesetround
@@ -48,7 +48,7 @@ extern "C" {
 
 /* The version of this page: major * 1,000,000 + minor * 1,000 + patch; bulhyemik_version answers the library's. An added call
  * raises the minor number; a changed struct, limit or meaning raises the major one. */
-#define BULHYEMIK_VERSION 1003000
+#define BULHYEMIK_VERSION 1004000
 
 /* The library takes the bytes of a name eight at a time, the first as the lowest of a number. */
 #if defined(__BYTE_ORDER__) && defined(__ORDER_LITTLE_ENDIAN__)
@@ -78,12 +78,22 @@ enum bulhyemik_refusal {
 /* The units of a group's steps. */
 enum bulhyemik_unit { BULHYEMIK_ARC_SECOND = 0, BULHYEMIK_METRE = 1 };
 
+/* The kinds of a fault in a log, in the order in which a line is tested. */
+enum bulhyemik_log_kind {
+    BULHYEMIK_LOG_PASSES = 0,  /* the log has no bad line; line 0 */
+    BULHYEMIK_LOG_FORM = 1,    /* line not of its form, not closed by a line feed, or of more or fewer values than NP */
+    BULHYEMIK_LOG_REFUSED = 2, /* the lookup is refused, by whatever number */
+    BULHYEMIK_LOG_GRID = 3,    /* the name is not the chosen grid's */
+    BULHYEMIK_LOG_SHIFT = 4    /* a value is not the lookup's result */
+};
+
 enum bulhyemik_size {
-    BULHYEMIK_NAME_BYTES = 24,     /* bytes of a name, used or not */
-    BULHYEMIK_MOST_RAMPS = 8,      /* ramps of a group, used or not */
-    BULHYEMIK_MOST_GRIDS = 64,     /* grids of a group, used or not */
-    BULHYEMIK_MOST_PARAMETERS = 3, /* results of a lookup, used or not */
-    BULHYEMIK_HEADER_BYTES = 16384 /* holds every header of this and later versions (proved today: at most 6,604 bytes) */
+    BULHYEMIK_NAME_BYTES = 24,      /* bytes of a name, used or not */
+    BULHYEMIK_MOST_RAMPS = 8,       /* ramps of a group, used or not */
+    BULHYEMIK_MOST_GRIDS = 64,      /* grids of a group, used or not */
+    BULHYEMIK_MOST_PARAMETERS = 3,  /* results of a lookup, used or not */
+    BULHYEMIK_HEADER_BYTES = 16384, /* holds every header of this and later versions (proved today: at most 6,604 bytes) */
+    BULHYEMIK_LOG_LINE_BYTES = 128  /* holds every log line that this and later versions write (proved today: at most 94 bytes) */
 };
 
 /* The no-data mark of a node list. */
@@ -130,7 +140,7 @@ typedef struct {
     int64_t result[BULHYEMIK_MOST_PARAMETERS]; /* in steps; a missing parameter is 0 */
 } bulhyemik_fix;
 
-/* A point on a day, one of many that are looked up at once. */
+/* A point on a day: one of many that are looked up at once, or that of a log's line. */
 typedef struct {
     int64_t lon, lat; /* in mas */
     int64_t day;
@@ -160,6 +170,12 @@ typedef struct {
     int64_t found;    /* 1 if there is one, else 0; ask this, since 0, 0 can be a hole too */
     int64_t lon, lat; /* in mas; zeros where there is none */
 } bulhyemik_uncovered;
+
+/* The first bad line of a log, and the kind of its fault. */
+typedef struct {
+    uint64_t line; /* from 1; 0 where the log passes */
+    uint64_t kind; /* one of bulhyemik_log_kind; 0 where the log passes */
+} bulhyemik_fault;
 
 /* A field of a line: its bytes from `from` up to, not with, `to`. */
 typedef struct {
@@ -225,6 +241,9 @@ BULHYEMIK_WORDS(uncovered, 3);
 BULHYEMIK_WORD(uncovered, found, 0);
 BULHYEMIK_WORD(uncovered, lon, 1);
 BULHYEMIK_WORD(uncovered, lat, 2);
+BULHYEMIK_WORDS(fault, 2);
+BULHYEMIK_WORD(fault, line, 0);
+BULHYEMIK_WORD(fault, kind, 1);
 BULHYEMIK_WORDS(part, 2);
 BULHYEMIK_WORD(part, from, 0);
 BULHYEMIK_WORD(part, to, 1);
@@ -380,6 +399,47 @@ uint64_t bulhyemik_grids_in_force(const bulhyemik_group *group, int64_t west, in
  */
 uint64_t bulhyemik_hole(const bulhyemik_group *group, int64_t west, int64_t east, int64_t south, int64_t north,
                         bulhyemik_uncovered *uncovered, uint64_t *place);
+
+/* Judges a log of lookups, whoever wrote it: log_len bytes of any kind, not closed by a zero byte. One record a line, fields
+ * parted by one tab, each line closed by one line feed: `fix` LON LAT DAY GRID V1 up to VNP; GRID is a name, the others are
+ * numbers formed as in a header text. A line passes exactly where the lookup of its point on its day is accepted, GRID names the
+ * chosen grid, and the values are its NP results. The answer is the first line that does not pass, and the first of the kinds 1
+ * to 4 that holds of it: a last line without its line feed is of kind 1, a name that no grid has of kind 3. An empty log passes.
+ *
+ * Units and limits: LON and LAT are in mas, the values in steps. A log may have any length and a number any count of digits; a
+ * LON, LAT or DAY outside its limit is of kind 2, as in a lookup.
+ * Refusals, in this order: 2, 3, 4, 5 as of bulhyemik_judge; 13 at the lowest grid whose range ends behind the node list. A bad
+ * line does not refuse the call.
+ * Lent memory: `*group`, `nodes` and `log` are read; `*fault` is filled whole, with zeros where the log passes and after a
+ * refusal.
+ *
+ *     static const char log[] = "fix\t5\t5\t200\tbasin\t55\nfix\t5\t5\t150\tbasin\t27\n";
+ *     bulhyemik_fault fault;
+ *     uint64_t number = bulhyemik_judge_log(&group, nodes, 6, (const uint8_t *)log, strlen(log), &fault, &place);
+ *     if (number == BULHYEMIK_ACCEPTED && fault.kind == BULHYEMIK_LOG_SHIFT)
+ *         printf("line %lu has another shift\n", (unsigned long)fault.line);
+ */
+uint64_t bulhyemik_judge_log(const bulhyemik_group *group, const int32_t *nodes, size_t nodes_len,
+                             const uint8_t *log, size_t log_len, bulhyemik_fault *fault, uint64_t *place);
+
+/* Writes the line of a log for one point on a day, closed by its line feed: under the same group and nodes it passes
+ * bulhyemik_judge_log, as does a log of such lines.
+ *
+ * Units and limits: as of bulhyemik_lookup; `*count` is in bytes, and no closing zero is written.
+ * Refusals, in this order: 2, 3, 4, 5, 6, 9, 13, 7, 8, 11 as of bulhyemik_lookup; 12 at 0 if `out` is too short, which never
+ * happens where out_len is BULHYEMIK_LOG_LINE_BYTES.
+ * Lent memory: `*group`, `nodes` and `*position` are read; the first `*count` bytes of `out` become the line, the rest stays;
+ * after a refusal all of it stays and `*count` is 0.
+ *
+ *     static const bulhyemik_position position = {5, 5, 150};
+ *     uint8_t out[BULHYEMIK_LOG_LINE_BYTES];
+ *     uint64_t count;
+ *     if (bulhyemik_write_log_line(&group, nodes, 6, &position, out, sizeof out, &count, &place) == BULHYEMIK_ACCEPTED)
+ *         fwrite(out, 1, (size_t)count, stdout);
+ */
+uint64_t bulhyemik_write_log_line(const bulhyemik_group *group, const int32_t *nodes, size_t nodes_len,
+                                  const bulhyemik_position *position, uint8_t *out, size_t out_len,
+                                  uint64_t *count, uint64_t *place);
 
 /* Loads floats in units as nodes in steps: each float times 2 to the power `quantum`, to the nearest, ties to even. NaN, and
  * floats of the same bits as `flag`, become the no-data mark; with NaN for `flag` these are the NaN alone.

@@ -18,7 +18,7 @@ _bulhyemik() {
         # the arguments as each line of usage names them: only files are completed
         while read -ra names; do
             case ${names[at]-} in
-                HEADER | NODES | FLOATS) compopt -o default ;;
+                HEADER | NODES | LOG | FLOATS) compopt -o default ;;
             esac
         done < <("$program" help "$command" 2> /dev/null | sed -n '/^$/q; s/.*bulhyemik [a-z]*//; s/\[[^]]*\]//g; s/--[a-z]*//g; p')
     fi

@@ -1,5 +1,5 @@
-/* An exercise from start to end: a header and its nodes are read, one point is looked up and a list of points replayed; then which
- * grids an area uses, and whether they cover another.
+/* An exercise from start to end: a header and its nodes are read, one point is looked up, a list of points replayed and its log judged;
+ * then which grids an area uses, and whether they cover another.
  *
  *     cc exercise.c $(pkg-config --cflags --libs bulhyemik) -o exercise
  *     ./exercise ../harbour.txt ../harbour.nodes ../harbour.points
@@ -72,8 +72,9 @@ int main(int argc, char **argv) {
     bulhyemik_screen screen;
     bulhyemik_in_force list;
     bulhyemik_uncovered uncovered;
-    uint64_t number, place, at;
-    size_t text_bytes, node_bytes, count, k;
+    bulhyemik_fault fault;
+    uint64_t number, place, at, line_bytes;
+    size_t text_bytes, node_bytes, count, k, log_bytes = 0;
     if (argc != 4)
         stop("usage", "exercise HEADER NODES POINTS");
 
@@ -111,6 +112,20 @@ int main(int argc, char **argv) {
         else
             printf("point %d: refused by %" PRIu64 "\n", (int)k + 1, results[k].number);
 
+    /* A log has a line for each accepted point (0 bytes for others); anybody's is judged line by line. Here the last is cut off. */
+    uint8_t *log = grown(NULL, (count + 1) * BULHYEMIK_LOG_LINE_BYTES);
+    for (k = 0; k < count; k++, log_bytes += (size_t)line_bytes)
+        bulhyemik_write_log_line(&group, nodes, nodes_len, &points[k], log + log_bytes, BULHYEMIK_LOG_LINE_BYTES, &line_bytes,
+                                 &place);
+    number = bulhyemik_judge_log(&group, nodes, nodes_len, log, log_bytes, &fault, &place);
+    if (number != BULHYEMIK_ACCEPTED)
+        refused(argv[2], number, place);
+    printf("the log of these points %s\n", fault.line == 0 ? "passes" : "fails");
+    if (log_bytes > 0) {
+        bulhyemik_judge_log(&group, nodes, nodes_len, log, log_bytes - 1, &fault, &place);
+        printf("without its last byte it fails at line %" PRIu64 ", by kind %" PRIu64 "\n", fault.line, fault.kind);
+    }
+
     /* The grids that an area uses, and the first point of a wider one that no grid holds. */
     number = bulhyemik_grids_in_force(&group, -14390000, -14370000, 180010000, 180020000, &list, &place);
     if (number != BULHYEMIK_ACCEPTED)
@@ -131,5 +146,6 @@ int main(int argc, char **argv) {
     free(nodes);
     free(points);
     free(results);
+    free(log);
     return 0;
 }

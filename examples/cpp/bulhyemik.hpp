@@ -27,6 +27,7 @@ namespace bulhyemik {
 // The structs of bulhyemik.h that a caller meets.
 using answer = bulhyemik_answer;
 using entry = bulhyemik_entry;
+using fault = bulhyemik_fault;
 using fix = bulhyemik_fix;
 using grid = bulhyemik_grid;
 using position = bulhyemik_position;
@@ -83,6 +84,21 @@ std::vector<Number> read_numbers(const std::string &path) {
     return numbers;
 }
 
+// The bytes of a text as the library takes them.
+inline const uint8_t *bytes_of(std::string_view text) noexcept {
+    return reinterpret_cast<const uint8_t *>(text.data());
+}
+
+// The text that a call writes, given its room and all arguments of the call before its output.
+template <class Call, class... Arguments>
+std::string written(size_t room, Call call, Arguments... arguments) {
+    std::string out(room, '\0');
+    uint64_t count;
+    accept(call, arguments..., reinterpret_cast<uint8_t *>(out.data()), out.size(), &count);
+    out.resize(static_cast<size_t>(count));
+    return out;
+}
+
 // The name of a group or of a grid.
 template <class Named>
 std::string_view name_of(const Named &named) noexcept {
@@ -107,8 +123,7 @@ class group {
 public:
     explicit group(std::string_view text) {
         const auto read = std::make_shared<bulhyemik_group>();
-        const auto bytes = reinterpret_cast<const uint8_t *>(text.data());
-        detail::accept(bulhyemik_read_header, bytes, text.size(), read.get());
+        detail::accept(bulhyemik_read_header, detail::bytes_of(text), text.size(), read.get());
         fields_ = read;
     }
 
@@ -133,12 +148,7 @@ public:
 
     // The header text, the same bytes that were read.
     std::string text() const {
-        std::string out(BULHYEMIK_HEADER_BYTES, '\0');
-        uint64_t count;
-        const auto bytes = reinterpret_cast<uint8_t *>(out.data());
-        detail::accept(bulhyemik_write_header, fields_.get(), bytes, out.size(), &count);
-        out.resize(static_cast<size_t>(count));
-        return out;
+        return detail::written(BULHYEMIK_HEADER_BYTES, bulhyemik_write_header, fields_.get());
     }
 
     // The grids that an area uses, best rank first.
@@ -193,6 +203,20 @@ public:
         detail::accept(bulhyemik_screen_record, at.lon, at.lat, of.quantum, of.parameters, BULHYEMIK_ACCEPTED,
                        uint64_t{0}, &found, &shown);
         return shown;
+    }
+
+    // The line of a log for a point and a day, with its line feed. Such lines pass.
+    std::string log_line(const position &at) const {
+        return detail::written(BULHYEMIK_LOG_LINE_BYTES, bulhyemik_write_log_line, &group_.fields(), nodes_.data(),
+                               nodes_.size(), &at);
+    }
+
+    // The first bad line of a log and its kind, one of bulhyemik_log_kind; nothing if the log passes.
+    std::optional<fault> judge_log(std::string_view log) const {
+        fault found;
+        detail::accept(bulhyemik_judge_log, &group_.fields(), nodes_.data(), nodes_.size(), detail::bytes_of(log),
+                       log.size(), &found);
+        return found.line != 0 ? std::optional(found) : std::nullopt;
     }
 
 private:

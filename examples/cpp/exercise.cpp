@@ -39,14 +39,24 @@ static void run(const std::string &header, const std::string &nodes, const std::
               << std::setprecision(7) << shown.longitude << ", " << shown.latitude << '\n';
 
     // A list of points by one call.
-    int k = 0;
-    for (const bulhyemik::answer &answer : model.replay(read_points(points))) {
+    const std::vector<bulhyemik::position> track = read_points(points);
+    std::string log;
+    size_t k = 0;
+    for (const bulhyemik::answer &answer : model.replay(track)) {
+        const bulhyemik::position &at = track[k];
         std::cout << "point " << ++k << ": ";
-        if (answer.number == BULHYEMIK_ACCEPTED)
+        if (answer.number == BULHYEMIK_ACCEPTED) {
             std::cout << "grid " << group.grid_name(answer.fix.grid) << ", " << answer.fix.result[0] << " steps\n";
-        else
+            log += model.log_line(at);
+        } else {
             std::cout << "refused by " << answer.number << '\n';
+        }
     }
+
+    // A log has a line for each accepted point; anybody's is judged line by line. Here the last line is cut off.
+    std::cout << "the log of these points " << (model.judge_log(log) ? "fails" : "passes") << '\n';
+    if (const auto fault = model.judge_log(log.substr(0, log.size() - 1)))
+        std::cout << "without its last byte it fails at line " << fault->line << ", by kind " << fault->kind << '\n';
 
     // The grids that an area uses, and the first point of a wider one that no grid holds.
     for (const bulhyemik::entry &entry : group.in_force({-14390000, -14370000, 180010000, 180020000}))

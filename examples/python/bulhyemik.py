@@ -27,9 +27,9 @@ from ctypes import POINTER, c_char, c_char_p, c_double, c_float, c_int32, c_int6
 from dataclasses import dataclass, field
 from pathlib import Path
 
-# The library's version that brought the youngest call used here, bulhyemik_hole: an older one lacks it, a later one has
-# it, until the major number changes.
-NEEDED = 1002000
+# The library's version that brought the youngest calls used here, those for logs: an older one lacks them, a later one
+# has them, until the major number changes.
+NEEDED = 1004000
 
 (ACCEPTED, BAD_FORM, BAD_NUMBER, SAME_NAME, BAD_EXTENT, SAME_RANK, BAD_POINT, NO_GRID, NO_DATA, BAD_DAY, BAD_AREA,
  BAD_NODE, BAD_LENGTH, FEW_NODES) = range(14)
@@ -49,7 +49,9 @@ REASONS = {
     FEW_NODES: "node list ends before the grid's range does",
 }
 UNITS = ("arc-second", "metre")
-NAME_BYTES, MOST_RAMPS, MOST_GRIDS, MOST_PARAMETERS, HEADER_BYTES = 24, 8, 64, 3, 16384
+LOG_PASSES, LOG_FORM, LOG_REFUSED, LOG_GRID, LOG_SHIFT = range(5)
+KINDS = ("passes", "form", "lookup refused", "other grid", "other shift")  # of a log's bad line
+NAME_BYTES, MOST_RAMPS, MOST_GRIDS, MOST_PARAMETERS, HEADER_BYTES, LOG_LINE_BYTES = 24, 8, 64, 3, 16384, 128
 MARK = -2**31  # the no-data mark of a node list
 
 
@@ -74,6 +76,8 @@ Fix = namedtuple("Fix", "grid name results")
 Screen = namedtuple("Screen", "longitude latitude fix shifts")
 # A grid in force, and of the area's coordinates at which it is chosen the southmost, of these the westmost.
 InForce = namedtuple("InForce", "grid name lon lat")
+# The first bad line of a log, from 1, and its kind: LOG_FORM, LOG_REFUSED, LOG_GRID or LOG_SHIFT.
+Fault = namedtuple("Fault", "line kind")
 
 
 def _struct(name, *fields):
@@ -93,6 +97,7 @@ _Answer = _struct("_Answer", ("number", c_uint64), ("place", c_uint64), ("fix", 
 _Entry = _struct("_Entry", "grid", "lon", "lat")
 _InForce = _struct("_InForce", "count", ("entry", _Entry * MOST_GRIDS))
 _Uncovered = _struct("_Uncovered", "found", "lon", "lat")
+_Fault = _struct("_Fault", ("line", c_uint64), ("kind", c_uint64))
 _Screen = _struct("_Screen", ("longitude", c_double), ("latitude", c_double), ("shift", c_double * MOST_PARAMETERS))
 
 
@@ -127,6 +132,9 @@ _lookup = _prototype("lookup", _GROUP, *_NODES, c_int64, c_int64, c_int64, POINT
 _lookup_many = _prototype("lookup_many", _GROUP, *_NODES, POINTER(_Position), c_size_t, POINTER(_Answer), c_size_t)
 _grids_in_force = _prototype("grids_in_force", _GROUP, *_AREA, POINTER(_InForce))
 _hole = _prototype("hole", _GROUP, *_AREA, POINTER(_Uncovered))
+_judge_log = _prototype("judge_log", _GROUP, *_NODES, c_char_p, c_size_t, POINTER(_Fault))
+_write_log_line = _prototype("write_log_line", _GROUP, *_NODES, POINTER(_Position), c_char_p, c_size_t,
+                             POINTER(c_uint64))
 _load_nodes = _prototype("load_nodes", POINTER(c_float), c_size_t, c_float, c_int64, *_NODES)
 _screen_record = _prototype("screen_record", *(c_int64,) * 4, c_uint64, c_uint64, POINTER(_Fix), POINTER(_Screen))
 
@@ -201,6 +209,14 @@ def _copy(source, of):
     return (of.element * (view.nbytes // sizeof(of.element))).from_buffer_copy(view)
 
 
+def _bytes(text, name, what):
+    """The bytes of a text in a copy of our own."""
+    try:
+        return str.encode(text, "utf-8", "surrogatepass") if isinstance(text, str) else memoryview(text).tobytes()
+    except TypeError:
+        raise TypeError(f"{name}: a {type(text).__name__}; hand over the {what}'s bytes or a str") from None
+
+
 def read_nodes(path) -> array:
     """The nodes of a node file."""
     raw = Path(path).read_bytes()
@@ -236,11 +252,7 @@ class Group:
     _record: _Group = field(repr=False, compare=False)
 
     def __init__(self, text):
-        try:
-            raw = str.encode(text, "utf-8", "surrogatepass") if isinstance(text, str) else memoryview(text).tobytes()
-        except TypeError:
-            raise TypeError(f"text: a {type(text).__name__}; hand over the header's bytes or a str") from None
-        record = _Group()
+        raw, record = _bytes(text, "text", "header"), _Group()
         _call(_read_header, raw, len(raw), record)
         ramps = (Ramp(r.a, r.s0, r.b, r.s1) for r in record.ramp[:record.ramps])
         grids = (Grid(number, g.name.decode("ascii"), g.lon, g.lat, g.dlon, g.dlat, g.ni, g.nj, g.rank, g.start)
@@ -325,6 +337,22 @@ class Model:
         results = (_Answer * count).from_buffer(memory)
         _call(_lookup_many, self.group._record, self._nodes, len(self._nodes), positions, count, results, count)
         return Answers(self.group, memory)
+
+    def log_line(self, lon: int, lat: int, day: int) -> bytes:
+        """Looks a point up on a day and writes the line of a log, with its line feed. Such lines pass `judge_log`."""
+        at, count = _Position(_cut(lon), _cut(lat), _cut(day)), c_uint64()
+        out = ctypes.create_string_buffer(LOG_LINE_BYTES)
+        _call(_write_log_line, self.group._record, self._nodes, len(self._nodes), at, out, LOG_LINE_BYTES, count)
+        return out.raw[:count.value]
+
+    def judge_log(self, log) -> Fault | None:
+        """The first bad line of a log, whoever wrote it, and its kind; None if every line says what the lookup says.
+
+        log: its bytes, in any buffer, or a str, which is taken as UTF-8 (only ASCII can pass)
+        """
+        raw, found = _bytes(log, "log", "log"), _Fault()
+        _call(_judge_log, self.group._record, self._nodes, len(self._nodes), raw, len(raw), found)
+        return Fault(found.line, found.kind) if found.line else None
 
 
 class Answers(Sequence):

@@ -1,6 +1,6 @@
 #!/usr/bin/env python3
-"""An exercise from start to end: a header and its nodes are read, one point is looked up and a list of points replayed;
-then which grids an area uses, and whether they cover another.
+"""An exercise from start to end: a header and its nodes are read, one point is looked up, a list of points replayed and
+its log judged; then which grids an area uses, and whether they cover another.
 
     python3 exercise.py ../harbour.txt ../harbour.nodes ../harbour.points
 
@@ -31,11 +31,19 @@ def exercise(header, nodes, points):
           f" at {shown.longitude:.7f}, {shown.latitude:.7f}")
 
     # A list of points by one call. A point that is refused has its refusal there and does not stop the others.
-    for number, answer in enumerate(model.replay(read_points(points)), 1):
+    track, log = read_points(points), b""
+    for number, (point, answer) in enumerate(zip(track, model.replay(track)), 1):
         if isinstance(answer, Refused):
             print(f"point {number}: refused by {answer.number}")
         else:
             print(f"point {number}: grid {answer.name}, {answer.results[0]} steps")
+            log += model.log_line(*point)
+
+    # A log has a line for each accepted point; anybody's is judged line by line. Here the last line is cut off.
+    print(f"the log of these points {'fails' if model.judge_log(log) else 'passes'}")
+    fault = model.judge_log(log[:-1])
+    if fault is not None:
+        print(f"without its last byte it fails at line {fault.line}, by kind {fault.kind}")
 
     # The grids that an area uses, and the first point of a wider one that no grid holds.
     for grid in group.in_force(-14390000, -14370000, 180010000, 180020000):

@@ -25,7 +25,7 @@ HERE = Path(__file__).resolve().parent
 sys.path.insert(0, str(HERE))
 
 import bulhyemik  # noqa: E402: it stands beside this file
-from bulhyemik import Fix, Grid, Group, InForce, MARK, Model, Ramp, Refused, load_nodes, read_nodes  # noqa: E402
+from bulhyemik import Fault, Fix, Grid, Group, InForce, MARK, Model, Ramp, Refused, load_nodes, read_nodes  # noqa: E402
 
 EXAMPLES = HERE.parent
 HEADER = (EXAMPLES.parent / "include" / "bulhyemik.h").read_text(encoding="utf-8")
@@ -102,13 +102,13 @@ class Interface(Case):
             self.assertEqual(8 * int(sizes[name]), ctypes.sizeof(struct), name)
             fields = [(field, 8 * int(word)) for owner, field, word in offsets if owner == name]
             self.assertEqual(fields, [(field, getattr(struct, field).offset) for field, _ in struct._fields_], name)
-        self.assertEqual(10, len(structs))
+        self.assertEqual(11, len(structs))
 
     def test_prototypes(self):
         numbers = {"int64_t": ctypes.c_int64, "uint64_t": ctypes.c_uint64, "size_t": ctypes.c_size_t,
                    "float": ctypes.c_float}
         structs = {f"bulhyemik_{name}": getattr(bulhyemik, "_" + name.title().replace("_", ""))
-                   for name in "group fix position answer in_force uncovered screen".split()}
+                   for name in "group fix position answer in_force uncovered fault screen".split()}
         targets = {**numbers, **structs, "int32_t": ctypes.c_int32}
         kinds = {**numbers, **{f"{name} *": ctypes.POINTER(target) for name, target in targets.items()},
                  "uint8_t *": ctypes.c_char_p}
@@ -120,15 +120,16 @@ class Interface(Case):
                 self.assertEqual([kinds[kind.strip()] for kind in declared], list(function.argtypes), name)
                 self.assertIs(ctypes.c_uint64, function.restype, name)
                 used.add(name)
-        self.assertEqual(9, len(used))
+        self.assertEqual(11, len(used))
 
     def test_constants(self):
         constants = {name: int(value) for name, value in re.findall(r"^ +BULHYEMIK_(\w+) = (\d+)", HEADER, re.M)}
-        self.assertEqual(19, len(constants))
+        self.assertEqual(25, len(constants))
         for name, value in constants.items():
             self.assertEqual(value, getattr(bulhyemik, name), name)
         units = re.search(r"BULHYEMIK_ARC_SECOND = (\d), BULHYEMIK_METRE = (\d)", HEADER)
         self.assertEqual(("arc-second", "metre"), tuple(bulhyemik.UNITS[int(unit)] for unit in units.groups()))
+        self.assertEqual("other shift", bulhyemik.KINDS[bulhyemik.LOG_SHIFT])
         self.assertIn("#define BULHYEMIK_MARK INT32_MIN", HEADER)
         self.assertEqual(-2147483648, MARK)
 
@@ -153,10 +154,10 @@ class Interface(Case):
             spec.loader.exec_module(second)
 
     def test_library_of_another_version(self):
-        for version in (0, 999999, 1001999, 2000000, 2002000):
+        for version in (0, 999999, 1003999, 2000000, 2004000):
             with self.assertRaisesRegex(ImportError, f"version {version}.*BULHYEMIK_SHARED_LIBRARY"):
                 self.load(lambda path: mock.Mock(bulhyemik_version=mock.Mock(return_value=version)))
-        for version in (1002000, 1002005, 1003000, 1999999):
+        for version in (1004000, 1004005, 1005000, 1999999):
             self.load(lambda path: mock.Mock(bulhyemik_version=mock.Mock(return_value=version)))
 
     def test_library_that_is_none(self):
@@ -548,6 +549,87 @@ class Replays(Case):
             thread.join()
 
 
+class Logs(Case):
+    GOOD = b"fix\t5\t5\t200\tbasin\t55\n"
+
+    def setUp(self):
+        self.dock = Model(Group(DOCK), DOCK_NODES)
+        self.harbour = example("harbour")
+
+    def log(self, name):
+        return (EXAMPLES / f"{name}.log").read_bytes()
+
+    def test_lines_are_those_of_the_examples_log(self):
+        accepted = [point for point in points_of("harbour") if isinstance(single(self.harbour, point), Fix)]
+        self.assertEqual(self.log("harbour"), b"".join(self.harbour.log_line(*point) for point in accepted))
+        self.assertEqual(self.GOOD, self.dock.log_line(5, 5, 200))
+        self.assertEqual(b"fix\t27720000\t143880000\t0\tSouth\t1520435\t-2527068\n",
+                         example("canyon").log_line(27720000, 143880000, 0))
+
+    def test_the_longest_line(self):
+        ramps = "ramp\t-1000000\t10000000\t1000000\t0\n" * 8
+        text = f"group\tlong\tmetre\t0\t3\t8\t1\n{ramps}grid\t{'N' * 24}\t-1296000000\t-324000000\t1\t1\t2\t2\t1\t0\n"
+        model = Model(Group(text), [-4000000] * 12)
+        line = model.log_line(-1296000000, -324000000, -1000000)
+        self.assertEqual((94, None), (len(line), model.judge_log(line)))
+
+    def test_what_is_written_passes(self):
+        for model, seed in ((self.harbour, 5), (example("canyon"), 6)):
+            points = random_points(500, seed) + points_of("harbour") + points_of("canyon")
+            accepted = [point for point in points if isinstance(single(model, point), Fix)]
+            lines = [model.log_line(*point) for point in accepted]
+            self.assertLess(4, len(lines))
+            self.assertIsNone(model.judge_log(b"".join(lines)))
+            damaged = lines[:3] + [lines[3].replace(b"\n", b"0\n")] + lines[4:]
+            self.assertEqual(4, model.judge_log(b"".join(damaged)).line)
+
+    def test_faults(self):
+        for name, fault in [("form", Fault(2, bulhyemik.LOG_FORM)), ("refused", Fault(3, bulhyemik.LOG_REFUSED)),
+                            ("grid", Fault(2, bulhyemik.LOG_GRID)), ("shift", Fault(3, bulhyemik.LOG_SHIFT))]:
+            self.assertEqual(fault, self.harbour.judge_log(self.log(f"harbour-{name}")))
+        huge = str(HUGE).encode()
+        for kind, line in [
+            (1, b"\n"), (1, b"\0\n"), (1, b"fix\t5\t5\t200\tbasin\t55\r\n"), (1, b"fix\t5\t5\t200\tbasin\n"),
+            (1, b"fix\t5\t5\t200\tbasin\t55\t0\n"), (1, b"fix\t5\t5\t200\tbasin\t055\n"), (1, b"\xff" * 300 + b"\n"),
+            (2, b"fix\t21\t5\t200\tquay\t1\n"), (2, b"fix\t5\t5\t1000001\tbasin\t55\n"),
+            (2, b"fix\t-" + huge + b"\t5\t200\tbasin\t55\n"), (3, b"fix\t5\t5\t200\tquay\t1\n"),
+            (4, b"fix\t5\t5\t200\tbasin\t56\n"), (4, b"fix\t5\t5\t200\tbasin\t" + huge + b"\n"),
+        ]:
+            self.assertEqual(Fault(3, kind), self.dock.judge_log(self.GOOD * 2 + line + self.GOOD), line)
+        self.assertEqual(Fault(2, bulhyemik.LOG_FORM), self.dock.judge_log(self.GOOD + self.GOOD[:-1]))
+
+    def test_forms_of_a_log(self):
+        log = self.log("harbour")
+        for form in (log, log.decode(), bytearray(log), memoryview(log), memoryview(bytearray(log)), array("B", log),
+                     ctypes.create_string_buffer(log, len(log))):
+            self.assertIsNone(self.harbour.judge_log(form))
+        for empty in (b"", "", bytearray(), memoryview(b""), array("B")):
+            self.assertIsNone(self.harbour.judge_log(empty))
+        for text in ("fix\t5\t5\t200\tBecken-\u00e4\t55\n", "\ud800\n", "\ufefffix\t5\t5\t200\tbasin\t55\n"):
+            self.assertEqual(Fault(1, bulhyemik.LOG_FORM), self.dock.judge_log(text))
+
+    def test_refused_and_wrong(self):
+        few = Model(Group(DOCK), DOCK_NODES[:5])
+        for log in (b"", self.GOOD, b"\n"):
+            self.assertRefused(13, 1, few.judge_log, log)
+        far = Model(Group(DOCK), [4000001, MARK, 0, 0, 0, 0])
+        for model, number, place, point in [
+            (self.dock, 6, 0, (HUGE, 0, 0)), (self.dock, 6, 0, (0, -324000001, HUGE)), (self.dock, 9, 0, (0, 0, -HUGE)),
+            (few, 13, 1, (21, 0, 0)), (self.dock, 7, 0, (21, 10, 0)), (far, 8, 0, (1, 0, 0)), (far, 11, 0, (0, 0, 0)),
+        ]:
+            self.assertRefused(number, place, model.log_line, *point)
+        for log in (None, 5, 1.5, [102], object(), self.dock):
+            self.assertRaisesRegex(TypeError, "^log: .*hand over", self.dock.judge_log, log)
+        released = memoryview(self.GOOD)
+        released.release()
+        self.assertRaises(ValueError, self.dock.judge_log, released)
+        for bad in (0.0, None, "0", True, b"0", [0]):
+            for place in range(3):
+                self.assertRaises(TypeError, self.dock.log_line, *(bad if k == place else 0 for k in range(3)))
+        self.assertRaises(TypeError, self.dock.log_line, 0, 0)
+        self.assertRaises(TypeError, self.dock.judge_log)
+
+
 class Example(unittest.TestCase):
     """exercise.py, run as a program."""
 
@@ -637,7 +719,8 @@ class Fuzz(unittest.TestCase):
             (lambda nodes: Model(group, nodes).lookup(-14395000, 180005000, 200), 1, objects),
             (group.in_force, 4, objects), (group.in_force, 4, numbers), (group.hole, 4, numbers),
             (model.lookup, 3, objects), (model.lookup, 3, numbers), (model.screen, 3, numbers),
-            (model.replay, 1, objects), (answer, 1, objects),
+            (model.replay, 1, objects), (answer, 1, objects), (model.judge_log, 1, objects),
+            (model.log_line, 3, objects), (model.log_line, 3, numbers),
         ]:
             raised = set()
             for _ in range(800):

@@ -6,7 +6,7 @@ use std::io::ErrorKind;
 use std::path::{Path, PathBuf};
 use std::process::Command;
 
-const SOURCES: [&str; 8] = ["judge", "lookup", "round", "in_force", "hole", "read", "write", "load"];
+const SOURCES: [&str; 9] = ["judge", "lookup", "round", "in_force", "hole", "log", "read", "write", "load"];
 
 /// Runs a command that has to work; false if there is no such program.
 fn run(command: &mut Command) -> bool {

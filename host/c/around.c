@@ -13,7 +13,7 @@
 #include <xmmintrin.h>
 #endif
 
-enum { STACK = 1 << 18, STATED = 96 * 1024, PAINT = 0xa5, FLOATS = 64, POINTS = 4, INPUTS = 2000, CALLS = 11 };
+enum { STACK = 1 << 18, STATED = 96 * 1024, PAINT = 0xa5, FLOATS = 64, POINTS = 4, INPUTS = 2000, CALLS = 13 };
 
 static int failures = 0;
 
@@ -52,8 +52,9 @@ typedef struct {
     bulhyemik_screen screen;
     double shifts[3];
     int32_t loaded[FLOATS];
-    uint8_t text[BULHYEMIK_HEADER_BYTES];
-    uint64_t number[CALLS], place[CALLS], count;
+    uint8_t text[BULHYEMIK_HEADER_BYTES], line[BULHYEMIK_LOG_LINE_BYTES];
+    bulhyemik_fault fault;
+    uint64_t written, number[CALLS], place[CALLS], count;
 } answers;
 
 typedef struct {
@@ -62,9 +63,9 @@ typedef struct {
     float floats[FLOATS];
 } input;
 
-static const char *const NAMES[CALLS] = {"read_header",    "judge",      "write_header",  "field",         "lookup",
-                                         "grids_in_force", "load_nodes", "screen_answer", "screen_record", "lookup_many",
-                                         "hole"};
+static const char *const NAMES[CALLS] = {"read_header",    "judge",          "write_header",  "field",         "lookup",
+                                         "grids_in_force", "load_nodes",     "screen_answer", "screen_record", "lookup_many",
+                                         "hole",           "write_log_line", "judge_log"};
 
 /* One call; the first fills the group of the others. */
 static void call(int which, const input *in, answers *out) {
@@ -89,6 +90,11 @@ static void call(int which, const input *in, answers *out) {
         break;
     case 9: *number = bulhyemik_lookup_many(group, nodes, 16384, in->points, POINTS, out->results, POINTS, place); break;
     case 10: *number = bulhyemik_hole(group, in->lon, in->lon + 900, in->lat, in->lat + 900, &out->uncovered, place); break;
+    case 11:
+        *number = bulhyemik_write_log_line(group, nodes, 16384, &in->points[0], out->line, sizeof out->line, &out->written,
+                                           place);
+        break;
+    case 12: *number = bulhyemik_judge_log(group, nodes, 16384, out->line, (size_t)out->written, &out->fault, place); break;
     }
 }
 

@@ -385,6 +385,186 @@ static void hole(void) {
     hole_refused(&group, inside, BULHYEMIK_BAD_NUMBER, 3);
 }
 
+/* A log that is judged: its first bad line, and the kind. */
+static void judged(const bulhyemik_group *group, const char *log, uint64_t line, uint64_t kind) {
+    bulhyemik_fault fault;
+    uint64_t place = 77;
+    memset(&fault, 0xa5, sizeof fault);
+    EXPECT(bulhyemik_judge_log(group, NODES, 6, bytes(log), strlen(log), &fault, &place) == BULHYEMIK_ACCEPTED);
+    EXPECT(place == 0 && fault.line == line && fault.kind == kind);
+}
+
+/* A log cut behind none and behind each of its line feeds: where the front passes, the whole is judged as the rest is, so many
+ * lines later; where it does not, as the front. */
+static void judged_in_parts(const bulhyemik_group *group, const char *log) {
+    bulhyemik_fault whole, front, rest;
+    uint64_t place, lines = 0;
+    size_t length = strlen(log), cut;
+    EXPECT(bulhyemik_judge_log(group, NODES, 6, bytes(log), length, &whole, &place) == BULHYEMIK_ACCEPTED);
+    for (cut = 0; cut <= length; cut++) {
+        if (cut > 0 && log[cut - 1] != '\n') continue;
+        lines += cut > 0;
+        EXPECT(bulhyemik_judge_log(group, NODES, 6, bytes(log), cut, &front, &place) == BULHYEMIK_ACCEPTED);
+        EXPECT(bulhyemik_judge_log(group, NODES, 6, bytes(log + cut), length - cut, &rest, &place) == BULHYEMIK_ACCEPTED);
+        if (front.line != 0) {
+            EXPECT(whole.line == front.line && whole.kind == front.kind);
+        } else {
+            EXPECT(whole.line == (rest.line == 0 ? 0 : lines + rest.line) && whole.kind == rest.kind);
+        }
+    }
+}
+
+/* A log that is not judged, since group or nodes are refused: the fault is all zeros. */
+static void log_refused(const bulhyemik_group *group, size_t length, uint64_t number, uint64_t where) {
+    bulhyemik_fault fault;
+    uint64_t place = 77;
+    memset(&fault, 0xa5, sizeof fault);
+    EXPECT(bulhyemik_judge_log(group, NODES, length, bytes("\n"), 1, &fault, &place) == number);
+    EXPECT(place == where && all(&fault, sizeof fault, 0));
+    place = 77;
+    memset(&fault, 0xa5, sizeof fault);
+    EXPECT(bulhyemik_judge_log(group, NODES, length, NULL, 0, &fault, &place) == number);
+    EXPECT(place == where && all(&fault, sizeof fault, 0));
+}
+
+static void judge_log(void) {
+    static const char zero[] = "fix\t5\t5\t200\tbasin\t55\n\0";
+    bulhyemik_group group = dock();
+    bulhyemik_fault fault;
+    uint64_t place = 77;
+    judged(&group, "", 0, BULHYEMIK_LOG_PASSES);
+    judged(&group, "fix\t5\t5\t200\tbasin\t55\n", 0, BULHYEMIK_LOG_PASSES);
+    judged(&group, "fix\t5\t5\t200\tbasin\t55\nfix\t5\t5\t150\tbasin\t28\n", 0, BULHYEMIK_LOG_PASSES);
+    judged(&group, "fix\t5\t5\t200\tbasin\t55", 1, BULHYEMIK_LOG_FORM);
+    judged(&group, "fix\t5\t5\t200\tbasin\t55\r\n", 1, BULHYEMIK_LOG_FORM);
+    judged(&group, "fix\t5\t5\t200\tbasin\t55\n\n", 2, BULHYEMIK_LOG_FORM);
+    judged(&group, "fix\t5\t5\t200\tbasin\t55\nfix", 2, BULHYEMIK_LOG_FORM);
+    judged(&group, "fix\t5\t5\t200\tbasin\t55\t0\n", 1, BULHYEMIK_LOG_FORM);
+    judged(&group, "fix\t5\t5\t200\tbasin\n", 1, BULHYEMIK_LOG_FORM);
+    judged(&group, "fix\t5\t5\t200\tbasin\t055\n", 1, BULHYEMIK_LOG_FORM);
+    judged(&group, "fix\t5\t5\t200\tbasin\t+55\n", 1, BULHYEMIK_LOG_FORM);
+    judged(&group, "fix\t-0\t5\t200\tbasin\t50\n", 1, BULHYEMIK_LOG_FORM);
+    judged(&group, "fix\t5\t5\t200\tba.in\t55\n", 1, BULHYEMIK_LOG_FORM);
+    judged(&group, "fix\t21\t5\t200\tABCDEFGHIJKLMNOPQRSTUVWXY\t55\n", 1, BULHYEMIK_LOG_FORM);
+    judged(&group, "fix\t21\t5\t200\tABCDEFGHIJKLMNOPQRSTUVWX\t55\n", 1, BULHYEMIK_LOG_REFUSED);
+    judged(&group, "fix\t5\t324000001\t200\tbasin\t55\n", 1, BULHYEMIK_LOG_REFUSED);
+    judged(&group, "fix\t5\t5\t-1000001\tbasin\t55\n", 1, BULHYEMIK_LOG_REFUSED);
+    judged(&group, "fix\t18446744073709551621\t5\t200\tbasin\t55\n", 1, BULHYEMIK_LOG_REFUSED);
+    judged(&group, "fix\t5\t5\t200\tbasin\t55\nfix\t5\t5\t200\tBASIN\t54\n", 2, BULHYEMIK_LOG_GRID);
+    judged(&group, "fix\t5\t5\t200\t1\t55\n", 1, BULHYEMIK_LOG_GRID);
+    judged(&group, "fix\t5\t5\t200\tbasin\t54\n", 1, BULHYEMIK_LOG_SHIFT);
+    judged(&group, "fix\t5\t5\t200\tbasin\t18446744073709551671\nfix", 1, BULHYEMIK_LOG_SHIFT);
+    judged_in_parts(&group, "");
+    judged_in_parts(&group, "fix\t5\t5\t200\tbasin\t55\nfix\t5\t5\t150\tbasin\t28\n");
+    judged_in_parts(&group, "fix\t5\t5\t200\tbasin\t55\nfix\t5\t5\t150\tbasin\t28\nfix\t21\t5\t150\tbasin\t28\nfix\t5\t5\t200\tbasin\t54\n");
+    judged_in_parts(&group, "fix\t5\t5\t200\tbasin\t55\nfix\t5\t5\t200\tbay\t55\n\nfix");
+    memset(&fault, 0xa5, sizeof fault);
+    EXPECT(bulhyemik_judge_log(&group, NODES, 6, bytes(zero), sizeof zero - 1, &fault, &place) == BULHYEMIK_ACCEPTED);
+    EXPECT(place == 0 && fault.line == 2 && fault.kind == BULHYEMIK_LOG_FORM);
+    memset(&fault, 0xa5, sizeof fault);
+    place = 77;
+    EXPECT(bulhyemik_judge_log(&group, NODES, 6, NULL, 0, &fault, &place) == BULHYEMIK_ACCEPTED && place == 0);
+    EXPECT(all(&fault, sizeof fault, 0));
+    EXPECT(bulhyemik_judge_log(&group, NULL, 0, NULL, 0, &fault, &place) == BULHYEMIK_FEW_NODES && place == 1);
+    log_refused(&group, 5, BULHYEMIK_FEW_NODES, 1);
+    group = three_grids();
+    judged(&group, "fix\t10\t5\t200\tG2\t55\nfix\t10\t5\t200\tG3\t55\n", 2, BULHYEMIK_LOG_GRID);
+    group.grid[2].rank = 1;
+    log_refused(&group, 5, BULHYEMIK_SAME_RANK, 3);
+    group.grid[2].lat = 324000000;
+    log_refused(&group, 5, BULHYEMIK_BAD_EXTENT, 3);
+    memcpy(group.grid[2].name, "G1", 2);
+    log_refused(&group, 5, BULHYEMIK_SAME_NAME, 3);
+    group.grid[0].rank = 0;
+    log_refused(&group, 5, BULHYEMIK_BAD_NUMBER, 3);
+}
+
+/* A log line that is refused: nothing is written, even where there is no room. */
+static void line_refused(const bulhyemik_group *group, const int32_t *nodes, size_t length, const bulhyemik_position *at,
+                         uint64_t number, uint64_t where) {
+    uint8_t out[BULHYEMIK_LOG_LINE_BYTES];
+    uint64_t count = 77, place = 77;
+    memset(out, 0xa5, sizeof out);
+    EXPECT(bulhyemik_write_log_line(group, nodes, length, at, out, sizeof out, &count, &place) == number);
+    EXPECT(count == 0 && place == where && all(out, sizeof out, 0xa5));
+    count = place = 77;
+    EXPECT(bulhyemik_write_log_line(group, nodes, length, at, NULL, 0, &count, &place) == number);
+    EXPECT(count == 0 && place == where);
+}
+
+/* The line of a point in a group of the greatest numbers is the longest of all. */
+static void longest_line(void) {
+    static const char line[] =
+        "fix\t-1296000000\t-324000000\t-1000000\tABCDEFGHIJKLMNOPQRSTUVWX\t-320000000\t-320000000\t-320000000\n";
+    static int32_t nodes[12];
+    bulhyemik_group group = dock();
+    bulhyemik_position at = position(-1296000000, -324000000, -1000000);
+    uint8_t out[BULHYEMIK_LOG_LINE_BYTES];
+    uint64_t count = 77, place = 77;
+    int k;
+    group.parameters = 3;
+    group.ramps = 8;
+    for (k = 0; k < 8; k++) {
+        group.ramp[k].a = group.ramp[k].b = 0;
+        group.ramp[k].s0 = group.ramp[k].s1 = 10000000;
+    }
+    put_grid(&group.grid[0], "ABCDEFGHIJKLMNOPQRSTUVWX", at.lon, 2, 1);
+    group.grid[0].lat = at.lat;
+    for (k = 0; k < 12; k++)
+        nodes[k] = -4000000;
+    memset(out, 0xa5, sizeof out);
+    EXPECT(bulhyemik_write_log_line(&group, nodes, 12, &at, out, 93, &count, &place) == BULHYEMIK_BAD_LENGTH);
+    EXPECT(count == 0 && place == 0 && all(out, sizeof out, 0xa5));
+    EXPECT(bulhyemik_write_log_line(&group, nodes, 12, &at, out, 94, &count, &place) == BULHYEMIK_ACCEPTED);
+    EXPECT(count == 94 && place == 0 && strlen(line) == 94 && memcmp(out, line, 94) == 0);
+    EXPECT(all(out + 94, sizeof out - 94, 0xa5));
+}
+
+static void write_log_line(void) {
+    static const char line[] = "fix\t5\t5\t150\tbasin\t28\n";
+    const size_t length = strlen(line);
+    bulhyemik_group group = dock();
+    bulhyemik_position inside = position(5, 5, 150), beside = position(21, 10, 150);
+    bulhyemik_position north = position(0, 324000001, 1000001), late = position(0, 0, 1000001);
+    bulhyemik_fault fault;
+    uint8_t out[BULHYEMIK_LOG_LINE_BYTES];
+    int32_t nodes[6];
+    uint64_t count = 77, place = 77;
+    memset(out, 0xa5, sizeof out);
+    EXPECT(bulhyemik_write_log_line(&group, NODES, 6, &inside, out, length - 1, &count, &place) == BULHYEMIK_BAD_LENGTH);
+    EXPECT(count == 0 && place == 0 && all(out, sizeof out, 0xa5));
+    line_refused(&group, NODES, 6, &north, BULHYEMIK_BAD_POINT, 0);
+    line_refused(&group, NODES, 5, &late, BULHYEMIK_BAD_DAY, 0);
+    line_refused(&group, NODES, 5, &beside, BULHYEMIK_FEW_NODES, 1);
+    line_refused(&group, NULL, 0, &inside, BULHYEMIK_FEW_NODES, 1);
+    line_refused(&group, NODES, 6, &beside, BULHYEMIK_NO_GRID, 0);
+    memcpy(nodes, NODES, sizeof nodes);
+    nodes[0] = 4000001;
+    line_refused(&group, nodes, 6, &inside, BULHYEMIK_BAD_NODE, 0);
+    nodes[1] = BULHYEMIK_MARK;
+    line_refused(&group, nodes, 6, &inside, BULHYEMIK_NO_DATA, 0);
+    EXPECT(bulhyemik_write_log_line(&group, NODES, 6, &inside, NULL, 0, &count, &place) == BULHYEMIK_BAD_LENGTH && count == 0);
+    count = place = 77;
+    EXPECT(bulhyemik_write_log_line(&group, NODES, 6, &inside, out, length, &count, &place) == BULHYEMIK_ACCEPTED);
+    EXPECT(count == length && place == 0 && memcmp(out, line, length) == 0);
+    EXPECT(all(out + length, sizeof out - length, 0xa5));
+    EXPECT(bulhyemik_judge_log(&group, NODES, 6, out, (size_t)count, &fault, &place) == BULHYEMIK_ACCEPTED);
+    EXPECT(all(&fault, sizeof fault, 0));
+    memset(out, 0xa5, sizeof out);
+    EXPECT(bulhyemik_write_log_line(&group, NODES, 6, &inside, out, sizeof out, &count, &place) == BULHYEMIK_ACCEPTED);
+    EXPECT(count == length && memcmp(out, line, length) == 0 && all(out + length, sizeof out - length, 0xa5));
+    longest_line();
+    group = three_grids();
+    group.grid[2].rank = 1;
+    line_refused(&group, NODES, 5, &north, BULHYEMIK_SAME_RANK, 3);
+    group.grid[2].lat = 324000000;
+    line_refused(&group, NODES, 5, &north, BULHYEMIK_BAD_EXTENT, 3);
+    memcpy(group.grid[2].name, "G1", 2);
+    line_refused(&group, NODES, 5, &north, BULHYEMIK_SAME_NAME, 3);
+    group.grid[0].rank = 0;
+    line_refused(&group, NODES, 5, &north, BULHYEMIK_BAD_NUMBER, 3);
+}
+
 static void load_nodes(void) {
     static const float floats[3] = {0.5f, 1.5f, -9999.0f};
     int32_t nodes[3];
@@ -449,6 +629,8 @@ int main(void) {
     lookup_many();
     grids_in_force();
     hole();
+    judge_log();
+    write_log_line();
     load_nodes();
     screens();
     printf("%d checks, %d failed\n", checks, failures);

@@ -78,6 +78,22 @@ static void hole(void) {
         printf("no grid holds %ld, %ld\n", (long)uncovered.lon, (long)uncovered.lat);
 }
 
+static void judge_log(void) {
+    static const char log[] = "fix\t5\t5\t200\tbasin\t55\nfix\t5\t5\t150\tbasin\t27\n";
+    bulhyemik_fault fault;
+    uint64_t number = bulhyemik_judge_log(&group, nodes, 6, (const uint8_t *)log, strlen(log), &fault, &place);
+    if (number == BULHYEMIK_ACCEPTED && fault.kind == BULHYEMIK_LOG_SHIFT)
+        printf("line %lu has another shift\n", (unsigned long)fault.line);
+}
+
+static void write_log_line(void) {
+    static const bulhyemik_position position = {5, 5, 150};
+    uint8_t out[BULHYEMIK_LOG_LINE_BYTES];
+    uint64_t count;
+    if (bulhyemik_write_log_line(&group, nodes, 6, &position, out, sizeof out, &count, &place) == BULHYEMIK_ACCEPTED)
+        fwrite(out, 1, (size_t)count, stdout);
+}
+
 static void load_nodes(void) {
     static const float floats[3] = {0.5f, 1.5f, -9999.0f};
     int32_t loaded[3];
@@ -113,6 +129,8 @@ int main(void) {
     lookup_many();
     grids_in_force();
     hole();
+    judge_log();
+    write_log_line();
     load_nodes();
     screen_answer();
     screen_record();

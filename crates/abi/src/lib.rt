@@ -8,7 +8,7 @@ ghost use Rattle.group.specs.Blank.{blankRamp};
 ghost use Rattle.group.specs.Limits.{gridBlank};
 ghost use Rattle.group.specs.Numbers.{nameMost, rampsMost, gridsMost};
 ghost use Rattle.abi.specs.Words.{nameWords, headWords, gridsFrom, groupWords};
-ghost use Rattle.abi.specs.Abi.{numberAt, countAt, listOf, byteOf, nameOfWords, unitOf, rampOfWords, gridOfWords, groupOfWords};
+ghost use Rattle.abi.specs.Abi.{numberAt, byteAt, countAt, listOf, byteOf, nameOfWords, unitOf, rampOfWords, gridOfWords, groupOfWords};
 ghost use Rattle.abi.specs.Clear.{FourTold};
 ghost use Rattle.abi.specs.Abi.{stored, unitNumber, fourOf, nameNumber, rampNumbers, gridNumbers, headNumbers, joined, numbersOf};
 use group::GRIDS_MOST;
@@ -218,6 +218,23 @@ pub fn grid_of_words(numbers: &[i64; GROUP_WORDS], k: usize) -> Grid
         rank: count_at(numbers, k * GRID_WORDS + RANK),
         start: count_at(numbers, k * GRID_WORDS + START),
     }
+}
+
+// The length of grid k's name.
+pub fn grid_name_length(numbers: &[i64; GROUP_WORDS], k: usize) -> u64
+    requires { ⌜ k < gridsMost ⌝ }
+    ensures { λ r. ⌜ r ≡ gridOfWords (now (numbers .entry)) k .name .len ⌝ }
+{
+    count_at(numbers, k * GRID_WORDS + GRID_LENGTH)
+}
+
+// Byte i of grid k's name, or one of the zeros behind it.
+pub fn grid_name_byte(numbers: &[i64; GROUP_WORDS], k: usize, i: usize) -> u8
+    requires { ⌜ (k < gridsMost) × (i < nameMost) ⌝ }
+    ensures { λ r. ⌜ r ≡ byteAt (gridOfWords (now (numbers .entry)) k .name .bytes) i ⌝ }
+{
+    let at = k * GRID_WORDS + GRIDS_FROM + i / 8;
+    byte_of(count_at(numbers, at), (i % 8) as u64)
 }
 
 // Whether the four numbers from place k on are all 0.

@@ -11,6 +11,7 @@ use native.Mathlib.Omega.{arith}
 use lib.ListN.{length, getD, length-append}
 use lib.Seq.{sets}
 use Rattle.group.specs.declared.Group.{Group}
+use Rattle.group.specs.declared.Position.{Position}
 use Rattle.group.specs.declared.Refusal.{Refusal}
 use Rattle.group.specs.declared.Verdict.{Verdict}
 use Rattle.group.specs.declared.Verdict.the-variants as verdict
@@ -38,10 +39,14 @@ use Rattle.lookup.proofs.AnswerLaws.{answer-stored}
 use Rattle.screen.specs.declared.ScreenAnswer.{ScreenAnswer}
 use Rattle.screen.specs.declared.ScreenRecord.{ScreenRecord}
 use Rattle.screen.specs.Screen.{screenRefusal, shiftsOf, answerOf, recordOf}
+use Rattle.logs.specs.declared.Judgement.{Judgement}
+use Rattle.logs.specs.Line.{positionOf}
+use Rattle.logs.specs.Log.{logJudged, judgementRefusal, judgementFault}
+use Rattle.logs.specs.Writing.{lineWritten, lineAfter}
 use Rattle.numbers.specs.Order.{countOf}
 use Rattle.abi.specs.Abi.{groupOfWords, numbersOf, countAt, numberAt, stored, joined}
 use Rattle.abi.proofs.ListLaws.{sets-append, sets-whole, length-joined}
-use Rattle.capi.specs.Answers.{left, judgeAnswer, readOf, readAnswer, fixNumbers, foundAnswer, pointOf, lookupAnswer, areaOf, holeNumbers, holeLeft, holeAnswer, lentText, writtenAnswer, writeAnswer, loadedBy, loadAnswer}
+use Rattle.capi.specs.Answers.{left, judgeAnswer, readOf, readAnswer, fixNumbers, foundAnswer, pointOf, lookupAnswer, areaOf, holeNumbers, holeLeft, holeAnswer, lentText, writtenAnswer, writeAnswer, faultNumbers, judgementAnswer, logAnswer, lineAnswer, loadedBy, loadAnswer}
 use Rattle.capi.specs.InForce.{entriesFrom, entryWords, listWords, storedEntry, storedList, listAnswer, inForceAnswer}
 use Rattle.capi.proofs.SmallLaws.{in-force-stored}
 use Rattle.capi.specs.Screen.{lookupOf, shownOf, shiftsAnswer, recordFloats, recordAnswer}
@@ -82,6 +87,20 @@ module _ (l : List ℤ) where
       → ns ≡ holeNumbers h → left (r .number) (r .place) ns ≡ holeAnswer l area
   unfolding holeAnswer
   hole-told area t h r ns e a b c = (λ i. record { refusal = b i; lent = c i }) ∙ ap holeLeft (a ∙ ap (holeOf g) e)
+
+  pub log-told : (nodes : List ℤ) (log : List ℕ) (j : Judgement) (r : Refusal) (ns : List ℕ) → j ≡ logJudged g nodes log → r ≡ judgementRefusal j
+      → ns ≡ faultNumbers (judgementFault j) → left (r .number) (r .place) ns ≡ logAnswer l nodes log
+  unfolding logAnswer
+  log-told nodes log j r ns a b c = (λ i. record { refusal = b i; lent = c i }) ∙ ap judgementAnswer a
+
+  pub line-told : (nodes position : List ℤ) (out after : List ℕ) (p : Position) (w : Written) (r : Refusal) (n : ℕ) → p ≡ positionOf position
+      → w ≡ lineWritten g nodes p (length out) → after ≡ lineAfter g nodes p out → r ≡ writtenRefusal w → n ≡ writtenCount w
+      → left (r .number) (r .place) (lentText n after) ≡ lineAnswer l nodes position out
+  unfolding lineAnswer
+  line-told nodes position out after p w r n e a b c d =
+      (λ i. record { refusal = c i; lent = lentText (d i) (b i) })
+      ∙ (λ i. writtenAnswer (a i) (lineAfter g nodes p out))
+      ∙ ap (λ (q : Position). writtenAnswer (lineWritten g nodes q (length out)) (lineAfter g nodes q out)) e
 
   pub write-told : (out after : List ℕ) (w : Written) (r : Refusal) (n : ℕ)
       → w ≡ written g (length out) → after ≡ bytesAfter g out → r ≡ writtenRefusal w → n ≡ writtenCount w

@@ -43,12 +43,18 @@ use Rattle.screen.specs.declared.ScreenAnswer.{ScreenAnswer}
 use Rattle.screen.specs.declared.ScreenAnswer.the-variants as S
 use Rattle.screen.specs.Screen.{plusZero, screenRefusal, shiftsOf, recordOf}
 use Rattle.screen.proofs.TableLaws.{answer-told}
+use Rattle.logs.specs.declared.Judgement.{Judgement}
+use Rattle.logs.specs.declared.Judgement.the-variants as J
+use Rattle.logs.specs.Line.{positionOf}
+use Rattle.logs.specs.Log.{logJudged, judgementRefusal, judgementFault}
+use Rattle.logs.specs.Writing.{lineWritten}
+use Rattle.logs.proofs.TableLaws.{log-told, line-told, line-kept}
 use Rattle.numbers.specs.Order.{countOf}
 use Rattle.abi.specs.Abi.{groupOfWords, numbersOf, joined}
-use Rattle.capi.specs.Answers.{pointOf, lentText, judgeAnswer, readAnswer, writeAnswer, fixNumbers, lookupAnswer, manyAnswer, holeNumbers, holeAnswer, loadAnswer}
+use Rattle.capi.specs.Answers.{pointOf, lentText, judgeAnswer, readAnswer, writeAnswer, fixNumbers, lookupAnswer, manyAnswer, holeNumbers, holeAnswer, faultNumbers, logAnswer, lineAnswer, loadAnswer}
 use Rattle.capi.specs.InForce.{listWords, listNumbers, inForceAnswer}
 use Rattle.capi.specs.Screen.{lookupOf, shownOf, recordFloats}
-use Rattle.capi.specs.Demand1.{Judges, Reads, Writes, Looks, LooksMany, Lists, FindsHole, Loads, Shows}
+use Rattle.capi.specs.Demand1.{Judges, Reads, Writes, JudgesLog, WritesLine, Looks, LooksMany, Lists, FindsHole, Loads, Shows}
 
 pub judges : (group : List ℤ) → Judges group
 unfolding judgeAnswer
@@ -59,6 +65,10 @@ unfolding readAnswer
 reads text group =
     record { told = read-told text; kept = lent-kept (verdictRefusal (readHeader text .verdict)) (numbersOf (readHeader text .group)) group }
 
+uncounted : (w : Written) → (writtenRefusal w .number ≡ 0 → ⊥) → writtenCount w ≡ 0
+uncounted (W.Count c) n = absurd (n refl)
+uncounted (W.Refused r) n = refl
+
 pub writes : (group : List ℤ) (out : List ℕ) → Writes group out
 unfolding writeAnswer bytesAfter
 writes group out =
@@ -67,10 +77,24 @@ writes group out =
       told = written-told (groupOfWords group) (length out);
       kept = λ n i. lentText (uncounted w n i) (lent-kept (writtenRefusal w) (put 0 (headerText (groupOfWords group)) out) out n i);
     }
+
+pub judges-log : (group nodes : List ℤ) (log : List ℕ) → JudgesLog group nodes log
+unfolding logAnswer
+judges-log group nodes log = record { told = log-told (groupOfWords group) nodes log; zeros = zeros (logJudged (groupOfWords group) nodes log) }
   where
-    uncounted : (w : Written) → (writtenRefusal w .number ≡ 0 → ⊥) → writtenCount w ≡ 0
-    uncounted (W.Count c) n = absurd (n refl)
-    uncounted (W.Refused r) n = refl
+    zeros : (j : Judgement) → (judgementRefusal j .number ≡ 0 → ⊥) → faultNumbers (judgementFault j) ≡ replicate 2 0
+    zeros (J.Judged f) n = absurd (n refl)
+    zeros (J.Refused r) n = refl
+
+pub writes-line : (group nodes position : List ℤ) (out : List ℕ) → WritesLine group nodes position out
+unfolding lineAnswer
+writes-line group nodes position out =
+    let g = groupOfWords group in let p = positionOf position in
+    let w = lineWritten g nodes p (length out) in
+    record {
+      told = line-told g nodes p (length out);
+      kept = λ n i. lentText (uncounted w n i) (line-kept g nodes p out n i);
+    }
 
 pub looks : (group nodes : List ℤ) (lon lat day : ℤ) → Looks group nodes lon lat day
 unfolding lookupAnswer

@@ -23,12 +23,17 @@ use Rattle.lookup.specs.declared.Answer.{Answer as Found}
 use Rattle.lookup.specs.Answer.{answerRecord}
 use Rattle.lookup.specs.Lookup.{looked}
 use Rattle.exercise.specs.Exercise.{manyVerdict, resultsAfter}
+use Rattle.logs.specs.declared.Fault.{Fault}
+use Rattle.logs.specs.declared.Judgement.{Judgement}
+use Rattle.logs.specs.Line.{positionOf}
+use Rattle.logs.specs.Log.{logJudged, judgementRefusal, judgementFault}
+use Rattle.logs.specs.Writing.{lineWritten, lineAfter}
 use Rattle.numbers.specs.Order.{countOf}
 use Rattle.abi.specs.Abi.{groupOfWords, numbersOf}
 
 -- the version of the interface: major · 1,000,000 + minor · 1,000 + patch
 abbrev pub version : ℕ
-version = 1003000
+version = 1004000
 
 -- the refusal and what stands in lent memory afterwards
 pub record Answer (A : Type 0) : Type 0 where
@@ -108,6 +113,24 @@ writtenAnswer w bytes = record { refusal = writtenRefusal w; lent = lentText (wr
 
 unfoldable pub writeAnswer : List ℤ → List ℕ → Answer Text
 writeAnswer group out = writtenAnswer (written (groupOfWords group) (length out)) (bytesAfter (groupOfWords group) out)
+
+-- ---- judging a log: the first bad line and its kind, 0 and 0 where the log passes and beside a refusal
+
+abbrev pub faultNumbers : Fault → List ℕ
+faultNumbers f = f .line ∷ f .kind ∷ []
+
+abbrev pub judgementAnswer : Judgement → Answer (List ℕ)
+judgementAnswer j = record { refusal = judgementRefusal j; lent = faultNumbers (judgementFault j) }
+
+unfoldable pub logAnswer : (group nodes : List ℤ) → List ℕ → Answer (List ℕ)
+logAnswer group nodes log = judgementAnswer (logJudged (groupOfWords group) nodes log)
+
+-- ---- writing the line of a position, given as its three numbers
+
+unfoldable pub lineAnswer : (group nodes position : List ℤ) → List ℕ → Answer Text
+lineAnswer group nodes position out =
+    writtenAnswer (lineWritten (groupOfWords group) nodes (positionOf position) (length out))
+    (lineAfter (groupOfWords group) nodes (positionOf position) out)
 
 -- ---- a field: its first byte, and the byte behind its last
 

@@ -25,9 +25,15 @@ use Rattle.nodes.specs.declared.Loaded.the-variants.{Done}
 use Rattle.nodes.specs.Load.{loaded}
 use Rattle.screen.specs.declared.ScreenAnswer.the-variants as S
 use Rattle.screen.specs.Screen.{plusZero}
+use Rattle.logs.specs.declared.Fault.{Fault}
+use Rattle.logs.specs.declared.Judgement.the-variants.{Judged}
+use Rattle.logs.specs.Line.{positionOf}
+use Rattle.logs.specs.Log.{logJudged}
+use Rattle.logs.specs.Writing.{lineWritten}
 use Rattle.numbers.specs.Order.{countOf}
 use Rattle.abi.specs.Abi.{groupOfWords}
-use Rattle.capi.specs.Answers.{Answer, pointOf, lentText, judgeAnswer, readAnswer, writeAnswer, lookupAnswer, manyAnswer, holeAnswer, loadAnswer}
+use Rattle.capi.specs.Answers.{Answer, pointOf, lentText}
+use Rattle.capi.specs.Answers.{judgeAnswer, readAnswer, writeAnswer, logAnswer, lineAnswer, lookupAnswer, manyAnswer, holeAnswer, loadAnswer}
 use Rattle.capi.specs.InForce.{listWords, inForceAnswer}
 use Rattle.capi.specs.Screen.{shownOf, shiftsAnswer, recordAnswer}
 
@@ -47,6 +53,17 @@ pub record Writes (group : List ℤ) (out : List ℕ) : Type 0 where
   pub told : Told ((n : ℕ) × (written (groupOfWords group) (length out) ≡ Count n)) (writeAnswer group out .refusal)
   -- the count is 0 and the bytes are as they were
   pub kept : LeftBeside (lentText 0 out) (writeAnswer group out)
+
+pub record JudgesLog (group nodes : List ℤ) (log : List ℕ) : Type 0 where
+  pub told : Told ((f : Fault) × (logJudged (groupOfWords group) nodes log ≡ Judged f)) (logAnswer group nodes log .refusal)
+  pub zeros : LeftBeside (replicate 2 0) (logAnswer group nodes log)
+
+pub record WritesLine (group nodes position : List ℤ) (out : List ℕ) : Type 0 where
+  pub told :
+      Told ((n : ℕ) × (lineWritten (groupOfWords group) nodes (positionOf position) (length out) ≡ Count n))
+      (lineAnswer group nodes position out .refusal)
+  -- the count is 0 and the bytes are as they were
+  pub kept : LeftBeside (lentText 0 out) (lineAnswer group nodes position out)
 
 pub record Looks (group nodes : List ℤ) (lon lat day : ℤ) : Type 0 where
   pub told : Told ((f : Fix) × (looked (groupOfWords group) nodes (pointOf lon lat) day ≡ L.Fix f)) (lookupAnswer group nodes lon lat day .refusal)

@@ -7,3 +7,4 @@ pub mod Demand1
 pub mod Demand2
 pub mod Order1
 pub mod Order2
+pub mod Order4

@@ -10,8 +10,9 @@ ghost use Rattle.nodes.specs.Load.{loadedRefusal};
 ghost use Rattle.inforce.specs.InForce.{blankEntry};
 ghost use Rattle.screen.specs.Screen.{screenRefusal, shiftsOf};
 ghost use Rattle.abi.specs.Abi.{joined};
-ghost use Rattle.capi.specs.Answers.{version, left, areaOf, holeNumbers, lentText, fieldPart};
-ghost use Rattle.capi.specs.Answers.{judgeAnswer, readAnswer, writeAnswer, lookupAnswer, manyAnswer, holeAnswer, loadAnswer};
+ghost use Rattle.logs.specs.Log.{judgementRefusal, judgementFault};
+ghost use Rattle.capi.specs.Answers.{version, left, areaOf, holeNumbers, faultNumbers, lentText, fieldPart};
+ghost use Rattle.capi.specs.Answers.{judgeAnswer, readAnswer, writeAnswer, lookupAnswer, manyAnswer, holeAnswer, logAnswer, lineAnswer, loadAnswer};
 ghost use Rattle.capi.specs.InForce.{entriesFrom, listWords, storedEntry, storedList, inForceAnswer};
 ghost use Rattle.capi.specs.Screen.{lookupOf, shownOf, shiftsAnswer, recordAnswer};
 use abi::GROUP_WORDS;
@@ -31,12 +32,13 @@ use inforce::Area;
 use inforce::GridInForce;
 use inforce::InForce;
 use inforce::Uncovered;
+use logs::Judgement;
 use lookup::Answer;
 use nodes::Loaded;
 use screen::ScreenAnswer;
 
 // The version of the interface: major * 1,000,000 + minor * 1,000 + patch.
-const VERSION: u64 = 1003000;
+const VERSION: u64 = 1004000;
 
 // The numbers of an entry of a list of grids in force, where the entries begin, and the numbers of the list.
 const ENTRY_WORDS: usize = 3;
@@ -139,6 +141,71 @@ pub extern "C" fn bulhyemik_write_header(
     ensures { λ r. ⌜ left r (now (place .exit)) (lentText (now (count .exit)) (now (out .exit))) ≡ writeAnswer (now (group .entry)) (now (out .entry)) ⌝ }
 {
     let w = header::write_words(group, out);
+    let refusal = written_refusal(w);
+    *count = written_count(w);
+    *place = refusal.place;
+    refusal.number
+}
+
+// The refusal of a judgement.
+fn judgement_refusal(j: Judgement) -> Refusal
+    ensures { λ r. ⌜ r ≡ judgementRefusal j ⌝ }
+{
+    match j {
+        Judgement::Judged(_) => no_refusal(),
+        Judgement::Refused(refusal) => refusal,
+    }
+}
+
+// The line and the kind of a judgement.
+fn fault_numbers(j: Judgement) -> [u64; 2]
+    ensures { λ r. ⌜ r ≡ faultNumbers (judgementFault j) ⌝ }
+{
+    match j {
+        Judgement::Judged(fault) => [fault.line, fault.kind],
+        Judgement::Refused(_) => [0, 0],
+    }
+}
+
+// Judges a log: refusals 2 to 5, then 13; else the first bad line and its kind, zeros if there is none.
+#[no_mangle]
+pub extern "C" fn bulhyemik_judge_log(
+    group: &[i64; GROUP_WORDS],
+    nodes: &[i32],
+    log: &[u8],
+    fault: &mut [u64; 2],
+    place: &mut u64,
+) -> u64
+    ensures { λ r. ⌜ left r (now (place .exit)) (now (fault .exit)) ≡ logAnswer (now (group .entry)) (now (nodes .entry)) (now (log .entry)) ⌝ }
+{
+    let judged = logs::log_words(group, nodes, log);
+    let numbers = fault_numbers(judged);
+    let refusal = judgement_refusal(judged);
+    *fault = numbers;
+    *place = refusal.place;
+    refusal.number
+}
+
+// Writes the line of a position, its longitude and latitude in mas and its day: refusals of a lookup, then 12 if `out` is too short.
+// What stands behind the line stays.
+#[no_mangle]
+pub extern "C" fn bulhyemik_write_log_line(
+    group: &[i64; GROUP_WORDS],
+    nodes: &[i32],
+    position: &[i64; 3],
+    out: &mut [u8],
+    count: &mut u64,
+    place: &mut u64,
+) -> u64
+    ensures { λ r. ⌜ left r (now (place .exit)) (lentText (now (count .exit)) (now (out .exit)))
+        ≡ lineAnswer (now (group .entry)) (now (nodes .entry)) (now (position .entry)) (now (out .entry)) ⌝ }
+{
+    let at = Position {
+        lon: Longitude(position[0]),
+        lat: Latitude(position[1]),
+        day: position[2],
+    };
+    let w = logs::line_words(group, nodes, at, out);
     let refusal = written_refusal(w);
     *count = written_count(w);
     *place = refusal.place;

@@ -24,13 +24,13 @@ ghost use Rattle.exercise.specs.Tables.{tableWords, framesIn, Tabled, Ta
 
 // Where the parts of the tables begin, and how many numbers they have: the rows by rank, their owners, the frames of all grids and the
 // count of rows.
-const OWNERS_FROM: usize = flat::SIDES;
+pub const OWNERS_FROM: usize = flat::SIDES;
 
-const FRAMES_FROM: usize = OWNERS_FROM + GRIDS_MOST;
+pub const FRAMES_FROM: usize = OWNERS_FROM + GRIDS_MOST;
 
-const COUNT_AT: usize = FRAMES_FROM + flat::FRAMES;
+pub const COUNT_AT: usize = FRAMES_FROM + flat::FRAMES;
 
-const TABLE_WORDS: usize = COUNT_AT + 1;
+pub const TABLE_WORDS: usize = COUNT_AT + 1;
 
 // The numbers of an answer in a list of them.
 const ANSWER_WORDS: usize = 6;
@@ -45,7 +45,7 @@ pub struct Scale {
 }
 
 // The scale before the first point.
-fn no_scale() -> Scale
+pub fn no_scale() -> Scale
     ensures { λ r. ⌜ r ≡ noScale ⌝ }
 {
     Scale {
@@ -55,7 +55,7 @@ fn no_scale() -> Scale
 }
 
 // The scale of a day: that of the point before if it has the same day, else worked out anew.
-fn scale_on(words: &[i64; GROUP_WORDS], before: Scale, day: i64) -> Scale
+pub fn scale_on(words: &[i64; GROUP_WORDS], before: Scale, day: i64) -> Scale
     requires { ⌜ (judged (groupOfWords (now words)) ≡ Verdict.Accepted) × (before ≡ scaleFor (groupOfWords (now words)) (before .day)) ⌝ }
     ensures { λ r. ⌜ r ≡ scaleFor (groupOfWords (now (words .entry))) day ⌝ }
 {
@@ -157,7 +157,7 @@ fn judge_tables(
 }
 
 // The same, over tables of their whole length.
-fn judge_call(
+pub fn judge_call(
     words: &[i64; GROUP_WORDS],
     nodes: usize,
     agree: bool,

@@ -29,7 +29,7 @@ use Rattle.header.proofs.TableLaws.{no-count, read-told, written-told}
 use Rattle.header.proofs.TripLaws.{same-bytes}
 use Rattle.header.proofs.FormedLaws.{as-text, same-group}
 
-put-front : (t out : List ℕ) → InFront t out (put 0 t out)
+pub put-front : (t out : List ℕ) → InFront t out (put 0 t out)
 unfolding put
 put-front t out =
     let z : 0 + length t ≡ length t = omega arith in

@@ -123,7 +123,7 @@ read-told t =
 pub no-count : (n : ℕ) (r : Refusal) → W.Refused r ≡ W.Count n → ⊥
 no-count n r e = let z : _≡_ {A = ℕ} 0 1 = cc in omega arith
 
-writings : Answers (λ (w : Written). (n : ℕ) × (w ≡ W.Count n)) writtenRefusal W.Refused
+pub writings : Answers (λ (w : Written). (n : ℕ) × (w ≡ W.Count n)) writtenRefusal W.Refused
 writings = record { back = λ r. refl; never = λ r e. no-count (e .0) r (e .1) }
 
 pub written-told : (g : Group) (room : ℕ) → Told ((n : ℕ) × (written g room ≡ W.Count n)) (writtenRefusal (written g room))

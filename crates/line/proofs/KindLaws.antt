@@ -89,7 +89,7 @@ grid-formed : (g : Grid) → GridFormed g → WellFormed 1 8 gridTexts gridFit g
 unfolding grid-texted grid-part
 grid-formed g f =
     record {
-      lead-free = λ c l. (name-free c (nameText (g .name)) l (fits-isName (g .name) (f .room) (f .name)), tt);
+      lead-free = λ c l. (name-free c (nameText (g .name)) l (fits-isName (g .name) (f .name)), tt);
       lead-count = refl;
       lead-back = readName-text (g .name) (f .room) (f .name);
       ints-count = refl;
@@ -148,7 +148,7 @@ head-formed : (h : Head) → HeadFormed h → WellFormed 2 4 headTexts headFit h
 unfolding head-texted head-part
 head-formed h f =
     record {
-      lead-free = λ c l. (name-free c (nameText (h .name)) l (fits-isName (h .name) (f .room) (f .name)), (unit-free c (h .unit) l, tt));
+      lead-free = λ c l. (name-free c (nameText (h .name)) l (fits-isName (h .name) (f .name)), (unit-free c (h .unit) l, tt));
       lead-count = refl;
       lead-back = λ i. paired (readName-text (h .name) (f .room) (f .name) i) (readUnit-text (h .unit) i);
       ints-count = refl;

@@ -31,7 +31,7 @@ pub small-clamp : (zs : List ℤ) → Small zs → map clamp zs ≡ zs
 small-clamp [] s = refl
 small-clamp (z ∷ zs) s = let h = s .0 in λ i. clamp-id z (omega arith) i ∷ small-clamp zs (s .1) i
 
-unclamped : (z : ℤ) → natAbs (clamp z) < numberMost → clamp z ≡ z
+pub unclamped : (z : ℤ) → natAbs (clamp z) < numberMost → clamp z ≡ z
 unclamped (pos n) h = ap pos (omega arith)
 unclamped (negsuc n) h = ap negsuc (omega arith)
 

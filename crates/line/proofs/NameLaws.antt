@@ -8,7 +8,7 @@ use native.Mathlib.Decide.{decLt}
 use native.Mathlib.Numerals.{add-one}
 use native.Mathlib.Omega.{arith}
 use lib.Dec.{leb, eqb}
-use lib.ListN.{length, take, drop, getD, set, replicate, length-replicate, length-drop, drop-of-length-le, take-append-drop, List·getD-append}
+use lib.ListN.{length, take, drop, getD, set, replicate, length-replicate, length-drop, drop-of-length-le, take-append-drop, List·getD-append, List·getD-eq-default}
 use lib.Seq.{drop-cons, take-at, take-suc, set-at, length-take-le, append-snoc, getD-take, getD-drop, getD-append-add, ext-getD}
 use borrow.Author.Tests.{le-leb, lt-leb, leb-true, lt-ltb, le-ltb, eqb-true, ne-eqb}
 use Rattle.numbers.specs.First.{every}
@@ -129,12 +129,31 @@ name-len n e =
     let q = and-parts _ _ (p .0) in
     (leb-true 1 (n .len) (q .0), leb-true (n .len) nameMost (q .1))
 
+module _ (n : Name) (e : nameFits n ≡ true) where
+  all-fit : every (byteFits n) nameMost ≡ true
+  unfolding nameFits
+  all-fit = and-right (leb 1 (n .len) && leb (n .len) nameMost) (every (byteFits n) nameMost) e
+
+  -- no byte of it is missing: what is not there counts as 0
+  within-bytes : n .len ≤ length (n .bytes)
+  within-bytes = elim (decLt (length (n .bytes)) (n .len)) [ yes h ↦ absurd (missing h) | no h ↦ omega arith ]
+    where
+      missing : length (n .bytes) < n .len → ⊥
+      missing h =
+          let l = name-len n e in
+          false-not-true
+          (ap nameByte (sym (List·getD-eq-default (n .bytes) 0 {n = length (n .bytes)} (omega arith))) ∙ sym (byte-in n (length (n .bytes)) h)
+          ∙ every-at (byteFits n) nameMost (length (n .bytes)) all-fit (omega arith))
+
+  pub fits-isName : isName (nameText n) ≡ true
+  fits-isName =
+      let l = name-len n e in
+      let k = length-take-le (n .len) (n .bytes) within-bytes in
+      name-bytes (nameText n) (omega arith) (omega arith)
+      ∙ bytes-all (nameText n) (λ i h. ap nameByte (getD-take (n .len) (n .bytes) i 0 (omega arith)) ∙ sym (byte-in n i (omega arith)) ∙ every-at (byteFits n) nameMost i all-fit (omega arith))
+
 -- of a name that has all its bytes
 module _ (n : Name) (room : length (n .bytes) ≡ nameMost) where
-  all-fit : nameFits n ≡ true → every (byteFits n) nameMost ≡ true
-  unfolding nameFits
-  all-fit e = and-right (leb 1 (n .len) && leb (n .len) nameMost) (every (byteFits n) nameMost) e
-
   zeros-behind : n .len ≤ nameMost → every (byteFits n) nameMost ≡ true → drop (n .len) (n .bytes) ≡ replicate (nameMost - n .len) 0
   zeros-behind l e =
       let d = length-drop (n .len) (n .bytes) in
@@ -144,18 +163,11 @@ module _ (n : Name) (room : length (n .bytes) ≡ nameMost) where
       zero-at : (i : ℕ) → n .len + i < nameMost → getD (n .bytes) (n .len + i) 0 ≡ 0
       zero-at i h = eqb-true _ _ (sym (byte-behind n (n .len + i) (omega arith)) ∙ every-at (byteFits n) nameMost (n .len + i) e h)
 
-  pub fits-isName : nameFits n ≡ true → isName (nameText n) ≡ true
-  fits-isName e =
-      let l = name-len n e in
-      let k = length-take-le (n .len) (n .bytes) (omega arith) in
-      name-bytes (nameText n) (omega arith) (omega arith)
-      ∙ bytes-all (nameText n) (λ i h. ap nameByte (getD-take (n .len) (n .bytes) i 0 (omega arith)) ∙ sym (byte-in n i (omega arith)) ∙ every-at (byteFits n) nameMost i (all-fit e) (omega arith))
-
   pub fits-back : nameFits n ≡ true → nameOf (nameText n) ≡ n
-  fits-back e = let l = name-len n e in nameOf-nameText n (omega arith) (zeros-behind (l .1) (all-fit e))
+  fits-back e = let l = name-len n e in nameOf-nameText n (omega arith) (zeros-behind (l .1) (all-fit n e))
 
   pub readName-text : nameFits n ≡ true → readName (nameText n) ≡ some n
-  readName-text e = rw (fits-isName e) (ap some (fits-back e))
+  readName-text e = rw (fits-isName n e) (ap some (fits-back e))
 
 -- a field that is a name, as text again
 pub name-read : (f : List ℕ) (n : Name) → readName f ≡ some n → nameText n ≡ f

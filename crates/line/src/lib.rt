@@ -87,7 +87,7 @@ fn blank_head() -> Head
 }
 
 // Whether a field is a name.
-fn name_form(s: &[u8]) -> Form
+pub fn name_form(s: &[u8]) -> Form
     ensures { λ r. ⌜ r ≡ formOf (isName (now (s .entry))) ⌝ }
 {
     if s.len() < 1 {
@@ -137,7 +137,7 @@ fn read_unit(s: &[u8]) -> UnitRead
 }
 
 // Cuts a line into its fields: whether it begins with the word and has so many fields.
-fn cut_as(line: &[u8], cuts: &mut [usize; text::CUTS], word: &[u8], count: usize) -> bool
+pub fn cut_as(line: &[u8], cuts: &mut [usize; text::CUTS], word: &[u8], count: usize) -> bool
     requires { ⌜ length (now cuts) ≡ fieldsMost + 1 ⌝ }
     ensures { λ r. ⌜ r ≡ (same (fieldOf (now (line .entry)) 0) (now (word .entry)) && eqb (length (split 9 (now (line .entry)))) count) ⌝ }
     ensures { λ r. ⌜ Cuts (now (line .entry)) (now (cuts .exit)) ⌝ }
@@ -356,7 +356,7 @@ fn put_letters(bytes: &[u8; group::NAME_MOST], n: usize, out: &mut [u8], at: usi
 }
 
 // Writes a tab and a name.
-fn put_name(name: Name, out: &mut [u8], at: usize) -> usize
+pub fn put_name(name: Name, out: &mut [u8], at: usize) -> usize
     requires { ⌜ (name .len ≤ nameMost) × (at + length (9 ∷ nameText name) ≤ length (now out)) ⌝ }
     ensures { λ r. ⌜ Wrote at (9 ∷ nameText name) (now (out .entry)) r (now (out .exit)) ⌝ }
 {

@@ -91,7 +91,15 @@ fn offset_in(f: Frame, np: u64, x: u64, y: u64) -> Offset
 }
 
 // The fix of a point (x, y) in the grid numbered c, from 1; refusal 7 where c is 0, for none.
-fn fix_chosen(frames: &[u64], c: u64, np: u64, nodes: &[i32], factor: i64, x: u64, y: u64) -> Lookup
+pub fn fix_chosen(
+    frames: &[u64],
+    c: u64,
+    np: u64,
+    nodes: &[i32],
+    factor: i64,
+    x: u64,
+    y: u64,
+) -> Lookup
     requires { ⌜ Chosen (now frames) c np (length (now nodes)) x y × (natAbs factor ≤ factorMost) ⌝ }
     ensures { λ r. ⌜ r ≡ fixAt c (λ k. offsetIn (frameAt (now (frames .entry)) k) np x y) (now (nodes .entry)) factor ⌝ }
 {

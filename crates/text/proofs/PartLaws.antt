@@ -10,6 +10,7 @@ use native.Mathlib.Numerals.{add-one, sub-one}
 use lib.ListN.{length, take, drop, getD, drop-of-length-le, length-drop}
 use lib.Seq.{drop-cons, drop-drop}
 use borrow.Author.Tests.{eqb-true, eq-eqb, ne-eqb}
+use Rattle.numbers.proofs.Bools.{true-false}
 use Rattle.text.specs.Parts.{glue, split, led, join, upTo, startOf, Lacks, endOf, fieldOf, EmptyAtEnd}
 
 -- no byte of the list is the separator
@@ -240,3 +241,27 @@ Free-led c d (p ∷ ps) e f = (e, Free-append c p (led d ps) (f .0) (Free-led c 
 pub Free-join : (c d : ℕ) (ps : List (List ℕ)) → eqb d c ≡ false → AllFree c ps → Free c (join d ps)
 Free-join c d [] e f = tt
 Free-join c d (p ∷ ps) e f = Free-append c p (led d ps) (f .0) (Free-led c d ps e (f .1))
+
+-- ---- lists without the separator: every part is one
+
+glue-free : (c x : ℕ) (ps : List (List ℕ)) → eqb x c ≡ false → AllFree c ps → AllFree c (glue x ps)
+glue-free c x [] e f = ((e, tt), tt)
+glue-free c x (p ∷ ps) e f = ((e, f .0), f .1)
+
+pub split-all : (c : ℕ) (s : List ℕ) → AllFree c (split c s)
+split-all c [] = (tt, tt)
+split-all c (x ∷ xs) = go (eqb x c) refl (split-all c xs)
+  where
+    go : (b : Bool) → eqb x c ≡ b → AllFree c (split c xs) → AllFree c (cond b ([] ∷ split c xs) (glue x (split c xs)))
+    go true e f = (tt, f)
+    go false e f = glue-free c x (split c xs) e f
+
+-- the same byte by byte
+pub lacks-free : (c : ℕ) (s : List ℕ) → Lacks c s 0 (length s) → Free c s
+lacks-free c [] h = tt
+lacks-free c (x ∷ xs) h = (ne-eqb x c (h 0 (omega arith) (omega arith)), lacks-free c xs (λ k a b. h (suc k) (omega arith) (omega arith)))
+
+pub free-lacks : (c : ℕ) (s : List ℕ) → Free c s → Lacks c s 0 (length s)
+free-lacks c [] f k a b e = absurd (omega arith)
+free-lacks c (x ∷ xs) f zero a b e = true-false (eq-eqb x c e) (f .0)
+free-lacks c (x ∷ xs) f (suc k) a b e = free-lacks c xs (f .1) k (omega arith) (omega arith) e

@@ -104,12 +104,22 @@ struct Uncovered {
     lat: i64,
 }
 
+/// The first bad line of a log, from 1, and its kind; zeros where the log passes.
+#[repr(C)]
+pub struct Fault {
+    pub line: u64,
+    pub kind: u64,
+}
+
 #[repr(C)]
 pub struct Screen {
     pub longitude: f64,
     pub latitude: f64,
     pub shift: [f64; 3],
 }
+
+/// Holds every line of a log.
+const LOG_LINE_BYTES: usize = 128;
 
 // The counts of 64-bit words that bulhyemik.h gives.
 const _: () = assert!(size_of::<Group>() == 8 * 809 && size_of::<InForce>() == 8 * 193);
@@ -129,6 +139,14 @@ extern "C" {
     ) -> u64;
     fn bulhyemik_hole(
         group: &Group, west: i64, east: i64, south: i64, north: i64, uncovered: *mut Uncovered, place: &mut u64,
+    ) -> u64;
+    fn bulhyemik_judge_log(
+        group: &Group, nodes: *const i32, nodes_len: usize, log: *const u8, log_len: usize, fault: *mut Fault,
+        place: &mut u64,
+    ) -> u64;
+    fn bulhyemik_write_log_line(
+        group: &Group, nodes: *const i32, nodes_len: usize, position: &Position, out: *mut u8, out_len: usize,
+        count: *mut u64, place: &mut u64,
     ) -> u64;
     fn bulhyemik_screen_record(
         lon: i64, lat: i64, quantum: i64, parameters: i64, number: u64, at: u64, fix: &Fix, screen: *mut Screen,
@@ -220,5 +238,29 @@ impl Group {
         // SAFETY: what is uncovered is always filled whole.
         let hole = unsafe { ask(|hole, place| bulhyemik_hole(self, west, east, south, north, hole, place)) }?;
         Ok((hole.found != 0).then_some((hole.lon, hole.lat)))
+    }
+
+    /// The line of a log for a point and a day, with its line feed. Such lines pass.
+    pub fn log_line(&self, nodes: &[i32], at: &Position) -> Result<Vec<u8>, Refused> {
+        let mut line = vec![0; LOG_LINE_BYTES];
+        let (lent, room) = (line.as_mut_ptr(), line.len());
+        // SAFETY: the nodes are a slice, the line has as many bytes as are lent, and a count is always filled.
+        let count = unsafe {
+            ask(|count, place| {
+                bulhyemik_write_log_line(self, nodes.as_ptr(), nodes.len(), at, lent, room, count, place)
+            })
+        }?;
+        line.truncate(count as usize);
+        Ok(line)
+    }
+
+    /// The first bad line of a log, if it does not pass.
+    pub fn judge_log(&self, nodes: &[i32], log: &[u8]) -> Result<Option<Fault>, Refused> {
+        let (from, count) = (log.as_ptr(), log.len());
+        // SAFETY: nodes and log are slices, and a fault is always filled whole.
+        let fault: Fault = unsafe {
+            ask(|fault, place| bulhyemik_judge_log(self, nodes.as_ptr(), nodes.len(), from, count, fault, place))
+        }?;
+        Ok(Some(fault).filter(|fault| fault.line != 0))
     }
 }

@@ -46,11 +46,24 @@ fn run() -> Result<(), Box<dyn Error>> {
     println!("at {:.7}, {:.7}", shown.longitude, shown.latitude);
 
     // A list of points by one call. A point that is refused has its number there and does not stop the others.
-    for (k, answer) in (1..).zip(group.replay(&nodes, &read_points(points)?)?) {
+    let track = read_points(points)?;
+    let mut log = Vec::new();
+    for (k, (at, answer)) in (1..).zip(track.iter().zip(group.replay(&nodes, &track)?)) {
         match answer.number {
-            0 => println!("point {k}: grid {}, {} steps", group.grid_name(answer.fix.grid), answer.fix.result[0]),
+            0 => {
+                println!("point {k}: grid {}, {} steps", group.grid_name(answer.fix.grid), answer.fix.result[0]);
+                log.extend(group.log_line(&nodes, at)?);
+            }
             number => println!("point {k}: refused by {number}"),
         }
+    }
+
+    // A log has a line for each accepted point; anybody's is judged line by line. Here the last line is cut off.
+    let fails = group.judge_log(&nodes, &log)?.is_some();
+    println!("the log of these points {}", if fails { "fails" } else { "passes" });
+    log.pop();
+    if let Some(fault) = group.judge_log(&nodes, &log)? {
+        println!("without its last byte it fails at line {}, by kind {}", fault.line, fault.kind);
     }
 
     // The grids that an area uses, and the first point of a wider one that no grid holds.

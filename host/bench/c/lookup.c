@@ -1,4 +1,4 @@
-/* The lookup of a point on a day, and of many points in a group that is judged once. */
+/* The lookup of a point on a day, and lookups in a group that is judged once. */
 #include "plain.h"
 
 #include <string.h>
@@ -152,40 +152,66 @@ uint64_t plain_lookup(const bulhyemik_group *group, const int32_t *nodes, size_t
     return refused(found(group, best_holder(group, sides, lon, lat), nodes, lon, lat, factor(group, day), fix), 0, place);
 }
 
+uint64_t plain_ready(plain_lookups *ready, const bulhyemik_group *group, const plain_sides *sides,
+                     const int32_t *nodes, size_t nodes_len, uint64_t *place)
+{
+    int64_t few = few_nodes(group, nodes_len), k;
+    if (few != 0)
+        return refused(13, few, place);
+    plain_order_by_rank(group, ready->order);
+    for (k = 0; k < group->grids; k++)
+        ready->ordered[k] = sides[ready->order[k]];
+    ready->group = group;
+    ready->nodes = nodes;
+    ready->day = 0;
+    ready->times = factor(group, 0);
+    return refused(0, 0, place);
+}
+
+/* One lookup with the factor `times` of the last day, which is worked out anew only where the day changes. */
+static inline uint64_t fix_on(const plain_lookups *ready, const bulhyemik_position *at, int64_t *day, int64_t *times,
+                              bulhyemik_fix *fix)
+{
+    const bulhyemik_group *group = ready->group;
+    uint64_t number = admitted(at->lon, at->lat, at->day);
+    int64_t chosen;
+    if (number != 0) {
+        memset(fix, 0, sizeof *fix);
+        return number;
+    }
+    if (at->day != *day) {
+        *day = at->day;
+        *times = factor(group, at->day);
+    }
+    chosen = first_holder(ready->order, ready->ordered, group->grids, at->lon, at->lat);
+    return found(group, chosen, ready->nodes, at->lon, at->lat, *times, fix);
+}
+
+uint64_t plain_fix(plain_lookups *ready, const bulhyemik_position *at, bulhyemik_fix *fix)
+{
+    return fix_on(ready, at, &ready->day, &ready->times, fix);
+}
+
 uint64_t plain_lookup_many(const bulhyemik_group *group, const int32_t *nodes, size_t nodes_len,
                            const bulhyemik_position *points, size_t points_len,
                            bulhyemik_answer *results, size_t results_len, uint64_t *place)
 {
-    plain_sides sides[BULHYEMIK_MOST_GRIDS], ordered[BULHYEMIK_MOST_GRIDS];
+    plain_sides sides[BULHYEMIK_MOST_GRIDS];
+    plain_lookups ready;
     uint64_t number = plain_judged(group, sides, place);
-    int64_t order[BULHYEMIK_MOST_GRIDS], few, day = 0, times, chosen, j;
+    int64_t day, times;
     size_t k;
     if (number != 0)
         return number;
     if (results_len != points_len)
         return refused(12, 0, place);
-    few = few_nodes(group, nodes_len);
-    if (few != 0)
-        return refused(13, few, place);
-    plain_order_by_rank(group, order);
-    for (j = 0; j < group->grids; j++)
-        ordered[j] = sides[order[j]];
-    times = factor(group, day);
+    number = plain_ready(&ready, group, sides, nodes, nodes_len, place);
+    if (number != 0)
+        return number;
+    day = ready.day, times = ready.times;
     for (k = 0; k < points_len; k++) {
-        const bulhyemik_position *at = &points[k];
-        bulhyemik_answer *answer = &results[k];
-        answer->place = 0;
-        answer->number = admitted(at->lon, at->lat, at->day);
-        if (answer->number != 0) {
-            memset(&answer->fix, 0, sizeof answer->fix);
-            continue;
-        }
-        if (at->day != day) {
-            day = at->day;
-            times = factor(group, day);
-        }
-        chosen = first_holder(order, ordered, group->grids, at->lon, at->lat);
-        answer->number = found(group, chosen, nodes, at->lon, at->lat, times, &answer->fix);
+        results[k].place = 0;
+        results[k].number = fix_on(&ready, &points[k], &day, &times, &results[k].fix);
     }
     return refused(0, 0, place);
 }

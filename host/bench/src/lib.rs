@@ -5,6 +5,7 @@ mod command;
 mod count;
 mod divisions;
 mod layouts;
+mod logs;
 mod measure;
 #[cfg(plain_c)]
 mod plain_c;

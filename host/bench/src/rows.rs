@@ -1,22 +1,32 @@
 //! The rows of the table: which work is done on which inputs.
 
-use crate::layouts;
 use crate::quotients::{Quotient, ramp_factor, result, value};
 use crate::work::{Row, Work};
-use crate::works::{Exercise, Hole, InForceEverywhere, Judge, Load, Lookups, Read, Rounding, Write, nodes};
+use crate::works::{Exercise, Hole, InForceEverywhere, Judge, JudgeLog, Load, Lookups, Read, Rounding, Write, nodes};
+use crate::{layouts, logs};
 use differ::Random;
 use interface::{Area, Grid, Group, HEADER_BYTES, MOST_RAMPS, Name, Position, Ramp, Timed};
 
-/// How many points, digits and floats the long works have.
+/// How many points, digits and floats the long works have, and how many lines, digits and tabs the logs.
 #[derive(Clone, Copy)]
 pub struct Sizes {
     pub points: i64,
     pub digits: usize,
     pub floats: usize,
+    pub log_lines: i64,
+    pub log_digits: usize,
+    pub log_tabs: usize,
 }
 
 /// The table's sizes.
-pub const WHOLE: Sizes = Sizes { points: 10_000, digits: 1_000_000, floats: 1 << 24 };
+pub const WHOLE: Sizes = Sizes {
+    points: 10_000,
+    digits: 1_000_000,
+    floats: 1 << 24,
+    log_lines: 1_000_000,
+    log_digits: 100_000_000,
+    log_tabs: 1_000_000,
+};
 
 /// One grid of 1,000 by 1,000 nodes with two parameters and two ramps.
 fn one_grid() -> Group {
@@ -63,6 +73,13 @@ fn neighbours(waters: Waters, count: i64) -> Vec<Position> {
     let Waters { west_and_south, width, step, .. } = waters;
     let on = |way: i64| west_and_south + way % width;
     (0..count).map(|k| Position { lon: on(k * step), lat: on(k * step * 5 / 8), day: LAST_DAY / 3 }).collect()
+}
+
+/// Neighbouring points, a hundred of each day.
+fn voyage(waters: Waters, count: i64) -> Vec<Position> {
+    let mut points = neighbours(waters, count);
+    (0..).zip(&mut points).for_each(|(k, at)| at.day = k / 100 % LAST_DAY);
+    points
 }
 
 /// Points anywhere, each on a day of its own.
@@ -129,6 +146,21 @@ fn exercise(name: &str, count: i64, waters: Waters, points: fn(Waters, i64) -> V
     row(name, 5, move || Exercise::new(with_ramps((waters.group)(), ramps), points(waters, count)))
 }
 
+/// The log of points of some waters, with 8 ramps.
+fn log(name: &str, count: i64, waters: Waters, points: fn(Waters, i64) -> Vec<Position>) -> Row {
+    row(name, 1, move || {
+        let group = with_ramps((waters.group)(), true);
+        let nodes = nodes(&group);
+        let log = logs::log(&group, &nodes, &points(waters, count));
+        JudgeLog::new(group, nodes, log)
+    })
+}
+
+/// A log of one line that is hard to read.
+fn hard_line(name: &str, repeats: u32, size: usize, line: fn(usize) -> Vec<u8>) -> Row {
+    row(name, repeats, move || JudgeLog::new(one_grid(), nodes(&one_grid()), line(size)))
+}
+
 /// The rounding alone of one quotient of each lookup of random points in one grid with 8 ramps.
 fn rounding(name: &str, count: i64, quotient: fn(&Group, &[i32], &Position) -> Quotient) -> Row {
     row(name, 20, move || {
@@ -164,7 +196,14 @@ pub fn all(sizes: Sizes) -> Vec<Row> {
     rows.push(row("hole, the whole earth", 20, || Hole::new(layouts::nested(), Area::EARTH)));
     rows.extend(LAYOUTS.map(hole));
     rows.extend(COVERS.map(hole));
+    let Sizes { log_lines, log_digits, log_tabs, .. } = sizes;
     rows.extend([
+        log("a log of a million lines, a track, 1 grid", log_lines, ONE_GRID, voyage),
+        log("a log of a million lines, random, 1 grid", log_lines, ONE_GRID, scattered),
+        log("a log of a million lines, a track, 64 grids", log_lines, NESTED, voyage),
+        log("a log of a million lines, random, 64 grids", log_lines, NESTED, scattered),
+        hard_line("a log of one line, 100 million digits", 1, log_digits, logs::digits),
+        hard_line("a log of one line, a million tabs", 50, log_tabs, logs::tabs),
         row("read a header of 64 grids", 50, || Read::new(text(&layouts::nested()))),
         row("write a header of 64 grids", 50, || Write::new(layouts::nested())),
         row("read a line of a million digits", 1, move || Read::new(digits(sizes.digits))),
@@ -190,10 +229,11 @@ mod tests {
     use super::{Sizes, WHOLE, all, named};
     use crate::measure::answers;
     use crate::{back_end, layouts};
-    use interface::{Answer, Area, Group, Timed, Uncovered};
+    use interface::{Answer, Area, Fault, Group, Timed, Uncovered};
     use reference::{Reference, round_each};
 
-    const SMALL: Sizes = Sizes { points: 30, digits: 1_000, floats: 1_000 };
+    const SMALL: Sizes =
+        Sizes { points: 30, digits: 1_000, floats: 1_000, log_lines: 500, log_digits: 1_000, log_tabs: 1_000 };
 
     /// Every work once, on small inputs: the plain versions answer as the second program does, and so that the work is done whole.
     #[test]
@@ -208,8 +248,13 @@ mod tests {
                 assert!(answers[0].len() == 30 && answers[0].iter().all(|&rounded| rounded > 0), "{}", row.name);
                 continue;
             }
-            let refused = if row.name.contains("digits") { 2 } else { 0 };
+            let refused = if row.name.contains("read a line") { 2 } else { 0 };
             assert_eq!(answers[0][0], refused, "{}", row.name);
+            if row.name.contains("a log") {
+                let digits = row.name.contains("digits").then_some([1, Fault::REFUSED as i64]);
+                let tabs = row.name.contains("tabs").then_some([1, Fault::FORM as i64]);
+                assert_eq!(answers[0][1..], digits.or(tabs).unwrap_or_default(), "{}", row.name);
+            }
             if row.name.contains("at once") {
                 let points = answers[0][1..].chunks(size_of::<Answer>() / size_of::<i64>());
                 assert!(points.len() == 30 && points.into_iter().all(|point| point[0] == 0), "{}", row.name);

@@ -4,7 +4,7 @@ use crate::back_end::BackEnd;
 use crate::quotients::Quotient;
 use crate::work::Work;
 use interface::lent::Words;
-use interface::{Answer, Area, Fix, Group, HEADER_BYTES, InForce, Position, Uncovered};
+use interface::{Answer, Area, Fault, Fix, Group, HEADER_BYTES, InForce, Position, Uncovered};
 use std::hash::{DefaultHasher, Hash, Hasher};
 
 pub struct Judge {
@@ -160,6 +160,32 @@ impl Work for Hole {
 
     fn answer(&self) -> Vec<i64> {
         [&[self.number as i64], self.uncovered.words()].concat()
+    }
+}
+
+/// A log judged.
+pub struct JudgeLog {
+    group: Group,
+    nodes: Vec<i32>,
+    log: Vec<u8>,
+    fault: Fault,
+    number: u64,
+}
+
+impl JudgeLog {
+    pub fn new(group: Group, nodes: Vec<i32>, log: Vec<u8>) -> JudgeLog {
+        JudgeLog { group, nodes, log, fault: Fault::default(), number: 0 }
+    }
+}
+
+impl Work for JudgeLog {
+    fn run(&mut self, back_end: &BackEnd) {
+        let JudgeLog { group, nodes, log, fault, number } = self;
+        *number = back_end.calls.judge_log(group, nodes, log, fault, &mut 0);
+    }
+
+    fn answer(&self) -> Vec<i64> {
+        vec![self.number as i64, self.fault.line as i64, self.fault.kind as i64]
     }
 }
 

@@ -67,6 +67,15 @@ impl<'a> Arguments<'a> {
         self.words[k] == "-"
     }
 
+    /// Refuses standard input for two of the first arguments, which have these names.
+    pub fn standard_input_once(&self, names: &[&str]) -> Result<(), Stop> {
+        let mut given = names.iter().enumerate().filter(|&(k, _)| self.is_standard_input(k)).map(|(_, name)| name);
+        match (given.next(), given.next()) {
+            (Some(one), Some(other)) => Err(self.usage(format!("{one} and {other} are both standard input"))),
+            _ => Ok(()),
+        }
+    }
+
     /// The whole number at a place, cut to 64 bits, which lie beyond every limit.
     pub fn number(&self, k: usize, name: &str) -> Result<i64, Stop> {
         self.parse(k, name, number::decimal, number::WHOLE)

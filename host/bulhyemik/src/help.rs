@@ -15,6 +15,7 @@ Looks up shifts in groups of grids.
   screen HEADER NODES                     the same for points from standard input
   inforce HEADER WEST EAST SOUTH NORTH    grids in force in an area
   hole HEADER WEST EAST SOUTH NORTH       the first point that no grid holds
+  judge HEADER NODES LOG                  judge a log line by line, by the lookup
   load FLOATS NODES Q [FLAG]              make a node file from a file of floats
   help [COMMAND]                          say more of a command
 
@@ -28,10 +29,10 @@ programs: JSON, an object on a line, or CSV, a line of headings first. A refusal
 is an object of refused, place and words, or a line of refused and place; that
 of a point has the point too. What goes to standard error stays the same.
 
-docs/RULES.md says how a header is written, how a node file is made, and what
-every refusal means.
+docs/RULES.md says how a header is written, how a node file is made, what a log
+is, and what every refusal means.
 
-exit status: 0 accepted, 1 refused (one point or more), 2 usage or file error
+exit status: 0 accepted or passed, 1 refused or failed, 2 usage or file error
 ";
 
 const CHECK: &str = "\
@@ -170,6 +171,29 @@ latitude if there is a hole.
 exit status: 0 accepted, hole or none, 1 refused, 2 usage or file error
 ";
 
+const JUDGE: &str = "\
+usage: bulhyemik judge HEADER NODES LOG
+
+Judges a log, whoever wrote it. Prints `passed` and the count of its lines, or
+`failed`, the number of the first bad line, from 1, and its kind, parted by tabs.
+What is wrong with that line goes to standard error, in words.
+
+A line is as lookup prints it: `fix`, LON, LAT, DAY, the name of a grid and a
+shift in steps for each parameter of the group, parted by tabs and closed by a
+line feed. The kind of a bad line is the first of these that holds:
+
+  form              the line is not so formed
+  lookup refused    the lookup of the point on that day is refused
+  other grid        the lookup chooses a grid of another name
+  other shift       the lookup finds another shift
+
+An empty log passes. A header or node file can be refused, as by check.
+
+  bulhyemik judge examples/harbour.txt examples/harbour.nodes examples/harbour.log
+
+exit status: 0 passed, 1 failed or refused, 2 usage or file error
+";
+
 const LOAD: &str = "\
 usage: bulhyemik load FLOATS NODES Q [FLAG]
 
@@ -203,6 +227,7 @@ pub fn of(command: &str) -> &'static str {
         "screen" => SCREEN,
         "inforce" => INFORCE,
         "hole" => HOLE,
+        "judge" => JUDGE,
         "load" => LOAD,
         "help" => HELP,
         _ => ALL,

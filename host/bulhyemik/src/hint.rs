@@ -1,8 +1,8 @@
 //! What can be seen on the line of a header that the library refused by 1 or 2. Number and place are the library's.
 
+use crate::form::{self, Wanted, byte_order_mark, unclosed};
 use crate::kinds::{GRID, GROUP, Kind, RAMP};
 use crate::number::decimal;
-use crate::shown::bytes;
 use crate::stop::Refusal;
 
 /// What is to be seen at the place of a refusal, in words.
@@ -18,7 +18,7 @@ pub fn hint(text: &[u8], refusal: &Refusal) -> Option<String> {
 
 /// The first fields of a line, more than any line has.
 fn fields(line: &[u8]) -> Vec<&[u8]> {
-    line.split(|&c| c == b'\t').take(GRID.fields() + 1).collect()
+    form::fields(line, GRID.fields())
 }
 
 /// A header text.
@@ -27,14 +27,7 @@ struct Text<'a>(&'a [u8]);
 impl<'a> Text<'a> {
     /// The line of a number from 1, if there is one that a line feed closes; else what stands behind the last line feed.
     fn line(&self, place: usize) -> Result<&'a [u8], &'a [u8]> {
-        let mut rest = self.0;
-        let mut line = None;
-        for _ in 0..place {
-            let end = rest.iter().position(|&c| c == b'\n').ok_or(rest)?;
-            line = Some(&rest[..end]);
-            rest = &rest[end + 1..];
-        }
-        line.ok_or(rest)
+        form::line(self.0, place)
     }
 
     /// The counts of ramps and grids, if the group line has them.
@@ -65,16 +58,19 @@ impl<'a> Text<'a> {
     /// What is not of the form at a place.
     fn form(&self, place: usize) -> Option<String> {
         if let (1, Some(mark)) = (place, byte_order_mark(self.0)) {
-            return Some(format!("the file begins with {mark}; save it as plain ASCII"));
+            return Some(mark);
         }
         let Some(kind) = self.kind(place) else {
             return Some(format!("bytes stand behind the last grid line: {}", self.counted()));
         };
         match self.line(place) {
-            Ok(line) => Some(format!("line {place}{}", form_of(line, kind)?)),
+            Ok(line) => {
+                let wanted = Wanted { word: kind.word, whose: "", fields: kind.fields() };
+                wanted.missed(line, place, |fields| kind.malformed(fields))
+            }
             Err(_) if self.0.is_empty() => Some("the header is empty".into()),
             Err([]) => Some(format!("the header ends before line {place}, a {} line: {}", kind.word, self.counted())),
-            Err(_) => Some(format!("line {place} is not closed by a line feed")),
+            Err(_) => Some(unclosed(place)),
         }
     }
 
@@ -82,34 +78,6 @@ impl<'a> Text<'a> {
     fn limit(&self, place: usize) -> Option<String> {
         let fields = fields(self.line(place).ok()?);
         Some(format!("line {place}: {}", self.kind(place)?.beyond(&fields[1..])?))
-    }
-}
-
-/// What is not of the form on a line of a kind, as it goes on behind the line's number.
-fn form_of(line: &[u8], kind: &Kind) -> Option<String> {
-    let Kind { word, .. } = kind;
-    let first_fields = fields(line);
-    let count = line.iter().filter(|&&c| c == b'\t').count() + 1;
-    if line.ends_with(b"\r") {
-        Some(" ends in CR: lines are closed by a line feed alone".into())
-    } else if line.is_empty() {
-        Some(format!(" is empty, but must be a {word} line"))
-    } else if first_fields[0] != word.as_bytes() {
-        let tabs = if count == 1 { "; fields are parted by tabs" } else { "" };
-        Some(format!(" begins with '{}', but must begin with '{word}'{tabs}", bytes(first_fields[0])))
-    } else if count != kind.fields() {
-        Some(format!(" has {count} fields parted by tabs, but a {word} line has {}", kind.fields()))
-    } else {
-        Some(format!(": {}", kind.malformed(&first_fields[1..])?))
-    }
-}
-
-/// A byte order mark at the beginning of a text.
-fn byte_order_mark(text: &[u8]) -> Option<&'static str> {
-    match text {
-        [0xef, 0xbb, 0xbf, ..] => Some("a byte order mark"),
-        [0xfe, 0xff, ..] | [0xff, 0xfe, ..] => Some("a byte order mark of UTF-16"),
-        _ => None,
     }
 }
 

@@ -69,8 +69,7 @@ impl Kind {
         let (texts, numbers) = fields.split_at_checked(self.texts.len())?;
         let text = self.texts.iter().zip(texts).find_map(|(name, field)| malformed_text(name, field));
         text.or_else(|| {
-            let wrong = self.numbers.iter().zip(numbers).find(|(_, field)| decimal(field).is_none());
-            wrong.map(|(number, field)| format!("{} is '{}', but must be {WHOLE}", number.name, bytes(field)))
+            self.numbers.iter().zip(numbers).find_map(|(number, field)| malformed_number(number.name, field))
         })
     }
 
@@ -87,7 +86,13 @@ impl Kind {
     }
 }
 
-fn malformed_text(name: &str, field: &[u8]) -> Option<String> {
+/// What is said of a field that is no whole number.
+pub fn malformed_number(name: &str, field: &[u8]) -> Option<String> {
+    decimal(field).is_none().then(|| format!("{name} is '{}', but must be {WHOLE}", bytes(field)))
+}
+
+/// What is said of a field that is no unit, if that is its name, or no name.
+pub fn malformed_text(name: &str, field: &[u8]) -> Option<String> {
     let name_byte = |c: &u8| c.is_ascii_alphanumeric() || matches!(c, b'_' | b'-');
     let (well_formed, wanted) = match name {
         "UNIT" => (matches!(field, b"arc-second" | b"metre"), "arc-second or metre"),

@@ -3,7 +3,9 @@
 mod area;
 mod arguments;
 mod check;
+mod fault;
 mod files;
+mod form;
 mod format;
 mod formats;
 mod grids;
@@ -13,6 +15,7 @@ mod hint;
 mod hole;
 mod inforce;
 mod json;
+mod judge;
 mod kinds;
 mod load;
 mod lookup;
@@ -49,7 +52,7 @@ struct Command {
 /// The options of a command whose answer programs can have in another format.
 const FOR_PROGRAMS: &[&str] = &["--json", "--csv"];
 
-const COMMANDS: [Command; 9] = [
+const COMMANDS: [Command; 10] = [
     Command { name: "check", options: &[], run: check::check },
     Command { name: "grids", options: &["--tsv", "--json", "--csv"], run: grids::grids },
     Command { name: "format", options: &[], run: format::format },
@@ -57,6 +60,7 @@ const COMMANDS: [Command; 9] = [
     Command { name: "screen", options: FOR_PROGRAMS, run: screen::screen },
     Command { name: "inforce", options: FOR_PROGRAMS, run: inforce::inforce },
     Command { name: "hole", options: FOR_PROGRAMS, run: hole::hole },
+    Command { name: "judge", options: &[], run: judge::judge },
     Command { name: "load", options: &[], run: load::load },
     Command { name: "help", options: &[], run: explain },
 ];

@@ -14,9 +14,7 @@ pub struct Model {
 impl Model {
     /// Reads the files HEADER and NODES, the first two arguments.
     pub fn read(calls: &dyn Calls, arguments: &Arguments) -> Result<Model, Stop> {
-        if arguments.is_standard_input(0) && arguments.is_standard_input(1) {
-            return Err(arguments.usage("HEADER and NODES are both standard input".into()));
-        }
+        arguments.standard_input_once(&["HEADER", "NODES"])?;
         let group = group::read(calls, arguments.file(0))?;
         let nodes = files::read_words(arguments.file(1), i32::from_le_bytes)?;
         Ok(Model { group, nodes })

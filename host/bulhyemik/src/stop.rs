@@ -1,4 +1,4 @@
-//! Why a command stops short: a refusal of the library, wrong usage, or a file that can't be used.
+//! Why a command stops short: a refusal of the library, a log that does not pass, wrong usage, or a file that can't be used.
 
 use crate::formats::Format;
 use crate::json::{self, Member, Text};
@@ -60,6 +60,12 @@ pub enum Stop {
         refusal: Refusal,
         words: String,
     },
+    /// A log that does not pass: the first bad line, its kind, and what is wrong with it in words.
+    Failed {
+        line: u64,
+        kind: &'static str,
+        words: String,
+    },
     /// Refusals of points, each told where it came up.
     PointsRefused,
     Usage(String),
@@ -69,10 +75,10 @@ pub enum Stop {
 }
 
 impl Stop {
-    /// 1 for a refusal, 2 for wrong usage or a file.
+    /// 1 for a refusal or a log that does not pass, 2 for wrong usage or a file.
     pub fn status(&self) -> u8 {
         match self {
-            Stop::Refused { .. } | Stop::PointsRefused => 1,
+            Stop::Refused { .. } | Stop::Failed { .. } | Stop::PointsRefused => 1,
             Stop::Usage(_) | Stop::File(_) | Stop::Gone => 2,
         }
     }
@@ -81,6 +87,7 @@ impl Stop {
     pub fn printed(&self, format: Format) -> String {
         match self {
             Stop::Refused { refusal, words } => refusal.printed(words, format),
+            Stop::Failed { line, kind, .. } => format!("failed\t{line}\t{kind}\n"),
             _ => String::new(),
         }
     }
@@ -89,6 +96,7 @@ impl Stop {
     pub fn message(&self) -> String {
         match self {
             Stop::Refused { words, .. } => format!("bulhyemik: refused: {words}\n"),
+            Stop::Failed { words, .. } => format!("bulhyemik: failed: {words}\n"),
             Stop::Usage(why) | Stop::File(why) => format!("bulhyemik: {}\n", why.trim_end()),
             Stop::PointsRefused | Stop::Gone => String::new(),
         }

@@ -3,7 +3,7 @@
 use crate::file::Definitions;
 use crate::parts::{bits32, bits64, bytes, list, number};
 use crate::record::{functions, record};
-use interface::{Answer, Area, Entry, Fix, Group, Part, Position, Ramp, Uncovered};
+use interface::{Answer, Area, Entry, Fault, Fix, Group, Part, Position, Ramp, Uncovered};
 
 /// What a case hands to its call. Groups and node lists stand under their ids in the file.
 #[derive(Clone, Debug)]
@@ -16,6 +16,8 @@ pub enum Input {
     Batch { group: String, nodes: String, out_len: usize, points: Vec<Position> },
     InForce { group: String, area: Area },
     Hole { group: String, area: Area },
+    JudgeLog { group: String, nodes: String, log: Vec<u8> },
+    WriteLog { group: String, nodes: String, at: Position, out_len: usize },
     Load { quantum: i64, flag: f32, out_len: usize, floats: Vec<f32> },
     Screen { lon: i64, lat: i64, quantum: i64, parameters: i64, number: u64, at: u64, fix: Fix },
     DayFactor { ramps: Vec<Ramp>, day: i64 },
@@ -33,6 +35,7 @@ pub enum Expected {
     Answers(Vec<Answer>),
     InForce { count: i64, entries: Vec<Entry> },
     Hole(Uncovered),
+    Fault(Fault),
     Nodes(Vec<i32>),
     Screen([u64; 5]),
     Factor(i64),
@@ -74,6 +77,13 @@ pub fn input(call: &str, words: &[&str], defined: &Definitions) -> Result<Input,
         ("hole", &[id, west, east, south, north]) => {
             Input::Hole { group: group(id)?, area: area([west, east, south, north])? }
         }
+        ("judge_log", &[id, list, log]) => Input::JudgeLog { group: group(id)?, nodes: nodes(list)?, log: bytes(log)? },
+        ("write_log", &[id, list, lon, lat, day, len]) => Input::WriteLog {
+            group: group(id)?,
+            nodes: nodes(list)?,
+            at: Position { lon: number(lon)?, lat: number(lat)?, day: number(day)? },
+            out_len: number(len)?,
+        },
         ("load", &[q, flag, len, ref floats @ ..]) => Input::Load {
             quantum: number(q)?,
             flag: f32::from_bits(bits32(flag)?),
@@ -100,7 +110,9 @@ pub fn expected(call: &str, words: &[&str]) -> Result<Expected, String> {
         (_, &["refuse", refusal, place]) => Expected::Refused { number: number(refusal)?, place: number(place)? },
         ("read_header", &["ok", text]) => Expected::Group(Box::new(record(text)?)),
         ("judge_record", &["ok"]) => Expected::Judged,
-        ("write_header", &["ok", count, text]) => Expected::Written { count: number(count)?, bytes: bytes(text)? },
+        ("write_header" | "write_log", &["ok", count, text]) => {
+            Expected::Written { count: number(count)?, bytes: bytes(text)? }
+        }
         ("field", &["ok", from, to]) => Expected::Part(Part { from: number(from)?, to: number(to)? }),
         ("lookup", &["ok", grid, r1, r2, r3]) => Expected::Fix(fix([grid, r1, r2, r3])?),
         ("batch", &["ok", answers]) => Expected::Answers(some(&[answers], answer)?),
@@ -110,6 +122,7 @@ pub fn expected(call: &str, words: &[&str]) -> Result<Expected, String> {
         ("hole", &["ok", found, lon, lat]) => {
             Expected::Hole(Uncovered { found: number(found)?, lon: number(lon)?, lat: number(lat)? })
         }
+        ("judge_log", &["ok", line, kind]) => Expected::Fault(Fault { line: number(line)?, kind: number(kind)? }),
         ("load", &["ok", ref nodes @ ..]) => Expected::Nodes(some(nodes, number)?),
         ("screen", &["ok", floats]) => {
             let bits = list(floats, bits64)?;

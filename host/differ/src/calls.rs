@@ -3,12 +3,15 @@
 use crate::covers::cover;
 use crate::floats::floats;
 use crate::groups::{damage, sound};
+use crate::logs::{line, logs};
 use crate::outcome::Outcome;
 use crate::places::{area, nodes, position, positions};
 use crate::random::Random;
 use crate::texts;
 use interface::lent::{Element, Words, patterned};
-use interface::{Answer, Calls, Fix, Found, Group, HEADER_BYTES, InForce, Part, Screen, Timed, Uncovered};
+use interface::{
+    Answer, Calls, Fault, Fix, Found, Group, HEADER_BYTES, InForce, LOG_LINE_BYTES, Part, Screen, Timed, Uncovered,
+};
 
 /// An input that is ready to be given to any back end that has its call.
 pub type Input<B> = Box<dyn Fn(&B) -> Outcome>;
@@ -21,7 +24,7 @@ pub struct Call<B: ?Sized> {
 }
 
 /// The calls of `Timed`.
-pub const TIMED: [Call<dyn Timed>; 8] = [
+pub const TIMED: [Call<dyn Timed>; 9] = [
     Call { name: "judge", input: judge, numbers: &[0, 2, 3, 4, 5] },
     Call { name: "read_header", input: read_header, numbers: &[0, 1, 2, 3, 4, 5] },
     Call { name: "write_header", input: write_header, numbers: &[0, 2, 3, 4, 5, 12] },
@@ -29,12 +32,14 @@ pub const TIMED: [Call<dyn Timed>; 8] = [
     Call { name: "lookup_many", input: lookup_many, numbers: &[0, 2, 3, 4, 5, 12, 13] },
     Call { name: "grids_in_force", input: grids_in_force, numbers: &[0, 2, 3, 4, 5, 10] },
     Call { name: "hole", input: hole, numbers: &[0, 2, 3, 4, 5, 10] },
+    Call { name: "judge_log", input: judge_log, numbers: &[0, 2, 3, 4, 5, 13] },
     Call { name: "load_nodes", input: load_nodes, numbers: &[0, 2, 11, 12] },
 ];
 
 /// What `Calls` has beside them, but for the version.
-pub const OTHERS: [Call<dyn Calls>; 3] = [
+pub const OTHERS: [Call<dyn Calls>; 4] = [
     Call { name: "field", input: field, numbers: &[0] },
+    Call { name: "write_log_line", input: write_log_line, numbers: &[0, 2, 3, 4, 5, 6, 7, 8, 9, 11, 12, 13] },
     Call { name: "screen_answer", input: screen_answer, numbers: &[0, 1, 2, 3, 4, 5, 6, 7, 8, 9, 10, 11, 12, 13] },
     Call { name: "screen_record", input: screen_record, numbers: &[0, 1, 2, 3, 4, 5, 6, 7, 8, 9, 10, 11, 12, 13] },
 ];
@@ -81,16 +86,20 @@ fn read_header(random: &mut Random) -> Input<dyn Timed> {
     })
 }
 
-fn write_header(random: &mut Random) -> Input<dyn Timed> {
-    let group = group(random, 55);
-    let whole = texts::text(&group).len();
-    let out_len = match random.below(8) {
+/// Room for a text of so many bytes, now and then for fewer, or for the most that any has.
+fn room(random: &mut Random, whole: usize, most: usize) -> usize {
+    match random.below(8) {
         0 => whole - 1,
         1 => random.below(whole),
-        2 => HEADER_BYTES,
+        2 => most,
         3 => whole + 1,
         _ => whole,
-    };
+    }
+}
+
+fn write_header(random: &mut Random) -> Input<dyn Timed> {
+    let group = group(random, 55);
+    let out_len = room(random, texts::text(&group).len(), HEADER_BYTES);
     Box::new(move |calls| {
         let (mut out, mut count, mut place) = (patterned(out_len), lent(), lent());
         let number = calls.write_header(&group, &mut out, &mut count, &mut place);
@@ -163,6 +172,34 @@ fn hole(random: &mut Random) -> Input<dyn Timed> {
         let (mut uncovered, mut place) = (Uncovered::patterned(), lent());
         let number = calls.hole(&group, within, &mut uncovered, &mut place);
         Outcome::new(number).with("place", &[place]).with("uncovered", uncovered.words())
+    })
+}
+
+fn judge_log(random: &mut Random) -> Input<dyn Timed> {
+    let group = group(random, 25);
+    let nodes = nodes(random, &group);
+    let logs = logs(random, &group, &nodes);
+    Box::new(move |calls| {
+        let mut faults = Fault::patterned_list(logs.len());
+        let judged = logs.iter().zip(&mut faults).map(|(log, fault)| {
+            let mut place = lent();
+            [calls.judge_log(&group, &nodes, log, fault, &mut place), place]
+        });
+        let judged: Vec<[u64; 2]> = judged.collect();
+        Outcome::new(judged[0][0]).with("judged", judged.as_flattened()).with("faults", Fault::words_of(&faults))
+    })
+}
+
+fn write_log_line(random: &mut Random) -> Input<dyn Calls> {
+    let group = group(random, 35);
+    let nodes = nodes(random, &group);
+    let at = position(random, &group);
+    let whole = line(&group, &nodes, at).map_or(1, |line| line.len());
+    let out_len = room(random, whole, LOG_LINE_BYTES);
+    Box::new(move |calls| {
+        let (mut out, mut count, mut place) = (patterned(out_len), lent(), lent());
+        let number = calls.write_log_line(&group, &nodes, at, &mut out, &mut count, &mut place);
+        Outcome::new(number).with("place", &[place]).with("count", &[count]).with("out", &out)
     })
 }
 

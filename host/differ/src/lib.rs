@@ -5,6 +5,7 @@ mod command;
 mod covers;
 mod floats;
 mod groups;
+mod logs;
 mod outcome;
 mod places;
 mod random;

@@ -3,7 +3,7 @@
 mod mutant;
 
 use differ::{Inputs, OTHERS, Random, Report, TIMED, run};
-use interface::{Answer, Answers, Calls, Group, Position, Program, Refusal};
+use interface::{Answer, Answers, Calls, Fault, Group, Position, Program, Refusal};
 use mutant::MUTANTS;
 use plain::Plain;
 use reference::Reference;
@@ -45,13 +45,31 @@ fn every_number_that_a_call_can_return_comes_in_one_of_a_hundred_inputs() {
     }
 }
 
-/// The second program, which counts by their numbers the points that it looks up together.
+/// The second program, which counts the points that it looks up together by their numbers, and the logs by their kinds.
 struct Counting;
 
 static COUNTED: [AtomicUsize; 14] = [const { AtomicUsize::new(0) }; 14];
+static KINDS: [AtomicUsize; 5] = [const { AtomicUsize::new(0) }; 5];
 
 impl Program for Counting {
-    const ANSWERS: Answers = Answers { lookup_many: counted, ..Reference::ANSWERS };
+    const ANSWERS: Answers = Answers { lookup_many: counted, judge_log: counted_log, ..Reference::ANSWERS };
+}
+
+fn counted_log(group: &Group, nodes: &[i32], log: &[u8]) -> Result<Fault, Refusal> {
+    let fault = (Reference::ANSWERS.judge_log)(group, nodes, log)?;
+    if !log.is_empty() {
+        KINDS[fault.kind as usize].fetch_add(1, Ordering::Relaxed);
+    }
+    Ok(fault)
+}
+
+/// Gives the inputs of a call to it: what it has counted then, and how much that is in all.
+fn counts<const N: usize>(name: &str, counted: &[AtomicUsize; N]) -> ([usize; N], usize) {
+    let call = TIMED.iter().find(|call| call.name == name).expect("it is timed");
+    run(call, INPUTS, &Counting, &Reference, |_| {});
+    let counts = counted.each_ref().map(|count| count.load(Ordering::Relaxed));
+    println!("{counts:?}");
+    (counts, counts.iter().sum())
 }
 
 fn counted(group: &Group, nodes: &[i32], points: &[Position], results: &mut [Answer]) -> Result<(), Refusal> {
@@ -64,13 +82,17 @@ fn counted(group: &Group, nodes: &[i32], points: &[Position], results: &mut [Ans
 
 #[test]
 fn every_refusal_of_a_point_comes_in_one_of_a_hundred_points_looked_up_together() {
-    let call = TIMED.iter().find(|call| call.name == "lookup_many").expect("it is timed");
-    run(call, INPUTS, &Counting, &Reference, |_| {});
-    let counts = COUNTED.each_ref().map(|count| count.load(Ordering::Relaxed));
-    println!("{counts:?}");
-    let all: usize = counts.iter().sum();
+    let (counts, all) = counts("lookup_many", &COUNTED);
     for number in [0, 6, 7, 8, 9, 11] {
         assert!(counts[number] * 100 >= all, "{number} came {} times in {all} points", counts[number]);
+    }
+}
+
+#[test]
+fn every_kind_comes_in_one_of_a_hundred_logs_that_are_judged() {
+    let (counts, all) = counts("judge_log", &KINDS);
+    for (kind, count) in counts.into_iter().enumerate() {
+        assert!(count * 100 >= all, "{kind} came {count} times in {all} logs");
     }
 }
 

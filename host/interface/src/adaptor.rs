@@ -1,6 +1,6 @@
 //! The timed calls over a program written in Rust, whose answers are values or refusals.
 
-use crate::{Answer, Area, Entry, Fix, Group, InForce, Position, Timed, Uncovered};
+use crate::{Answer, Area, Entry, Fault, Fix, Group, InForce, Position, Timed, Uncovered};
 
 /// A refusal: its number in document 01's table and its place.
 #[derive(Clone, Copy, Debug, PartialEq, Eq)]
@@ -24,6 +24,7 @@ pub struct Answers {
     pub grids_in_force: fn(&Group, Area) -> Outcome<Vec<Entry>>,
     /// Longitude and latitude.
     pub hole: Hole,
+    pub judge_log: fn(&Group, &[i32], &[u8]) -> Outcome<Fault>,
     pub load_nodes: fn(&[f32], f32, i64, &mut [i32]) -> Outcome<()>,
 }
 
@@ -84,6 +85,10 @@ impl<T: Program> Timed for T {
 
     fn hole(&self, group: &Group, area: Area, uncovered: &mut Uncovered, place: &mut u64) -> u64 {
         hand_back((T::ANSWERS.hole)(group, area).map(Uncovered::new), uncovered, place)
+    }
+
+    fn judge_log(&self, group: &Group, nodes: &[i32], log: &[u8], fault: &mut Fault, place: &mut u64) -> u64 {
+        hand_back((T::ANSWERS.judge_log)(group, nodes, log), fault, place)
     }
 
     fn load_nodes(&self, floats: &[f32], flag: f32, quantum: i64, nodes: &mut [i32], place: &mut u64) -> u64 {

@@ -68,6 +68,22 @@ impl Uncovered {
     }
 }
 
+/// The first bad line of a log, from 1, and the kind of its fault; zeros where the log passes.
+#[repr(C)]
+#[derive(Clone, Copy, Debug, Default, PartialEq, Eq)]
+pub struct Fault {
+    pub line: u64,
+    pub kind: u64,
+}
+
+impl Fault {
+    /// The kinds, in the order in which a line is tested.
+    pub const FORM: u64 = 1;
+    pub const REFUSED: u64 = 2;
+    pub const GRID: u64 = 3;
+    pub const SHIFT: u64 = 4;
+}
+
 /// A field of a line: its first byte, and the byte behind its last.
 #[repr(C)]
 #[derive(Clone, Copy, Debug, Default, PartialEq, Eq)]

@@ -1,4 +1,5 @@
-//! What calls take beside groups and lists: numbers that belong together, which C passes one by one, but for a list of positions.
+//! What calls take beside groups and lists: numbers that belong together, which C passes one by one, but for a list of positions
+//! and the position of a log's line.
 
 use crate::Fix;
 

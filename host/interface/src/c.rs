@@ -9,7 +9,7 @@
 macro_rules! timed_in_c {
     ($back_end:ident, $prefix:literal) => {
         const _: () = {
-            use $crate::{Answer, Area, Fix, Group, InForce, Position, Uncovered};
+            use $crate::{Answer, Area, Fault, Fix, Group, InForce, Position, Uncovered};
 
             unsafe extern "C" {
                 #[link_name = concat!($prefix, "judge")]
@@ -58,6 +58,16 @@ macro_rules! timed_in_c {
                     south: i64,
                     north: i64,
                     uncovered: &mut Uncovered,
+                    place: &mut u64,
+                ) -> u64;
+                #[link_name = concat!($prefix, "judge_log")]
+                fn judge_log(
+                    group: &Group,
+                    nodes: *const i32,
+                    nodes_len: usize,
+                    log: *const u8,
+                    log_len: usize,
+                    fault: &mut Fault,
                     place: &mut u64,
                 ) -> u64;
                 #[link_name = concat!($prefix, "load_nodes")]
@@ -110,6 +120,18 @@ macro_rules! timed_in_c {
                 fn hole(&self, group: &Group, area: Area, uncovered: &mut Uncovered, place: &mut u64) -> u64 {
                     let Area { west, east, south, north } = area;
                     unsafe { hole(group, west, east, south, north, uncovered, place) }
+                }
+
+                fn judge_log(
+                    &self,
+                    group: &Group,
+                    nodes: &[i32],
+                    log: &[u8],
+                    fault: &mut Fault,
+                    place: &mut u64,
+                ) -> u64 {
+                    let (at, from) = (nodes.as_ptr(), log.as_ptr());
+                    unsafe { judge_log(group, at, nodes.len(), from, log.len(), fault, place) }
                 }
 
                 fn load_nodes(

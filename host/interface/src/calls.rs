@@ -1,6 +1,6 @@
 //! The calls of the C interface as traits: one method for each function of include/bulhyemik.h, a slice for pointer and length.
 
-use crate::{Answer, Area, Fix, Found, Group, InForce, MOST_PARAMETERS, Part, Position, Screen, Uncovered};
+use crate::{Answer, Area, Fault, Fix, Found, Group, InForce, MOST_PARAMETERS, Part, Position, Screen, Uncovered};
 
 /// The calls that the benchmark times, which plain programs answer too.
 ///
@@ -35,6 +35,9 @@ pub trait Timed {
     /// Finds the southmost, then westmost coordinate of an area that no grid holds: refusals 2 to 5, 10.
     fn hole(&self, group: &Group, area: Area, uncovered: &mut Uncovered, place: &mut u64) -> u64;
 
+    /// Judges a log: refusals 2 to 5, 13; its first bad line is in the fault.
+    fn judge_log(&self, group: &Group, nodes: &[i32], log: &[u8], fault: &mut Fault, place: &mut u64) -> u64;
+
     /// Loads floats as nodes: refusals 2, 11, 12.
     fn load_nodes(&self, floats: &[f32], flag: f32, quantum: i64, nodes: &mut [i32], place: &mut u64) -> u64;
 }
@@ -46,6 +49,17 @@ pub trait Calls: Timed {
 
     /// Finds where field `number` of a line begins and ends.
     fn field(&self, line: &[u8], number: u64, part: &mut Part);
+
+    /// Writes the line of a log for a point on a day and counts its bytes: refusals 2 to 9, 11 to 13.
+    fn write_log_line(
+        &self,
+        group: &Group,
+        nodes: &[i32],
+        at: Position,
+        out: &mut [u8],
+        count: &mut u64,
+        place: &mut u64,
+    ) -> u64;
 
     /// Turns what a lookup left into shifts in floats, or hands its refusal on; refusal 2 before it.
     fn screen_answer(&self, found: &Found, shifts: &mut [f64; MOST_PARAMETERS], place: &mut u64) -> u64;

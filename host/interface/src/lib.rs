@@ -10,13 +10,13 @@ mod group;
 pub mod lent;
 
 pub use adaptor::{Answers, Program, Refusal, hand_back};
-pub use answers::{Answer, Entry, Fix, InForce, Part, Screen, Uncovered};
+pub use answers::{Answer, Entry, Fault, Fix, InForce, Part, Screen, Uncovered};
 pub use arguments::{Area, Found, Position};
 pub use calls::{Calls, Timed};
 pub use group::{Grid, Group, Name, Ramp};
 
 /// The version of the interface: major * 1,000,000 + minor * 1,000 + patch.
-pub const VERSION: u64 = 1_003_000;
+pub const VERSION: u64 = 1_004_000;
 
 /// Bytes of a name, used or not.
 pub const NAME_BYTES: usize = 24;
@@ -26,6 +26,8 @@ pub const MOST_GRIDS: usize = 64;
 pub const MOST_PARAMETERS: usize = 3;
 /// Holds every header text.
 pub const HEADER_BYTES: usize = 16_384;
+/// Holds every log line that is written.
+pub const LOG_LINE_BYTES: usize = 128;
 
 /// The no-data mark of a node list.
 pub const MARK: i32 = i32::MIN;

@@ -66,6 +66,7 @@ fn every_struct_is_laid_out_as_the_header_checks() {
         layout!("entry", Entry, "grid" = grid, "lon" = lon, "lat" = lat),
         layout!("in_force", InForce, "count" = count, "entry" = entry),
         layout!("uncovered", Uncovered, "found" = found, "lon" = lon, "lat" = lat),
+        layout!("fault", Fault, "line" = line, "kind" = kind),
         layout!("part", Part, "from" = from, "to" = to),
         layout!("screen", Screen, "longitude" = longitude, "latitude" = latitude, "shift" = shift),
     ];
@@ -95,10 +96,13 @@ fn every_constant_has_the_headers_value() {
         ("MOST_GRIDS", MOST_GRIDS),
         ("MOST_PARAMETERS", MOST_PARAMETERS),
         ("HEADER_BYTES", HEADER_BYTES),
+        ("LOG_LINE_BYTES", LOG_LINE_BYTES),
     ];
     for (constant, value) in sizes {
         assert_eq!(named(constant), value as u64, "{constant}");
     }
+    let kinds = ["LOG_PASSES", "LOG_FORM", "LOG_REFUSED", "LOG_GRID", "LOG_SHIFT"].map(named);
+    assert_eq!(kinds, [0, Fault::FORM, Fault::REFUSED, Fault::GRID, Fault::SHIFT]);
 }
 
 /// The lines of the header that are examples, as a C program has them, each example by itself.
@@ -130,7 +134,7 @@ fn every_function_has_an_example_that_the_examples_hold_word_for_word() {
         assert!(examples.iter().any(|example| example.contains(&format!("{function}("))), "{function}");
         count += 1;
     }
-    assert_eq!((count, examples.len()), (12, 13), "one for each function, and the nodes that they use");
+    assert_eq!((count, examples.len()), (14, 15), "one for each function, and the nodes that they use");
     let shown = examples.iter().find(|example| example.contains("bulhyemik_lookup(")).expect("found just now");
     assert!(README.contains(shown), "README shows the example of the lookup");
 }

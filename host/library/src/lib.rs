@@ -1,13 +1,23 @@
 //! The static library behind the calls: the declarations of include/bulhyemik.h and nothing more.
 
-use interface::{Calls, Fix, Found, MOST_PARAMETERS, Part, Screen};
+use interface::{Calls, Fix, Found, Group, MOST_PARAMETERS, Part, Position, Screen};
 
 mod c {
-    use super::{Fix, MOST_PARAMETERS, Part, Screen};
+    use super::{Fix, Group, MOST_PARAMETERS, Part, Position, Screen};
 
     unsafe extern "C" {
         pub fn bulhyemik_version() -> u64;
         pub fn bulhyemik_field(line: *const u8, line_len: usize, number: u64, part: &mut Part);
+        pub fn bulhyemik_write_log_line(
+            group: &Group,
+            nodes: *const i32,
+            nodes_len: usize,
+            position: &Position,
+            out: *mut u8,
+            out_len: usize,
+            count: &mut u64,
+            place: &mut u64,
+        ) -> u64;
         pub fn bulhyemik_screen_answer(
             quantum: i64,
             parameters: i64,
@@ -44,6 +54,19 @@ impl Calls for Library {
 
     fn field(&self, line: &[u8], number: u64, part: &mut Part) {
         unsafe { c::bulhyemik_field(line.as_ptr(), line.len(), number, part) }
+    }
+
+    fn write_log_line(
+        &self,
+        group: &Group,
+        nodes: &[i32],
+        at: Position,
+        out: &mut [u8],
+        count: &mut u64,
+        place: &mut u64,
+    ) -> u64 {
+        let (from, into, len) = (nodes.as_ptr(), out.as_mut_ptr(), out.len());
+        unsafe { c::bulhyemik_write_log_line(group, from, nodes.len(), &at, into, len, count, place) }
     }
 
     fn screen_answer(&self, found: &Found, shifts: &mut [f64; MOST_PARAMETERS], place: &mut u64) -> u64 {

@@ -4,6 +4,7 @@ use crate::hole::hole;
 use crate::in_force::in_force;
 use crate::judge::judge;
 use crate::load::load;
+use crate::log::judge_log;
 use crate::lookup::{lookup, lookup_many};
 use crate::read::read;
 use crate::write::write;
@@ -21,6 +22,7 @@ impl Program for Plain {
         lookup_many,
         grids_in_force: in_force,
         hole,
+        judge_log,
         load_nodes: load,
     };
 }

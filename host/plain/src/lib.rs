@@ -6,6 +6,7 @@ mod hole;
 mod in_force;
 mod judge;
 mod load;
+mod log;
 mod lookup;
 mod read;
 mod round;

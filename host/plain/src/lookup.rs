@@ -1,4 +1,4 @@
-//! The lookup of a point on a day, and of many points in a group that is judged once.
+//! The lookup of a point on a day, and lookups in a group that is judged once.
 
 use crate::group::{end, holds};
 use crate::judge::{LATITUDE, LONGITUDE, judge, refusal, within};
@@ -99,22 +99,41 @@ pub fn lookup(group: &Group, nodes: &[i32], at: Position) -> Result<Fix, Refusal
     fix(group, &extents, nodes, &at, factor(group, at.day))
 }
 
-/// Looks many positions up; the factor is worked out anew only where the day changes.
+/// Lookups in a judged group with nodes for all of its grids; the factor is worked out anew only where the day changes.
+pub struct Lookups<'a> {
+    group: &'a Group,
+    extents: &'a [Area; MOST_GRIDS],
+    nodes: &'a [i32],
+    day: i64,
+    times: i64,
+}
+
+impl<'a> Lookups<'a> {
+    /// Refusal 13.
+    pub fn new(group: &'a Group, extents: &'a [Area; MOST_GRIDS], nodes: &'a [i32]) -> Result<Lookups<'a>, Refusal> {
+        long_enough(group, nodes)?;
+        Ok(Lookups { group, extents, nodes, day: 0, times: factor(group, 0) })
+    }
+
+    #[inline]
+    pub fn fix(&mut self, at: &Position) -> Result<Fix, Refusal> {
+        admitted(at)?;
+        if at.day != self.day {
+            (self.day, self.times) = (at.day, factor(self.group, at.day));
+        }
+        fix(self.group, self.extents, self.nodes, at, self.times)
+    }
+}
+
+/// Looks many positions up.
 pub fn lookup_many(group: &Group, nodes: &[i32], points: &[Position], results: &mut [Answer]) -> Result<(), Refusal> {
     let extents = judge(group)?;
     if results.len() != points.len() {
         return Err(refusal(12, 0));
     }
-    long_enough(group, nodes)?;
-    let (mut day, mut times) = (0, factor(group, 0));
+    let mut lookups = Lookups::new(group, &extents, nodes)?;
     for (result, at) in results.iter_mut().zip(points) {
-        let found = admitted(at).and_then(|()| {
-            if at.day != day {
-                (day, times) = (at.day, factor(group, at.day));
-            }
-            fix(group, &extents, nodes, at, times)
-        });
-        *result = found.into();
+        *result = lookups.fix(at).into();
     }
     Ok(())
 }

@@ -3,7 +3,7 @@
 use crate::judge::{judge, sound};
 use crate::limits;
 use crate::refusal::refuse;
-use crate::text::decimal;
+use crate::text::{decimal, put};
 use interface::{Grid, Group, Name, Ramp, Refusal};
 
 /// Why a line is not taken.
@@ -133,12 +133,5 @@ fn header_text(record: &Group) -> Vec<u8> {
 /// Writes the record's header into `out` and answers the count of bytes: refusals 2 to 5, then 12.
 pub fn write_header(record: &Group, out: &mut [u8]) -> Result<usize, Refusal> {
     judge(record)?;
-    let text = header_text(record);
-    match out.get_mut(..text.len()) {
-        Some(part) => {
-            part.copy_from_slice(&text);
-            Ok(text.len())
-        }
-        None => refuse(12, 0),
-    }
+    put(&header_text(record), out)
 }

@@ -58,7 +58,7 @@ pub fn day_factor(ramps: &[Ramp], day: i64) -> i128 {
 }
 
 /// Refusal 13: the lowest grid of an accepted group whose nodes end behind the list.
-fn whole_ranges(record: &Group, nodes: &[i32]) -> Result<(), Refusal> {
+pub fn whole_ranges(record: &Group, nodes: &[i32]) -> Result<(), Refusal> {
     match grids(record).iter().position(|g| range_end(g, record.parameters) > nodes.len() as i128) {
         Some(k) => refuse(13, k + 1),
         None => Ok(()),

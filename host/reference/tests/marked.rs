@@ -1,7 +1,7 @@
-//! The marked cases of document 01, M1 to M12 and the others it names, and the holes of their groups.
+//! The marked cases of document 01, M1 to M12 and the others it names, the holes of their groups and logs of their lookups.
 
-use interface::{Area, Entry, Fix, Grid, Group, MARK, Name, Position, Ramp, Refusal};
-use reference::{day_factor, grids_in_force, hole, judge, load_nodes, lookup};
+use interface::{Area, Entry, Fault, Fix, Grid, Group, MARK, Name, Position, Ramp, Refusal};
+use reference::{day_factor, grids_in_force, hole, judge, judge_log, load_nodes, lookup, write_log_line};
 
 const RAMP: Ramp = Ramp { a: 100, s0: 0, b: 200, s1: 1_000_000 };
 
@@ -98,4 +98,48 @@ fn halves_load_as_even_steps() {
     let mut nodes = [7; 2];
     assert_eq!(load_nodes(&[0.5, 1.5], f32::NAN, 0, &mut nodes), Ok(()));
     assert_eq!(nodes, [0, 2]);
+}
+
+#[test]
+fn logs_of_m1_and_m8_are_judged_line_by_line() {
+    let record = group(&[grid("basin", 0, 3, 1)]);
+    let nodes = [0, MARK, 20, 100, 110, 120];
+    let judged = |log: &str| judge_log(&record, &nodes, log.as_bytes()).map(|fault| (fault.line, fault.kind));
+    let good = "fix\t0\t5\t0\tbasin\t50\n";
+    assert_eq!(judged(""), Ok((0, 0)));
+    assert_eq!(judged(&good.repeat(3)), Ok((0, 0)));
+    let second = |line: &str| judged(&format!("{good}{line}{good}"));
+    for form in ["\n", "fix\t0\t5\t0\tbasin\t50\r\n", "fix\t0\t5\t0\tbasin\t50\t0\n", "fix\t0\t5\t-0\tbasin\t050\n"] {
+        assert_eq!(second(form), Ok((2, Fault::FORM)), "{form:?}");
+    }
+    assert_eq!(judged(&format!("{good}x")), Ok((2, Fault::FORM)));
+    assert_eq!(judged(good.trim_end()), Ok((1, Fault::FORM)));
+    for refused in ["fix\t1\t5\t0\tbasin\t50\n", "fix\t21\t5\t0\tother\t50\n", "fix\t0\t5\t1000001\tbasin\t50\n"] {
+        assert_eq!(second(refused), Ok((2, Fault::REFUSED)), "{refused:?}");
+    }
+    let digits = "9".repeat(1_000);
+    assert_eq!(second(&format!("fix\t{digits}\t5\t0\tbasin\t50\n")), Ok((2, Fault::REFUSED)));
+    assert_eq!(second("fix\t0\t5\t0\tBasin\t51\n"), Ok((2, Fault::GRID)));
+    assert_eq!(second("fix\t0\t5\t0\tbasin\t51\n"), Ok((2, Fault::SHIFT)));
+    assert_eq!(second(&format!("fix\t0\t5\t0\tbasin\t{digits}\n")), Ok((2, Fault::SHIFT)));
+    assert_eq!(judge_log(&record, &nodes[1..], b"\n"), Err(Refusal { number: 13, place: 1 }));
+}
+
+#[test]
+fn a_log_line_is_written_whole_or_not_at_all() {
+    let record = group(&[grid("basin", 0, 3, 1)]);
+    let nodes = [0, 10, 20, 100, 110, 120];
+    let line = b"fix\t5\t5\t0\tbasin\t55\n";
+    let written = |lon, len| {
+        let mut out = [7; 32];
+        let count = write_log_line(&record, &nodes, Position { lon, lat: 5, day: 0 }, &mut out[..len]);
+        (count.map_err(|refusal| refusal.number), out)
+    };
+    let mut whole = [7; 32];
+    whole[..line.len()].copy_from_slice(line);
+    assert_eq!(written(5, 32), (Ok(line.len()), whole));
+    assert_eq!(written(5, line.len()), (Ok(line.len()), whole));
+    assert_eq!(written(5, line.len() - 1), (Err(12), [7; 32]));
+    assert_eq!(written(21, 0), (Err(7), [7; 32]));
+    assert_eq!(judge_log(&record, &nodes, line), Ok(Fault::default()));
 }

@@ -4,8 +4,8 @@ use crate::lent::filled;
 use cases::{Case, CaseFile, Expected, Input, NodeList};
 use interface::lent::{Element, Words, compare, patterned};
 use interface::{
-    Answer, Area, Calls, Fix, Found, Grid, Group, InForce, MOST_PARAMETERS, Name, Part, Position, Ramp, Screen, Timed,
-    Uncovered,
+    Answer, Area, Calls, Fault, Fix, Found, Grid, Group, InForce, MOST_PARAMETERS, Name, Part, Position, Ramp, Screen,
+    Timed, Uncovered,
 };
 use std::fmt;
 
@@ -61,6 +61,16 @@ fn returned(got: (u64, u64), expected: &Expected) -> Result<(), String> {
     same("place is", got.1, place)
 }
 
+/// Compares a text, its count of bytes and what stands behind it.
+fn written(out: &[u8], count: u64, expected: &Expected) -> Result<(), String> {
+    let (bytes, text): (u64, &[u8]) = match expected {
+        Expected::Written { count, bytes } => (*count, bytes),
+        _ => (0, &[]),
+    };
+    same("count is", count, bytes)?;
+    compare("out", out, &filled(out.len(), text))
+}
+
 /// A group of one grid of four nodes, for a lookup that answers the day factor.
 fn factor_group(ramps: &[Ramp]) -> Group {
     let mut group =
@@ -103,6 +113,14 @@ impl<'a> Runner<'a> {
             }
             Input::InForce { group, area } => self.in_force(self.file.group(group), *area, expected),
             Input::Hole { group, area } => self.hole(self.file.group(group), *area, expected),
+            Input::JudgeLog { group, nodes, log } => {
+                self.make_nodes(nodes);
+                self.judge_log(self.file.group(group), self.made(), log, expected)
+            }
+            Input::WriteLog { group, nodes, at, out_len } => {
+                self.make_nodes(nodes);
+                self.write_log(self.file.group(group), self.made(), *at, *out_len, expected)
+            }
             Input::Load { quantum, flag, out_len, floats } => self.load(floats, *flag, *quantum, *out_len, expected),
             &Input::Screen { lon, lat, quantum, parameters, number, at, fix } => {
                 self.screen(lon, lat, &Found { quantum, parameters, number, at, fix }, expected)
@@ -149,13 +167,8 @@ impl<'a> Runner<'a> {
     fn write_header(&self, group: &Group, out_len: usize, expected: &Expected) -> Result<(), String> {
         let (mut out, mut count, mut place) = (patterned(out_len), lent(), lent());
         let number = self.timed.write_header(group, &mut out, &mut count, &mut place);
-        let (bytes, text): (u64, &[u8]) = match expected {
-            Expected::Written { count, bytes } => (*count, bytes),
-            _ => (0, &[]),
-        };
         returned((number, place), expected)?;
-        same("count is", count, bytes)?;
-        compare("out", &out, &filled(out_len, text))
+        written(&out, count, expected)
     }
 
     fn field(&self, line: &[u8], k: u64, expected: &Expected) -> Result<(), String> {
@@ -216,6 +229,31 @@ impl<'a> Runner<'a> {
         };
         returned((number, place), expected)?;
         compare("uncovered", uncovered.words(), first.words())
+    }
+
+    fn judge_log(&self, group: &Group, nodes: &[i32], log: &[u8], expected: &Expected) -> Result<(), String> {
+        let (mut fault, mut place) = (Fault::patterned(), lent());
+        let number = self.timed.judge_log(group, nodes, log, &mut fault, &mut place);
+        let first = match *expected {
+            Expected::Fault(first) => first,
+            _ => Fault::default(),
+        };
+        returned((number, place), expected)?;
+        compare("fault", fault.words(), first.words())
+    }
+
+    fn write_log(
+        &self,
+        group: &Group,
+        nodes: &[i32],
+        at: Position,
+        out_len: usize,
+        expected: &Expected,
+    ) -> Result<(), String> {
+        let (mut out, mut count, mut place) = (patterned(out_len), lent(), lent());
+        let number = self.others()?.write_log_line(group, nodes, at, &mut out, &mut count, &mut place);
+        returned((number, place), expected)?;
+        written(&out, count, expected)
     }
 
     fn load(&self, floats: &[f32], flag: f32, quantum: i64, out_len: usize, expected: &Expected) -> Result<(), String> {

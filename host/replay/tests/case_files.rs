@@ -10,7 +10,7 @@ use std::path::{Path, PathBuf};
 
 /// The case files of the state that the host is built for, by name.
 fn files() -> Vec<PathBuf> {
-    let folder = Path::new(env!("CARGO_MANIFEST_DIR")).join("../../cases/after_03");
+    let folder = Path::new(env!("CARGO_MANIFEST_DIR")).join("../../cases/after_04");
     let entries = fs::read_dir(folder).expect("the case files are there");
     let mut files: Vec<PathBuf> = entries.map(|entry| entry.expect("an entry").path()).collect();
     files.sort();
@@ -46,5 +46,5 @@ fn the_second_program_agrees_with_every_case() {
 
 #[test]
 fn the_plain_program_agrees_with_every_case_of_a_timed_call() {
-    all_agree(&["field", "screen"], |file| run_timed(&Plain, file, |_| {}));
+    all_agree(&["field", "screen", "write_log"], |file| run_timed(&Plain, file, |_| {}));
 }

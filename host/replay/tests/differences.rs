@@ -7,7 +7,7 @@ use std::path::{Path, PathBuf};
 use std::process::{Command, Output};
 
 /// One case for each call whose expected answer is wrong, and where the answer differs from it.
-const WRONG: [(&str, &str, &str); 22] = [
+const WRONG: [(&str, &str, &str); 28] = [
     ("read_header", "C\t-\t=>\trefuse\t1\t2\n", "place is 1 instead of 2"),
     ("read_header", "C\t-\t=>\trefuse\t2\t1\n", "returned 1 instead of 2"),
     ("judge_record", "G\tg\t- 0 0 0 0 0 0\nC\tg\t=>\tok\n", "returned 2 instead of 0"),
@@ -73,6 +73,41 @@ const WRONG: [(&str, &str, &str); 22] = [
         "hole",
         "G\tg\t61 1 0 0 1 0 1|G 0 62 1 0 0 1 1 2 2 1 0 0\nC\tg\t1\t0\t0\t1\t=>\tok\t0\t0\t0\n",
         "returned 10 instead of 0",
+    ),
+    (
+        "judge_log",
+        "G\tg\t61 1 0 0 1 0 1|G 0 62 1 0 0 1 1 2 2 1 0 0\nN\tn\t4\tlist 7 8 9 10\n\
+         C\tg\tn\t666978093009300930096209370a0a\t=>\tok\t1\t1\n",
+        "fault[0] is 2 instead of 1",
+    ),
+    (
+        "judge_log",
+        "G\tg\t61 1 0 0 1 0 1|G 0 62 1 0 0 1 1 2 2 1 0 0\nN\tn\t4\tlist 7 8 9 10\n\
+         C\tg\tn\t666978093009300930096209370a\t=>\tok\t0\t4\n",
+        "fault[1] is 0 instead of 4",
+    ),
+    (
+        "judge_log",
+        "G\tg\t61 1 0 0 1 0 1|G 0 62 1 0 0 1 1 2 2 1 0 0\nN\tn\t3\tlist 7 8 9\nC\tg\tn\t-\t=>\tok\t0\t0\n",
+        "returned 13 instead of 0",
+    ),
+    (
+        "write_log",
+        "G\tg\t61 1 0 0 1 0 1|G 0 62 1 0 0 1 1 2 2 1 0 0\nN\tn\t4\tlist 7 8 9 10\n\
+         C\tg\tn\t0\t0\t0\t99\t=>\tok\t14\t66697809300930093009620937\n",
+        "out[13] is 10 instead of 168",
+    ),
+    (
+        "write_log",
+        "G\tg\t61 1 0 0 1 0 1|G 0 62 1 0 0 1 1 2 2 1 0 0\nN\tn\t4\tlist 7 8 9 10\n\
+         C\tg\tn\t0\t0\t0\t99\t=>\tok\t13\t66697809300930093009620937\n",
+        "count is 14 instead of 13",
+    ),
+    (
+        "write_log",
+        "G\tg\t61 1 0 0 1 0 1|G 0 62 1 0 0 1 1 2 2 1 0 0\nN\tn\t4\tlist 7 8 9 10\n\
+         C\tg\tn\t0\t0\t0\t13\t=>\tok\t14\t666978093009300930096209370a\n",
+        "returned 12 instead of 0",
     ),
     ("load", "C\t0\t7fc00000\t1\t3f800000\t=>\tok\t2\n", "nodes[0] is 1 instead of 2"),
     ("load", "C\t0\t7fc00000\t1\t7f800000\t=>\trefuse\t11\t2\n", "place is 1 instead of 2"),
@@ -155,6 +190,21 @@ fn bad_files_have_status_2() {
         ),
         ("hole.tsv", "G\tg\t- 0 0 0 0 0 0\nC\tg\t0\t0\t0\t=>\tok\t0\t0\t0\n", "line 2: no inputs of a hole case"),
         ("hole.tsv", "G\tg\t- 0 0 0 0 0 0\nC\tg\t0\t0\t0\t0\t=>\tok\t0\n", "line 2: no answer of a hole case"),
+        (
+            "judge_log.tsv",
+            "G\tg\t- 0 0 0 0 0 0\nN\tn\t0\tlist\nC\tg\tn\t=>\tok\t0\t0\n",
+            "line 3: no inputs of a judge_log case",
+        ),
+        (
+            "judge_log.tsv",
+            "G\tg\t- 0 0 0 0 0 0\nN\tn\t0\tlist\nC\tg\tn\t-\t=>\tok\t0\n",
+            "line 3: no answer of a judge_log case",
+        ),
+        (
+            "write_log.tsv",
+            "G\tg\t- 0 0 0 0 0 0\nN\tn\t0\tlist\nC\tg\tn\t0\t0\t0\t=>\tok\t0\t-\n",
+            "line 3: no inputs of a write_log case",
+        ),
         ("plan.tsv", "C\t1\t=>\tok\n", "line 1: no inputs of a plan case"),
     ];
     for (k, (name, text, why)) in cases.into_iter().enumerate() {

@@ -29,6 +29,9 @@ fn missing_files() {
             ("screen dock.txt none.nodes 0 0 0", missing("none.nodes")),
             ("inforce none.txt 0 0 0 0", missing("none.txt")),
             ("hole none.txt 0 0 0 0", missing("none.txt")),
+            ("judge none.txt dock.nodes -", missing("none.txt")),
+            ("judge dock.txt none.nodes -", missing("none.nodes")),
+            ("judge dock.txt dock.nodes none.log", missing("none.log")),
             ("load none.floats new.nodes 0", missing("none.floats")),
             ("check dock.txt/x", "cannot read dock.txt/x: a part of the path is no folder; check the path".into()),
         ],
@@ -50,6 +53,7 @@ fn folders_for_files() {
             ("screen dock.txt sub 0 0 0", read()),
             ("inforce sub 0 0 0 0", read()),
             ("hole sub 0 0 0 0", read()),
+            ("judge dock.txt dock.nodes sub", read()),
             ("load sub new.nodes 0", read()),
             ("load dock.floats sub 0", "cannot write sub: it is a folder; name a file".into()),
         ],
@@ -73,6 +77,7 @@ fn truncated_node_files() {
             ("lookup dock.txt cut.nodes 0 0 0", cut("cut.nodes", 23)),
             ("lookup dock.txt cut.nodes", cut("cut.nodes", 23)),
             ("screen dock.txt cut.nodes 0 0 0", cut("cut.nodes", 23)),
+            ("judge dock.txt cut.nodes -", cut("cut.nodes", 23)),
             ("load one.floats new.nodes 0", cut("one.floats", 1)),
         ],
     );
@@ -87,6 +92,7 @@ fn unreadable_files() {
         &[
             ("check /proc/self/mem", failed()),
             ("lookup dock.txt /proc/self/mem 0 0 0", failed()),
+            ("judge dock.txt dock.nodes /proc/self/mem", failed()),
             ("load /proc/self/mem new.nodes 0", failed()),
         ],
     );
@@ -115,6 +121,7 @@ fn unknown_commands_and_options() {
             ("check --json dock.txt", "there is no option '--json'; see bulhyemik check --help".into()),
             ("format --csv dock.txt", "there is no option '--csv'; see bulhyemik format --help".into()),
             ("load dock.floats new.nodes 0 --json", "there is no option '--json'; see bulhyemik load --help".into()),
+            ("judge --json dock.txt dock.nodes -", "there is no option '--json'; see bulhyemik judge --help".into()),
             ("help --csv", "there is no option '--csv'; see bulhyemik help --help".into()),
             ("inforce --tsv dock.txt 0 0 0 0", "there is no option '--tsv'; see bulhyemik inforce --help".into()),
             ("lookup --JSON dock.txt dock.nodes", "there is no option '--JSON'; see bulhyemik lookup --help".into()),
@@ -159,6 +166,8 @@ fn too_few_and_too_many_arguments() {
             ("inforce dock.txt 1 2 3 4 5", takes("inforce", area, "6 arguments")),
             ("hole dock.txt 1 2 3", takes("hole", area, "4 arguments")),
             ("hole dock.txt 1 2 3 4 5", takes("hole", area, "6 arguments")),
+            ("judge dock.txt dock.nodes", takes("judge", "HEADER NODES LOG", "2 arguments")),
+            ("judge dock.txt dock.nodes - -", takes("judge", "HEADER NODES LOG", "4 arguments")),
             ("load dock.floats new.nodes", takes("load", load, "2 arguments")),
             ("load dock.floats new.nodes 0 0 0", takes("load", load, "5 arguments")),
         ],
@@ -226,6 +235,9 @@ fn standard_input_for_two_things() {
             ("lookup - dock.nodes", points.into()),
             ("lookup dock.txt -", points.into()),
             ("check - -", "HEADER and NODES are both standard input; see bulhyemik check --help".into()),
+            ("judge - dock.nodes -", "HEADER and LOG are both standard input; see bulhyemik judge --help".into()),
+            ("judge dock.txt - -", "NODES and LOG are both standard input; see bulhyemik judge --help".into()),
+            ("judge - - -", "HEADER and NODES are both standard input; see bulhyemik judge --help".into()),
             ("load dock.floats - 0", "NODES is '-', but must be a file; see bulhyemik load --help".into()),
         ],
     );
@@ -255,6 +267,7 @@ fn no_memory_for_a_file() {
         ("check large", format!("cannot read large: {memory}")),
         ("check dock.txt large", format!("cannot read large: {memory}")),
         ("lookup dock.txt large 0 0 0", format!("cannot read large: {memory}")),
+        ("judge dock.txt dock.nodes large", format!("cannot read large: {memory}")),
         ("load large new.nodes 0", format!("cannot read large: {memory}")),
         (
             "load half new.nodes 0",

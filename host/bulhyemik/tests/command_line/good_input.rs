@@ -100,7 +100,7 @@ fn refusals_have_status_1_and_words() {
     folder.put("short.nodes", &[0; 20]);
     folder.put("mark.nodes", &words(&[i32::MIN; 6].map(i32::to_le_bytes)));
     folder.put("far.nodes", &words(&[4_000_001; 6].map(i32::to_le_bytes)));
-    let cases: [(&str, Answer); 15] = [
+    let cases: [(&str, Answer); 17] = [
         (
             "check early.txt",
             refused(1, 2, "the header ends before line 2, a ramp line: line 1 counts 1 ramp and 1 grid"),
@@ -138,6 +138,8 @@ fn refusals_have_status_1_and_words() {
             refused(10, 0, "the area has a side outside the limits, west above east or south above north"),
         ),
         ("hole limit.txt 1 0 0 0", refused(2, 1, "line 1: Q is 21, its limit is 0 to 20")),
+        ("judge limit.txt dock.nodes -", refused(2, 1, "line 1: Q is 21, its limit is 0 to 20")),
+        ("judge dock.txt short.nodes -", refused(13, 1, "the node list ends before the nodes of grid 1 do")),
         ("load dock.floats new.nodes 21", refused(2, 0, "Q is outside 0 to 20")),
         ("load dock.floats new.nodes -1", refused(2, 0, "Q is outside 0 to 20")),
     ];
@@ -152,8 +154,16 @@ fn refusals_have_status_1_and_words() {
 fn empty_files_go_to_the_library() {
     let folder = Folder::new("empty");
     folder.put("empty", b"");
-    let commands =
-        ["check empty", "check -", "format empty", "grids empty", "inforce empty 0 0 0 0", "hole empty 0 0 0 0"];
+    let commands = [
+        "check empty",
+        "check -",
+        "format empty",
+        "grids empty",
+        "inforce empty 0 0 0 0",
+        "hole empty 0 0 0 0",
+        "judge empty dock.nodes -",
+        "judge - dock.nodes empty",
+    ];
     for arguments in commands {
         assert_eq!(folder.run(arguments), refused(1, 1, "the header is empty"), "{arguments}");
     }
@@ -161,6 +171,8 @@ fn empty_files_go_to_the_library() {
     assert_eq!(folder.run("lookup dock.txt empty 0 0 0"), refused_at(13, 1, [0, 0, 0], short));
     assert_eq!(folder.run("screen dock.txt empty 0 0 0"), refused_at(13, 1, [0, 0, 0], short));
     assert_eq!(folder.run("check dock.txt empty"), refused(13, 1, short));
+    assert_eq!(folder.run("judge dock.txt empty empty"), refused(13, 1, short));
+    assert_eq!(folder.run("judge dock.txt dock.nodes empty"), accepted("passed\t0\n"));
     assert_eq!(folder.run("load empty new.nodes 21"), refused(2, 0, "Q is outside 0 to 20"));
     assert_eq!(folder.run("load empty new.nodes 0"), accepted("0\n"));
     assert_eq!(folder.get("new.nodes"), b"");

@@ -3,7 +3,8 @@
 use crate::program::{Folder, accepted};
 use std::fs;
 
-const COMMANDS: [&str; 9] = ["check", "grids", "format", "lookup", "screen", "inforce", "hole", "load", "help"];
+const COMMANDS: [&str; 10] =
+    ["check", "grids", "format", "lookup", "screen", "inforce", "hole", "judge", "load", "help"];
 
 /// A file of the repository.
 fn paper(name: &str) -> String {
@@ -47,10 +48,12 @@ fn the_usage_lines_name_the_options_of_a_command() {
 #[test]
 fn a_point_refused_is_status_1_in_every_help_text() {
     let folder = Folder::new("statuses");
-    for command in ["", "lookup", "screen"] {
+    for command in ["lookup", "screen"] {
         let text = folder.run(&format!("help {command}")).out;
         assert!(text.ends_with("exit status: 0 accepted, 1 refused (one point or more), 2 usage or file error\n"));
     }
+    let all = folder.run("help").out;
+    assert!(all.ends_with("exit status: 0 accepted or passed, 1 refused or failed, 2 usage or file error\n"));
 }
 
 #[test]

@@ -5,6 +5,7 @@ mod formats;
 mod good_input;
 mod help;
 mod hints;
+mod logs;
 mod points;
 mod program;
 mod rules;

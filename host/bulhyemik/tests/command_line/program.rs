@@ -128,6 +128,11 @@ pub fn refused_at(number: u64, place: u64, [lon, lat, day]: [i64; 3], words: &st
     answer
 }
 
+/// A log that does not pass.
+pub fn failed(line: u64, kind: &str, words: &str) -> Answer {
+    Answer { status: 1, out: format!("failed\t{line}\t{kind}\n"), err: format!("bulhyemik: failed: {words}\n") }
+}
+
 pub fn stopped(message: &str) -> Answer {
     Answer { status: 2, out: String::new(), err: format!("bulhyemik: {message}\n") }
 }

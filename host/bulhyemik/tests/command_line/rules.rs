@@ -1,4 +1,4 @@
-//! docs/RULES.md: its headers are accepted, its worked example is what is answered, and each refusal has its row.
+//! docs/RULES.md: its headers are accepted, its worked example is what is answered, its log passes, and each refusal has its row.
 
 use crate::program::{Folder, accepted, refused_at, words};
 
@@ -39,6 +39,24 @@ fn the_worked_example_is_answered_so() {
     folder.put("dock.nodes", &words(&[0, i32::MIN, 20, 100, 110, 120].map(i32::to_le_bytes)));
     assert_eq!(fix("0 5"), accepted("fix\t0\t5\t200\tbasin\t50\n"));
     assert_eq!(fix("1 5"), refused_at(8, 0, [1, 5, 200], "a node that the point needs is the no-data mark"));
+}
+
+#[test]
+fn the_log_passes_and_each_kind_has_its_words() {
+    let folder = Folder::new("rules-log");
+    let judged = |log: &str| folder.run_with(&["judge", "dock.txt", "dock.nodes", "-"], log.as_bytes());
+    assert_eq!(judged(&(lines("fix").join("\n") + "\n")), accepted("passed\t2\n"));
+    let (_, logs) = RULES.split_once("## Logs").expect("it has the logs");
+    for (kind, line) in [
+        (1, "fix\t5\t5\t200\tbasin\n"),
+        (2, "fix\t21\t10\t200\tbasin\t0\n"),
+        (3, "fix\t5\t5\t200\tquay\t55\n"),
+        (4, "fix\t5\t5\t200\tbasin\t56\n"),
+    ] {
+        let row = logs.lines().find_map(|line| line.strip_prefix(&format!("| {kind} | "))).expect("it has the kind");
+        let words = row.split(" | ").next().expect("it has words");
+        assert_eq!(judged(line).out, format!("failed\t1\t{words}\n"));
+    }
 }
 
 #[test]

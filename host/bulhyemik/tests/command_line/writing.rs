@@ -103,7 +103,14 @@ fn a_file_size_limit_leaves_nothing_behind() {
 fn standard_output_that_cannot_be_written() {
     let folder = Folder::new("stdout");
     let full = "cannot write standard output: the disk is full; make room or write elsewhere";
-    for arguments in ["format dock.txt", "--help", "check /dev/null", "lookup dock.txt dock.nodes 99 99 0"] {
+    for arguments in [
+        "format dock.txt",
+        "--help",
+        "check /dev/null",
+        "lookup dock.txt dock.nodes 99 99 0",
+        "judge dock.txt dock.nodes /dev/null",
+        "judge dock.txt dock.nodes dock.txt",
+    ] {
         let answer = folder.shell(&format!("\"$PROGRAM\" {arguments} > /dev/full"));
         assert_eq!(answer, stopped(full), "{arguments}");
     }

@@ -1,9 +1,12 @@
 //! The second program with one fault: what a differential test must find.
 
+mod logs;
+
 use interface::{
-    Answer, Area, Calls, Fix, Found, Grid, Group, InForce, MARK, MOST_PARAMETERS, Part, Position, Screen, Timed,
+    Answer, Area, Calls, Fault, Fix, Found, Grid, Group, InForce, MARK, MOST_PARAMETERS, Part, Position, Screen, Timed,
     Uncovered,
 };
+use logs::*;
 use reference::Reference;
 
 /// `Mutant`, a back end by a function for each call, and `SOUND`, whose functions are the second program's calls.
@@ -38,11 +41,20 @@ mutant! {
         ) -> u64;
         fn grids_in_force(group: &Group, area: Area, list: &mut InForce, place: &mut u64) -> u64;
         fn hole(group: &Group, area: Area, uncovered: &mut Uncovered, place: &mut u64) -> u64;
+        fn judge_log(group: &Group, nodes: &[i32], log: &[u8], fault: &mut Fault, place: &mut u64) -> u64;
         fn load_nodes(floats: &[f32], flag: f32, quantum: i64, nodes: &mut [i32], place: &mut u64) -> u64;
     }
     Calls {
         fn version() -> u64;
         fn field(line: &[u8], number: u64, part: &mut Part);
+        fn write_log_line(
+            group: &Group,
+            nodes: &[i32],
+            at: Position,
+            out: &mut [u8],
+            count: &mut u64,
+            place: &mut u64
+        ) -> u64;
         fn screen_answer(found: &Found, shifts: &mut [f64; MOST_PARAMETERS], place: &mut u64) -> u64;
         fn screen_record(lon: i64, lat: i64, found: &Found, screen: &mut Screen, place: &mut u64) -> u64;
     }
@@ -70,6 +82,15 @@ mutants! {
     hole: westmost_before_southmost, east_edge_is_no_cover, last_coordinate_is_not_tried, area_is_not_judged,
         worst_grid_is_no_cover, only_the_first_row_is_walked, gap_of_one_is_passed_over, coordinate_beside_none,
         coordinate_beside_a_refusal;
+    judge_log: every_log_passes, only_the_first_line_is_judged, last_bad_line_is_told, lines_count_from_zero,
+        line_feed_may_lack, bytes_behind_the_last_line_pass, carriage_return_passes, empty_line_passes,
+        leading_zeros_pass, minus_zero_passes, plus_passes, numbers_wrap_at_64_bits, values_behind_np_pass,
+        missing_value_is_zero, last_value_is_not_compared, grid_is_a_number, beginning_of_a_name_is_enough,
+        name_of_25_bytes_is_of_the_form, any_byte_is_of_a_name, lookup_before_form, beyond_a_limit_is_of_no_form, unknown_name_is_of_no_form,
+        unknown_name_before_the_lookup, shift_before_grid, too_few_nodes_are_a_bad_line, fault_beside_a_refusal;
+    write_log_line: line_without_its_feed, room_for_the_line_is_too_short, room_for_all_but_the_feed_is_enough,
+        count_without_the_feed, zero_behind_the_line, line_although_12_refuses, count_beside_12, room_before_the_lookup,
+        values_of_missing_parameters, number_for_the_name;
     load_nodes: last_node_is_not_written, zero_flag_catches_both_zeros, negative_quantum_is_zero;
     screen_answer: missing_shift_is_minus_zero, number_outside_the_table_is_handed_on, place_of_the_lookup_is_lost;
     screen_record: degrees_after_a_refusal, negative_parameters_are_three;

@@ -1,0 +1,6 @@
+-- What the contracts of `logs` cite, and what it promises.
+pub mod Line
+pub mod Log
+pub mod Writing
+pub mod Reading
+pub mod Order4
