@@ -1,5 +1,5 @@
 #!/bin/sh
-# Shows the command line at work on the two examples: sh demo.sh PROGRAM
+# Shows the command line at work on the three examples: sh demo.sh PROGRAM
 #
 # Says what is asked, shows the command and prints its answer. The commands run on copies in a temporary folder; typed
 # in this folder they answer the same. The status is 0 only if all of the output is that of demo.expected.
@@ -17,7 +17,7 @@ work=${TMPDIR:-/tmp}/bulhyemik-demo.$$
 (umask 077 && mkdir "$work") || exit 2
 trap 'rm -rf "$work"' EXIT
 trap 'exit 2' HUP INT TERM
-cp "$(dirname "$0")"/canyon.* "$(dirname "$0")"/harbour[.-]* "$(dirname "$0")/demo.expected" "$work" || exit 2
+cp "$(dirname "$0")"/canyon.* "$(dirname "$0")"/harbour[.-]* "$(dirname "$0")"/pacific.* "$(dirname "$0")/demo.expected" "$work" || exit 2
 cd "$work" || exit 2
 
 bulhyemik() {
@@ -98,6 +98,23 @@ demo() {
         'bulhyemik judge harbour.txt harbour.nodes harbour-grid.log'
     ask 'One that cuts fractions off, where the nearest step is asked for:' \
         'bulhyemik judge harbour.txt harbour.nodes harbour-shift.log'
+
+    printf '\n%s\n' 'Pacific: the level of the sea in metres, in two grids across the 180 degree meridian, each written from its own side.'
+    ask 'Where do they lie, and which longitudes of points is that?' \
+        'bulhyemik grids pacific.txt'
+    ask 'Points at 179.5, -179.5, 180, -180, 178.5, -178.5 degrees, east of the sea, and one that has to be turned first.' \
+        'bulhyemik lookup pacific.txt pacific.nodes <pacific.points'
+    ask 'Which grids does an area across the meridian use?' \
+        'bulhyemik inforce pacific.txt 644400000 -640800000 -62100000 -58500000'
+    ask 'So asked for in two calls:' \
+        'bulhyemik inforce pacific.txt 644400000 648000000 -62100000 -58500000
+  bulhyemik inforce pacific.txt -648000000 -640800000 -62100000 -58500000'
+    ask 'And anywhere on the earth? Longitudes are those of the area, so the westmost is -180 degrees.' \
+        'bulhyemik inforce pacific.txt -648000000 648000000 -324000000 324000000'
+    ask 'Going east from -180 degrees along 17 degrees south, where does the sea end?' \
+        'bulhyemik hole pacific.txt -648000000 648000000 -61200000 -61200000'
+    ask 'What if both had rank 1? As written they lie far apart.' \
+        "sed '/sea/s/2\\(.52\\)\$/1\\1/' pacific.txt | bulhyemik check -"
 }
 
 demo >transcript

@@ -1,5 +1,5 @@
 #!/usr/bin/env python3
-"""Writes the binary files of the examples beside itself: canyon.floats, canyon.nodes and harbour.nodes."""
+"""Writes the binary files of the examples beside itself: canyon.floats, and the nodes of canyon, harbour and pacific."""
 
 from fractions import Fraction
 from pathlib import Path
@@ -41,10 +41,21 @@ EAST_BASIN = """
     2.250  2.500  2.625  none
 """
 
+# The sea's level in metres: at the first node, a node further east, a node further north, and how many there are each way.
+PACIFIC_QUANTUM = 10
+PACIFIC_LAGOON = "1.000", "0.250", "0.125", 13, 4
+PACIFIC_SEA = "0.500", "0.125", "0.250", 17, 5
+
 
 def steps(value, quantum):
     """The value in steps: nearest, ties to even."""
     return round(Fraction(value) * 2**quantum)
+
+
+def plane(first, east, north, ni, nj):
+    """The values of a grid's nodes, first along i, then along j."""
+    first, east, north = map(Fraction, (first, east, north))
+    return [first + i * east + j * north for j in range(nj) for i in range(ni)]
 
 
 def write(name, kind, values):
@@ -59,3 +70,6 @@ write("canyon.nodes", "i", [steps(value, CANYON_QUANTUM) for value in floats])
 
 silt = (BAY + WEST_BASIN + EAST_BASIN).split()
 write("harbour.nodes", "i", [MARK if value == "none" else steps(value, HARBOUR_QUANTUM) for value in silt])
+
+level = plane(*PACIFIC_LAGOON) + plane(*PACIFIC_SEA)
+write("pacific.nodes", "i", [steps(value, PACIFIC_QUANTUM) for value in level])

@@ -7,10 +7,11 @@
  *   steps: one step is 2 to the power -Q of the group's unit. Days are plain numbers. Ramp factors are millionths.
  *
  * Limits
- *   longitude +-1,296,000,000   latitude +-324,000,000   day, A, B +-1,000,000   S0, S1 +-10,000,000
- *   DLON, DLAT 1 to 1,000,000 in size, not 0             NI, NJ 2 to 16,384      rank 1 to 1,000
- *   START 0 to 16,777,215   Q 0 to 20   NP 1 to 3        ramps 0 to 8            grids 1 to 64
- *   node value +-4,000,000, or the no-data mark          name 1 to 24 bytes of A to Z, a to z, 0 to 9, `_`, `-`
+ *   longitude of points and areas +-648,000,000          latitude +-324,000,000   node value +-4,000,000, or the no-data mark
+ *   longitude of a grid's edges +-1,296,000,000          width of a grid at most 1,296,000,000, a whole turn
+ *   day, A, B +-1,000,000   S0, S1 +-10,000,000          NI, NJ 2 to 16,384      rank 1 to 1,000
+ *   DLON, DLAT 1 to 1,000,000 in size, not 0             ramps 0 to 8            grids 1 to 64
+ *   START 0 to 16,777,215   Q 0 to 20   NP 1 to 3        name 1 to 24 bytes of A to Z, a to z, 0 to 9, `_`, `-`
  *
  * What every function has in common
  * - It returns the number of the refusal, BULHYEMIK_ACCEPTED (0) if the call is accepted, and writes the refusal's place to
@@ -48,7 +49,7 @@ extern "C" {
 
 /* The version of this page: major * 1,000,000 + minor * 1,000 + patch; bulhyemik_version answers the library's. An added call
  * raises the minor number; a changed struct, limit or meaning raises the major one. */
-#define BULHYEMIK_VERSION 1004000
+#define BULHYEMIK_VERSION 2000000
 
 /* The library takes the bytes of a name eight at a time, the first as the lowest of a number. */
 #if defined(__BYTE_ORDER__) && defined(__ORDER_LITTLE_ENDIAN__)
@@ -63,8 +64,8 @@ enum bulhyemik_refusal {
     BULHYEMIK_BAD_FORM = 1,    /* header text not of its form, or it ends early; first bad or missing line */
     BULHYEMIK_BAD_NUMBER = 2,  /* number outside its limit, A above B, malformed name, unused entry not zero; its line, or 0 */
     BULHYEMIK_SAME_NAME = 3,   /* grid name stands earlier; lowest such grid */
-    BULHYEMIK_BAD_EXTENT = 4,  /* far edge outside the limits, or START + NI*NJ*NP above 16,777,216; lowest such grid */
-    BULHYEMIK_SAME_RANK = 5,   /* shares a coordinate and its rank with an earlier grid; lowest such later grid */
+    BULHYEMIK_BAD_EXTENT = 4,  /* far edge or width outside its limit, or START + NI*NJ*NP above 16,777,216; lowest such grid */
+    BULHYEMIK_SAME_RANK = 5,   /* holds a point that an earlier grid of its rank holds too; lowest such later grid */
     BULHYEMIK_BAD_POINT = 6,   /* point outside the limits; 0 */
     BULHYEMIK_NO_GRID = 7,     /* no grid holds the point; 0 */
     BULHYEMIK_NO_DATA = 8,     /* a used corner is the no-data mark, any parameter; 0 */
@@ -93,7 +94,7 @@ enum bulhyemik_size {
     BULHYEMIK_MOST_GRIDS = 64,      /* grids of a group, used or not */
     BULHYEMIK_MOST_PARAMETERS = 3,  /* results of a lookup, used or not */
     BULHYEMIK_HEADER_BYTES = 16384, /* holds every header of this and later versions (proved today: at most 6,604 bytes) */
-    BULHYEMIK_LOG_LINE_BYTES = 128  /* holds every log line that this and later versions write (proved today: at most 94 bytes) */
+    BULHYEMIK_LOG_LINE_BYTES = 128  /* holds every log line that this and later versions write (proved today: at most 93 bytes) */
 };
 
 /* The no-data mark of a node list. */
@@ -116,7 +117,7 @@ typedef struct {
     int64_t lon, lat;                   /* of node (0, 0), in mas */
     int64_t dlon, dlat;                 /* spacings, in mas; signed, not 0 */
     int64_t ni, nj;                     /* counts of nodes */
-    int64_t rank;                       /* 1 is best; grids that share a coordinate differ in it */
+    int64_t rank;                       /* 1 is best; grids that hold the same point differ in it */
     int64_t start;                      /* first position in the node list, from 0 */
 } bulhyemik_grid;
 
@@ -268,7 +269,10 @@ uint64_t bulhyemik_version(void);
  * Units and limits: as on top of this page.
  * Refusals, in this order: 2 at the least line that has a number outside its limit, A above B, a malformed name or a byte that
  * is not zero behind it (1 is the group's line, then come the ramps' and the grids'; an unused entry that is not zero counts
- * for line 1); 3, then 4, then 5, each at the lowest such grid.
+ * for line 1); 3, then 4, then 5, each at the lowest such grid. 4 is a far edge outside the limits, a grid wider than a whole
+ * turn, or nodes that end above 16,777,216. 5 is an admitted point that the grid and an earlier one of its rank both hold, as
+ * bulhyemik_lookup says; so grids can meet across the 180 degree meridian, and one that ends there holds both -648,000,000 and
+ * 648,000,000.
  * Lent memory: `*group` is read.
  *
  *     group.quantum = 21;
@@ -333,7 +337,11 @@ void bulhyemik_field(const uint8_t *line, size_t line_len, uint64_t number, bulh
  * bilinear value of the point's cell, rounded to a whole step, times the day's factor, rounded again; ties go to even. A corner
  * of weight 0 is not used: its content changes nothing.
  *
- * Units and limits: `lon` (+-1,296,000,000) and `lat` (+-324,000,000) are in mas, `day` is +-1,000,000; nodes and results are in
+ * A grid holds a point if the latitude lies in its extent, edges included, and so does `lon`, or `lon` + 1,296,000,000, or
+ * `lon` - 1,296,000,000; the first that does, in this order, is the longitude used for the cell. So a grid from 179 to 181
+ * degrees holds the points from 179 to 180 degrees and those from -180 to -179.
+ *
+ * Units and limits: `lon` (+-648,000,000) and `lat` (+-324,000,000) are in mas, `day` is +-1,000,000; nodes and results are in
  * steps. A node list may be longer than every grid's range.
  * Refusals, in this order: 2, 3, 4, 5 as of bulhyemik_judge; 6, then 9, at 0 if point or day is outside its limit; 13 at the
  * lowest grid whose range ends behind the node list; 7 at 0 if no grid holds the point; 8, then 11, at 0 if any parameter of a
@@ -369,9 +377,11 @@ uint64_t bulhyemik_lookup_many(const bulhyemik_group *group, const int32_t *node
                                bulhyemik_answer *results, size_t results_len, uint64_t *place);
 
 /* Lists the grids that are chosen at one or more coordinates of an area: all points of whole mas from west to east and from
- * south to north, sides included. An area that no grid meets has an empty list, which is no refusal.
+ * south to north, sides included. An area that no grid meets has an empty list, which is no refusal. An area across the 180
+ * degree meridian needs two calls: one with 648,000,000 for `east`, one with -648,000,000 for `west`. What is answered are the
+ * area's own longitudes, never turned ones.
  *
- * Units and limits: the sides are in mas, `west` and `east` +-1,296,000,000, `south` and `north` +-324,000,000.
+ * Units and limits: the sides are in mas, `west` and `east` +-648,000,000, `south` and `north` +-324,000,000.
  * Refusals, in this order: 2, 3, 4, 5 as of bulhyemik_judge; 10 at 0 if a side is outside its limit, west above east or south
  * above north.
  * Lent memory: `*group` is read; `*list` is filled whole, with zeros after a refusal.
@@ -387,7 +397,8 @@ uint64_t bulhyemik_grids_in_force(const bulhyemik_group *group, int64_t west, in
 
 /* Finds the hole of an area: of its coordinates that no grid holds, so that none is chosen there, the southmost, and of these
  * the westmost. An area that the grids cover whole has none, which is no refusal. Nodes play no part: where the chosen grid has
- * the no-data mark the area is covered, and a lookup is refused by 8.
+ * the no-data mark the area is covered, and a lookup is refused by 8. As of bulhyemik_grids_in_force, an area across the 180
+ * degree meridian needs two calls.
  *
  * Units and limits: as of bulhyemik_grids_in_force.
  * Refusals: as of bulhyemik_grids_in_force, in the same order: 2, 3, 4, 5, then 10 at 0.
@@ -479,8 +490,8 @@ uint64_t bulhyemik_screen_answer(int64_t quantum, int64_t parameters, uint64_t n
 /* Fills the screen record: the degrees of a point, each one float division by 3,600,000, and the shifts as of
  * bulhyemik_screen_answer.
  *
- * Units and limits: `lon` and `lat` are in mas and have no limit here, since the lookup has judged them; all else is as of
- * bulhyemik_screen_answer.
+ * Units and limits: `lon` and `lat` are in mas and have no limit here, since the lookup has judged them; the degrees are theirs
+ * as given, never turned. All else is as of bulhyemik_screen_answer.
  * Refusals: as of bulhyemik_screen_answer, in the same order.
  * Lent memory: `*fix` is read; `*screen` is filled whole, with five +0 after a refusal.
  *

@@ -7,7 +7,8 @@
         print(answer)
 
 Longitudes and latitudes are whole milliarcseconds, nodes and results whole steps. Coordinates and days may have any
-size; what is no whole number is a TypeError, bool too. What the library refuses is raised as Refused.
+size; what is no whole number is a TypeError, bool too. What the library refuses is raised as Refused, a longitude
+beyond 180 degrees (648000000) too: turn it by 1296000000 first, and ask for an area across that meridian in two calls.
 
 The library is the file that BULHYEMIK_SHARED_LIBRARY names, else what the loader finds as libbulhyemik.so with the major
 version behind it.
@@ -27,9 +28,9 @@ from ctypes import POINTER, c_char, c_char_p, c_double, c_float, c_int32, c_int6
 from dataclasses import dataclass, field
 from pathlib import Path
 
-# The library's version that brought the youngest calls used here, those for logs: an older one lacks them, a later one
-# has them, until the major number changes.
-NEEDED = 1004000
+# The library's version that brought the limits and the youngest calls of this module: an older one lacks them, a later
+# one has them, until the major number changes.
+NEEDED = 2000000
 
 (ACCEPTED, BAD_FORM, BAD_NUMBER, SAME_NAME, BAD_EXTENT, SAME_RANK, BAD_POINT, NO_GRID, NO_DATA, BAD_DAY, BAD_AREA,
  BAD_NODE, BAD_LENGTH, FEW_NODES) = range(14)
@@ -37,8 +38,8 @@ REASONS = {
     BAD_FORM: "header text not of its form, or it ends early",
     BAD_NUMBER: "number outside its limit, or A above B",
     SAME_NAME: "grid name stands earlier",
-    BAD_EXTENT: "far edge outside the limits, or START + NI*NJ*NP above 16,777,216",
-    SAME_RANK: "shares a coordinate and its rank with an earlier grid",
+    BAD_EXTENT: "far edge or width outside its limit, or START + NI*NJ*NP above 16,777,216",
+    SAME_RANK: "holds a point that an earlier grid of its rank holds too",
     BAD_POINT: "point outside the limits",
     NO_GRID: "no grid holds the point",
     NO_DATA: "a used corner is the no-data mark",

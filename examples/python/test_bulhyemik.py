@@ -60,7 +60,7 @@ def single(model, point):
 def random_points(count, seed):
     """Points in and around the harbour, a few of them and a few days beyond every limit."""
     chance = random.Random(seed)
-    wild = (HUGE, -HUGE, 2**63, -2**63 - 1, 1296000001, -324000001)
+    wild = (HUGE, -HUGE, 2**63, -2**63 - 1, 648000001, -648000001, -324000001)
     return [(chance.choice(wild) if chance.random() < .02 else chance.randint(-14401000, -14359000),
              chance.choice(wild) if chance.random() < .02 else chance.randint(179999000, 180031000),
              chance.choice(wild) if chance.random() < .02 else chance.randint(90, 310)) for _ in range(count)]
@@ -154,14 +154,14 @@ class Interface(Case):
             spec.loader.exec_module(second)
 
     def test_library_of_another_version(self):
-        for version in (0, 999999, 1003999, 2000000, 2004000):
+        for version in (0, 1004000, 1999999, 3000000, 3004000):
             with self.assertRaisesRegex(ImportError, f"version {version}.*BULHYEMIK_SHARED_LIBRARY"):
                 self.load(lambda path: mock.Mock(bulhyemik_version=mock.Mock(return_value=version)))
-        for version in (1004000, 1004005, 1005000, 1999999):
+        for version in (2000000, 2000005, 2001000, 2999999):
             self.load(lambda path: mock.Mock(bulhyemik_version=mock.Mock(return_value=version)))
 
     def test_library_that_is_none(self):
-        for named in ("/nowhere/libbulhyemik.so.1", __file__, str(HERE)):
+        for named in ("/nowhere/libbulhyemik.so.2", __file__, str(HERE)):
             with mock.patch.dict("os.environ", BULHYEMIK_SHARED_LIBRARY=named):
                 with self.assertRaisesRegex(ImportError, "name its file in BULHYEMIK_SHARED_LIBRARY"):
                     self.load(ctypes.CDLL)
@@ -189,7 +189,8 @@ class Groups(Case):
                  for number in range(1, 65)]
         ramps = ["ramp\t-1000000\t-10000000\t1000000\t10000000\n"] * 8
         full = "".join([f"group\t{name}\tarc-second\t20\t3\t8\t64\n", *ramps, *grids])
-        for text in (DOCK, full.encode(), *((EXAMPLES / file).read_bytes() for file in ("canyon.txt", "harbour.txt"))):
+        examples = [(EXAMPLES / f"{each}.txt").read_bytes() for each in ("canyon", "harbour", "pacific")]
+        for text in (DOCK, full.encode(), *examples):
             self.assertEqual(text, Group(text).text())
         self.assertEqual((name, 8, 64), (Group(full).name, len(Group(full).ramps), len(Group(full).grids)))
         self.assertEqual("G" * 22 + "64", Group(full).grids[63].name)
@@ -202,14 +203,18 @@ class Groups(Case):
 
     def test_refusals(self):
         two = DOCK.replace(b"1\t1\n", b"1\t2\n") + b"grid\tquay\t20\t10\t10\t10\t3\t2\t2\t0\n"
-        self.assertEqual(2, len(Group(two).grids))
+        apart = two.replace(b"basin\t0", b"basin\t647999980").replace(b"quay\t20", b"quay\t-648000000")
+        across = apart.replace(b"2\t2\t0", b"2\t1\t0")  # two grids of a rank that meet at 180 degrees
+        self.assertEqual((2, 2), (len(Group(two).grids), len(Group(apart).grids)))
         for number, place, text in [
             (1, 1, b""), (1, 2, DOCK[:40]), (1, 4, DOCK + b"\n"), (1, 1, b"\xef\xbb\xbf" + DOCK), (1, 1, "\0" * 70000),
             (1, 3, DOCK.decode().replace("basin", "Becken-ä")), (1, 1, "\ud800"),
             (2, 1, DOCK.replace(b"13", b"21")), (2, 1, DOCK.replace(b"13", b"9" * 5000)),
             (2, 2, DOCK.replace(b"100\t", b"201\t")), (3, 2, two.replace(b"quay", b"basin")),
             (4, 1, DOCK.replace(b"3\t2\t1\t0", b"3\t2\t1\t16777215")),
+            (4, 1, DOCK.replace(b"0\t0\t10\t10\t3", b"-648000001\t0\t1000000\t10\t1298")),
             (5, 2, two.replace(b"2\t2\t0", b"2\t1\t0")),
+            (5, 2, across),
         ]:
             self.assertRefused(number, place, Group, text)
 
@@ -261,10 +266,21 @@ class Areas(Case):
         self.assertIsNone(self.harbour.hole(-14400000, -14360000, 180000000, 180030000))
         self.assertEqual((0, 0), self.harbour.hole(0, 0, 0, 0))
 
+    def test_across_the_meridian(self):
+        pacific = Group.read(EXAMPLES / "pacific.txt")
+        south, north = -62100000, -58500000
+        self.assertEqual([InForce(1, "lagoon", 644400000, -61200000), InForce(2, "sea", 640800000, south)],
+                         pacific.in_force(640800000, 648000000, south, north))
+        there = [InForce(1, "lagoon", -648000000, -61200000), InForce(2, "sea", -648000000, south)]
+        self.assertEqual(there, pacific.in_force(-648000000, -640800000, south, north))
+        self.assertEqual(there, pacific.in_force(*self.EARTH))
+        self.assertIsNone(pacific.hole(640800000, 648000000, south, north))
+        self.assertEqual((-640799999, south), pacific.hole(-648000000, 648000000, south, north))
+
     def test_refused_and_wrong(self):
         for call in (self.harbour.in_force, self.harbour.hole):
-            for area in ((1, 0, 0, 0), (0, 0, 1, 0), (-1296000001, 0, 0, 0), (0, 0, 0, 324000001), (-HUGE, HUGE, 0, 0),
-                         (0, 0, -2**64, 2**64)):
+            for area in ((1, 0, 0, 0), (0, 0, 1, 0), (-648000001, 0, 0, 0), (0, 648000001, 0, 0), (0, 0, 0, 324000001),
+                         (-HUGE, HUGE, 0, 0), (0, 0, -2**64, 2**64), (648000000, -648000000, 0, 0)):
                 self.assertRefused(10, 0, call, *area)
             for bad in (0.0, None, "0", True, b"0", [0]):
                 for place in range(4):
@@ -288,6 +304,13 @@ class Lookups(Case):
                           Fix(2, "North", (1363148, -2516582)), (7, 0)],
                          [single(canyon, point) for point in points_of("canyon")])
 
+    def test_pacific(self):
+        pacific = example("pacific")
+        self.assertEqual([Fix(1, "lagoon", (1984,)), Fix(1, "lagoon", (3520,)), Fix(1, "lagoon", (2752,)),
+                          Fix(1, "lagoon", (2752,)), Fix(2, "sea", (1280,)), Fix(2, "sea", (2816,)), (7, 0), (6, 0)],
+                         [single(pacific, point) for point in points_of("pacific")])
+        self.assertEqual(-179.5, pacific.screen(-646200000, -60300000, 0).longitude)
+
     def test_screen(self):
         self.assertEqual((5 / 3600000, 5 / 3600000, Fix(1, "basin", (55,)), (55 / 8192,)), self.dock.screen(5, 5, 200))
         shown = example("canyon").screen(27720000, 143880000, 0)
@@ -298,7 +321,7 @@ class Lookups(Case):
         few = Model(Group(DOCK), DOCK_NODES[:5])
         far = Model(Group(DOCK), [4000001, MARK, 0, 0, 0, 0])
         for model, number, place, point in [
-            (self.dock, 6, 0, (1296000001, 0, 0)), (self.dock, 6, 0, (0, -324000001, HUGE)),
+            (self.dock, 6, 0, (648000001, 0, 0)), (self.dock, 6, 0, (0, -324000001, HUGE)),
             (self.dock, 6, 0, (HUGE, 0, 0)), (self.dock, 6, 0, (0, -HUGE, 0)), (self.dock, 6, 0, (2**64, 0, 0)),
             (self.dock, 9, 0, (0, 0, 1000001)), (self.dock, 9, 0, (0, 0, -2**64)), (self.dock, 7, 0, (21, 10, 0)),
             (few, 13, 1, (0, 0, 0)), (few, 6, 0, (HUGE, 0, 0)), (Model(Group(DOCK), []), 13, 1, (0, 0, 0)),
@@ -568,10 +591,10 @@ class Logs(Case):
 
     def test_the_longest_line(self):
         ramps = "ramp\t-1000000\t10000000\t1000000\t0\n" * 8
-        text = f"group\tlong\tmetre\t0\t3\t8\t1\n{ramps}grid\t{'N' * 24}\t-1296000000\t-324000000\t1\t1\t2\t2\t1\t0\n"
+        text = f"group\tlong\tmetre\t0\t3\t8\t1\n{ramps}grid\t{'N' * 24}\t-648000000\t-324000000\t1\t1\t2\t2\t1\t0\n"
         model = Model(Group(text), [-4000000] * 12)
-        line = model.log_line(-1296000000, -324000000, -1000000)
-        self.assertEqual((94, None), (len(line), model.judge_log(line)))
+        line = model.log_line(-648000000, -324000000, -1000000)
+        self.assertEqual((93, None), (len(line), model.judge_log(line)))
 
     def test_what_is_written_passes(self):
         for model, seed in ((self.harbour, 5), (example("canyon"), 6)):

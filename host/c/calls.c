@@ -358,8 +358,8 @@ static void hole(void) {
     EXPECT(uncovered.found == 1 && uncovered.lon == 0 && uncovered.lat == 11);
     EXPECT(bulhyemik_hole(&group, 20, 21, 11, 11, &uncovered, &place) == BULHYEMIK_ACCEPTED);
     EXPECT(uncovered.found == 1 && uncovered.lon == 20 && uncovered.lat == 11);
-    EXPECT(bulhyemik_hole(&group, -1296000000, 1296000000, -324000000, 324000000, &uncovered, &place) == 0);
-    EXPECT(uncovered.found == 1 && uncovered.lon == -1296000000 && uncovered.lat == -324000000);
+    EXPECT(bulhyemik_hole(&group, -648000000, 648000000, -324000000, 324000000, &uncovered, &place) == 0);
+    EXPECT(uncovered.found == 1 && uncovered.lon == -648000000 && uncovered.lat == -324000000);
     memset(&uncovered, 0xa5, sizeof uncovered);
     place = 77;
     EXPECT(bulhyemik_hole(&group, 0, 20, 0, 10, &uncovered, &place) == BULHYEMIK_ACCEPTED && place == 0);
@@ -495,10 +495,10 @@ static void line_refused(const bulhyemik_group *group, const int32_t *nodes, siz
 /* The line of a point in a group of the greatest numbers is the longest of all. */
 static void longest_line(void) {
     static const char line[] =
-        "fix\t-1296000000\t-324000000\t-1000000\tABCDEFGHIJKLMNOPQRSTUVWX\t-320000000\t-320000000\t-320000000\n";
+        "fix\t-648000000\t-324000000\t-1000000\tABCDEFGHIJKLMNOPQRSTUVWX\t-320000000\t-320000000\t-320000000\n";
     static int32_t nodes[12];
     bulhyemik_group group = dock();
-    bulhyemik_position at = position(-1296000000, -324000000, -1000000);
+    bulhyemik_position at = position(-648000000, -324000000, -1000000);
     uint8_t out[BULHYEMIK_LOG_LINE_BYTES];
     uint64_t count = 77, place = 77;
     int k;
@@ -513,11 +513,11 @@ static void longest_line(void) {
     for (k = 0; k < 12; k++)
         nodes[k] = -4000000;
     memset(out, 0xa5, sizeof out);
-    EXPECT(bulhyemik_write_log_line(&group, nodes, 12, &at, out, 93, &count, &place) == BULHYEMIK_BAD_LENGTH);
+    EXPECT(bulhyemik_write_log_line(&group, nodes, 12, &at, out, 92, &count, &place) == BULHYEMIK_BAD_LENGTH);
     EXPECT(count == 0 && place == 0 && all(out, sizeof out, 0xa5));
-    EXPECT(bulhyemik_write_log_line(&group, nodes, 12, &at, out, 94, &count, &place) == BULHYEMIK_ACCEPTED);
-    EXPECT(count == 94 && place == 0 && strlen(line) == 94 && memcmp(out, line, 94) == 0);
-    EXPECT(all(out + 94, sizeof out - 94, 0xa5));
+    EXPECT(bulhyemik_write_log_line(&group, nodes, 12, &at, out, 93, &count, &place) == BULHYEMIK_ACCEPTED);
+    EXPECT(count == 93 && place == 0 && strlen(line) == 93 && memcmp(out, line, 93) == 0);
+    EXPECT(all(out + 93, sizeof out - 93, 0xa5));
 }
 
 static void write_log_line(void) {
@@ -563,6 +563,61 @@ static void write_log_line(void) {
     line_refused(&group, NODES, 5, &north, BULHYEMIK_SAME_NAME, 3);
     group.grid[0].rank = 0;
     line_refused(&group, NODES, 5, &north, BULHYEMIK_BAD_NUMBER, 3);
+}
+
+/* Where points and areas end and a grid goes on: basin from 10 before the 180 degree meridian to 10 behind it. */
+static void across_the_meridian(void) {
+    static const int64_t east[3] = {648000001, 5, 200}, west[3] = {-648000001, 5, 200}, behind[3] = {-647999989, 5, 200};
+    static const int64_t too_far[4] = {0, 648000001, 0, 10}, too_near[4] = {-648000001, 0, 0, 10};
+    bulhyemik_group group = dock();
+    bulhyemik_fix fix;
+    bulhyemik_in_force list;
+    bulhyemik_uncovered uncovered;
+    uint64_t place;
+    group.grid[0].lon = 647999990;
+    EXPECT(bulhyemik_lookup(&group, NODES, 6, 647999995, 5, 200, &fix, &place) == BULHYEMIK_ACCEPTED && fix.result[0] == 55);
+    EXPECT(bulhyemik_lookup(&group, NODES, 6, 648000000, 5, 200, &fix, &place) == BULHYEMIK_ACCEPTED && fix.result[0] == 60);
+    EXPECT(bulhyemik_lookup(&group, NODES, 6, -648000000, 5, 200, &fix, &place) == BULHYEMIK_ACCEPTED && fix.result[0] == 60);
+    EXPECT(bulhyemik_lookup(&group, NODES, 6, -647999995, 5, 200, &fix, &place) == BULHYEMIK_ACCEPTED && fix.result[0] == 65);
+    lookup_refused(&group, NODES, 6, behind, BULHYEMIK_NO_GRID, 0);
+    lookup_refused(&group, NODES, 6, east, BULHYEMIK_BAD_POINT, 0);
+    lookup_refused(&group, NODES, 6, west, BULHYEMIK_BAD_POINT, 0);
+    judged(&group, "fix\t-647999995\t5\t200\tbasin\t65\nfix\t648000005\t5\t200\tbasin\t65\n", 2, BULHYEMIK_LOG_REFUSED);
+    EXPECT(bulhyemik_grids_in_force(&group, 0, 648000000, 0, 10, &list, &place) == BULHYEMIK_ACCEPTED);
+    EXPECT(list.count == 1 && list.entry[0].lon == 647999990 && list.entry[0].lat == 0);
+    EXPECT(bulhyemik_grids_in_force(&group, -648000000, 648000000, 0, 10, &list, &place) == BULHYEMIK_ACCEPTED);
+    EXPECT(list.count == 1 && list.entry[0].lon == -648000000 && list.entry[0].lat == 0);
+    EXPECT(bulhyemik_grids_in_force(&group, 0, 648000001, 0, 10, &list, &place) == BULHYEMIK_BAD_AREA && all(&list, sizeof list, 0));
+    EXPECT(bulhyemik_hole(&group, -648000000, -647999990, 0, 10, &uncovered, &place) == 0 && uncovered.found == 0);
+    EXPECT(bulhyemik_hole(&group, -648000000, -647999989, 0, 10, &uncovered, &place) == 0);
+    EXPECT(uncovered.found == 1 && uncovered.lon == -647999989 && uncovered.lat == 0);
+    hole_refused(&group, too_far, BULHYEMIK_BAD_AREA, 0);
+    hole_refused(&group, too_near, BULHYEMIK_BAD_AREA, 0);
+}
+
+/* A grid may be a turn wide and no wider; grids of equal rank clash where they hold a common point, however they are turned. */
+static void judge_turned(void) {
+    bulhyemik_group group = dock();
+    uint64_t place = 77;
+    group.grid[0].lon = -648000000;
+    group.grid[0].dlon = 1000000;
+    group.grid[0].ni = 1297;
+    EXPECT(bulhyemik_judge(&group, &place) == BULHYEMIK_ACCEPTED && place == 0);
+    group.grid[0].dlon = 952241;
+    group.grid[0].ni = 1362;
+    EXPECT(bulhyemik_judge(&group, &place) == BULHYEMIK_BAD_EXTENT && place == 1);
+    group = dock();
+    group.grids = 2;
+    put_grid(&group.grid[0], "G1", 647999980, 3, 1);
+    put_grid(&group.grid[1], "G2", -648000000, 3, 1);
+    EXPECT(bulhyemik_judge(&group, &place) == BULHYEMIK_SAME_RANK && place == 2);
+    group.grid[1].lon = -647999999;
+    EXPECT(bulhyemik_judge(&group, &place) == BULHYEMIK_ACCEPTED && place == 0);
+    group.grid[0].lon = 1295999980;
+    group.grid[1].lon = -1296000000;
+    EXPECT(bulhyemik_judge(&group, &place) == BULHYEMIK_SAME_RANK && place == 2);
+    group.grid[0].lon = 1295999979;
+    EXPECT(bulhyemik_judge(&group, &place) == BULHYEMIK_ACCEPTED && place == 0);
 }
 
 static void load_nodes(void) {
@@ -631,6 +686,8 @@ int main(void) {
     hole();
     judge_log();
     write_log_line();
+    across_the_meridian();
+    judge_turned();
     load_nodes();
     screens();
     printf("%d checks, %d failed\n", checks, failures);

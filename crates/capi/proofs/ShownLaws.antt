@@ -9,6 +9,7 @@ use lib.IntN.{ℤ, natAbs}
 use Rattle.numbers.specs.Order.{within}
 use Rattle.numbers.proofs.Bools.{and-left, and-right}
 use Rattle.numbers.proofs.OrderLaws.{within-size}
+use Rattle.group.specs.Numbers.{lonMost, latMost}
 use Rattle.group.specs.declared.Group.{Group}
 use Rattle.group.specs.declared.Point.{Point}
 use Rattle.group.specs.declared.Refusal.{Refusal}
@@ -36,8 +37,8 @@ use Rattle.capi.specs.Shown.{LookupShown, LeftShown}
 -- every admitted longitude and latitude is at most 2^53 in size
 point-sizes : (p : Point) → pointFits p ≡ true → (natAbs (p .lon .0) ≤ 2 ^ 53) × (natAbs (p .lat .0) ≤ 2 ^ 53)
 point-sizes p e =
-    let x = within 1296000000 (p .lon .0) in let y = within 324000000 (p .lat .0) in
-    (le-trans (within-size 1296000000 (p .lon .0) (and-left x y e)) (lit≤ tt), le-trans (within-size 324000000 (p .lat .0) (and-right x y e)) (lit≤ tt))
+    let x = within lonMost (p .lon .0) in let y = within latMost (p .lat .0) in
+    (le-trans (within-size lonMost (p .lon .0) (and-left x y e)) (lit≤ tt), le-trans (within-size latMost (p .lat .0) (and-right x y e)) (lit≤ tt))
 
 module _ (g : Group) (nodes : List ℤ) (p : Point) (t : ℤ) (q : ℕ) where
   fix-shown : (f : Fix) → looked g nodes p t ≡ L.Fix f → q ≤ 20 → ShowsResults (resultIn f) q (g .parameters) (answerOf (L.Fix f) q (g .parameters))

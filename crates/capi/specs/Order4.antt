@@ -9,7 +9,8 @@ use lib.ListN.{take, replicate}
 use Rattle.group.specs.declared.Refusal.{Refusal}
 use Rattle.group.specs.Refusals.{noRefusal}
 use Rattle.abi.specs.Abi.{groupOfWords, joined}
-use Rattle.logs.specs.Order4.{LogPasses, FirstBad, RefusesLog, lineMost}
+use Rattle.logs.specs.Writing.{lineMost}
+use Rattle.logs.specs.Order4.{LogPasses, FirstBad, RefusesLog}
 use Rattle.capi.specs.Answers.{logAnswer, lineAnswer}
 
 -- two numbers: the line, and its kind

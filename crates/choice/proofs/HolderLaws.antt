@@ -9,7 +9,8 @@ use Rattle.numbers.specs.First.{first}
 use Rattle.numbers.proofs.Bools.{true-false}
 use Rattle.numbers.proofs.FirstLaws.{first-before, first-hit, none-at}
 use Rattle.choice.specs.Choice.{chosen}
-use Rattle.choice.specs.Holder.{holder, Ranked, Owns}
+use Rattle.choice.specs.Holder.{holder, heldBy, Ranked, Owns}
+use Rattle.choice.specs.declared.Held.the-variants.{By, Nothing}
 use Rattle.choice.proofs.ChoiceLaws.{Apart, lowest-chosen, none-chosen}
 
 module _ (held : ℕ → Bool) (owner : ℕ → ℕ) (n : ℕ) where
@@ -21,6 +22,16 @@ module _ (held : ℕ → Bool) (owner : ℕ → ℕ) (n : ℕ) where
   pub holder-none : (i : ℕ) → i ≡ first held n → n ≤ i → 0 ≡ holder held owner n
   unfolding holder
   holder-none i e l = rw (sym e, le-ltb i n l) refl
+
+  -- the rectangle's owner and shift
+  module _ (shift : ℕ → ℕ) where
+    pub held-at : (i : ℕ) → i ≡ first held n → i < n → By (owner i) (shift i) ≡ heldBy held owner shift n
+    unfolding heldBy
+    held-at i e l = rw (sym e, lt-ltb i n l) refl
+
+    pub held-none : (i : ℕ) → i ≡ first held n → n ≤ i → Nothing ≡ heldBy held owner shift n
+    unfolding heldBy
+    held-none i e l = rw (sym e, le-ltb i n l) refl
 
   module _ (rank : ℕ → ℕ) (inside : ℕ → Bool) (grids : ℕ) (k : Ranked rank owner n grids) (w : Owns held owner n inside grids) (apart : Apart inside rank grids) where
     abbrev r : ℕ

@@ -2,5 +2,6 @@
 pub mod RectLaws
 pub mod ChoiceLaws
 pub mod Turn
+pub mod TurnHolds
 pub mod PartLaws
 pub mod HolderLaws

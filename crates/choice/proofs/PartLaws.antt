@@ -6,7 +6,9 @@ use native.Mathlib.Omega.{arith}
 use lib.ListN.{length, getD, take, length-take}
 use lib.Seq.{getD-take}
 use Rattle.numbers.specs.Lists.{at}
-use Rattle.choice.specs.Rect.{rectHolds, pairCount}
+use Rattle.numbers.specs.Circle.{turns, turnedBy}
+use Rattle.numbers.proofs.FirstLaws.{first-same, some-same}
+use Rattle.choice.specs.Rect.{rectHolds, turnHolds, turnUsed, pairCount}
 use Rattle.choice.specs.Choice.{chosen}
 use Rattle.choice.proofs.ChoiceLaws.{chosen-agree}
 
@@ -23,9 +25,29 @@ module _ (sides ranks : List ℕ) (n x y : ℕ) (s : n * 4 ≤ length sides) (r 
       rw (side (i * 4) (omega arith), side (i * 4 + 1) (omega arith), side (i * 4 + 2) (omega arith), side (i * 4 + 3) (omega arith))
       refl
 
-  pub chosen-part : chosen (λ i. rectHolds (take (n * 4) sides) i x y) (at (take n ranks)) (pairCount (take (n * 4) sides) (take n ranks))
-      ≡ chosen (λ i. rectHolds sides i x y) (at ranks) n
+-- the same round a circle
+module _ (sides : List ℕ) (n turn x y : ℕ) (s : n * 4 ≤ length sides) where
+  turned : (i k : ℕ) → i < n → rectHolds (take (n * 4) sides) i (turnedBy turn k x) y ≡ rectHolds sides i (turnedBy turn k x) y
+  turned i k l = part-holds sides sides n (turnedBy turn k x) y s (omega arith) i l
+
+  pub part-turn-holds : (i : ℕ) → i < n → turnHolds turn (take (n * 4) sides) i x y ≡ turnHolds turn sides i x y
+  unfolding turnHolds
+  part-turn-holds i l =
+      some-same (λ k. rectHolds (take (n * 4) sides) i (turnedBy turn k x) y) (λ k. rectHolds sides i (turnedBy turn k x) y) turns
+      (λ k m. turned i k l)
+
+  pub part-used : (i : ℕ) → i < n → turnUsed turn (take (n * 4) sides) i x y ≡ turnUsed turn sides i x y
+  unfolding turnUsed
+  part-used i l =
+      ap (λ (k : ℕ). turnedBy turn k x)
+      (first-same (λ k. rectHolds (take (n * 4) sides) i (turnedBy turn k x) y) (λ k. rectHolds sides i (turnedBy turn k x) y) turns
+      (λ k m. turned i k l))
+
+module _ (sides ranks : List ℕ) (n turn x y : ℕ) (s : n * 4 ≤ length sides) (r : n ≤ length ranks) where
+  pub chosen-part : chosen (λ i. turnHolds turn (take (n * 4) sides) i x y) (at (take n ranks)) (pairCount (take (n * 4) sides) (take n ranks))
+      ≡ chosen (λ i. turnHolds turn sides i x y) (at ranks) n
   chosen-part =
-      ap (chosen (λ i. rectHolds (take (n * 4) sides) i x y) (at (take n ranks))) part-size
-      ∙ chosen-agree (λ i. rectHolds (take (n * 4) sides) i x y) (λ i. rectHolds sides i x y) (at (take n ranks)) (at ranks) n part-holds
+      ap (chosen (λ i. turnHolds turn (take (n * 4) sides) i x y) (at (take n ranks))) (part-size sides ranks n x y s r)
+      ∙ chosen-agree (λ i. turnHolds turn (take (n * 4) sides) i x y) (λ i. turnHolds turn sides i x y) (at (take n ranks)) (at ranks) n
+      (part-turn-holds sides n turn x y s)
       (λ i l. getD-take n ranks i 0 l)

@@ -3,6 +3,7 @@
 use mathlib.Core.Path.{_≡_, refl, sym, ap, _∙_, subst}
 use mathlib.Core.Bool.{Bool, true, _&&_, _||_, and-or-distrib-right}
 use mathlib.Core.Logic.{⊎-elim}
+use mathlib.Core.List.{List}
 use Prim.Native.Nat.{ℕ, suc, _+_, _≤_, _<_, min, max}
 use native.Mathlib.Omega.{arith}
 use native.Mathlib.Numerals.{add-one}
@@ -12,7 +13,7 @@ use lib.Dec.{eqb}
 use lib.ListN.{length}
 use Rattle.numbers.specs.First.{some}
 use Rattle.numbers.proofs.FirstLaws.{some-by, by-some}
-use Rattle.numbers.proofs.Bools.{and-left, and-right, or-cases, both, or-left, or-right, untrue, true-false}
+use Rattle.numbers.proofs.Bools.{and-left, and-right, or-cases, both, or-left, or-right, same-test, untrue, true-false}
 use Rattle.numbers.specs.Lists.{at}
 use Rattle.choice.specs.Rect.{westOf, eastOf, southOf, northOf, rectHolds}
 use Rattle.choice.specs.Blocks.{blocks}
@@ -21,10 +22,10 @@ use Rattle.choice.proofs.ChoiceLaws.{chosen-unblocked, unblocked-chosen, any-bl
 use Rattle.region.specs.Earlier.{earlier}
 use Rattle.region.specs.declared.Bounds.{Bounds}
 use Rattle.region.specs.declared.Spot.{Spot}
-use Rattle.region.specs.declared.Spot.the-variants.{Nothing}
-use Rattle.region.proofs.SearchLaws.{narrow, first-same, first-none, first-either}
+use Rattle.region.specs.declared.Spot.the-variants.{At, Nothing}
+use Rattle.region.proofs.SearchLaws.{narrow, first-same, first-none, first-either, first-up-to}
 use Rattle.coverage.specs.Rectangles.{Rectangles, ownHolds, gridHolds, chosenAt, firstChosen, SoundRects}
-use Rattle.coverage.specs.Steps.{blockHolds, unblocked, firstUnblocked, firstOf, firstOfRect, partOf}
+use Rattle.coverage.specs.Steps.{blockHolds, unblocked, firstUnblocked, firstOf, firstOfRect, partOf, upTo, Each}
 
 -- a rectangle of a grid, and the grid
 module _ (l : Rectangles) (x y : ℕ) where
@@ -91,14 +92,32 @@ hole-chosen l sound a q =
     of-free l sound 0 x y
     (λ g m b h. chosen-none (λ g. gridHolds l g x y) (at (l .ranks)) (length (l .ranks)) (eqb-true (chosenAt l x y) 0 e) g m h))
 
--- the search for g
-pub spot-chosen : (l : Rectangles) → SoundRects l → (a : Bounds) (g : ℕ) → g < length (l .ranks) → {s : Spot} → s ≡ firstOf l a g (length (l .owners))
-    → s ≡ firstChosen l a (g + 1)
+-- some rectangle of g that the numbers name holds the point just where g does
+named-holds : (l : Rectangles) (numbers : List ℕ) → Each (length (l .owners)) numbers → (g x y : ℕ)
+    → some (λ i. ownHolds (l .rects) (l .owners) g x y (at numbers i)) (length (l .owners)) ≡ gridHolds l g x y
 unfolding gridHolds
-spot-chosen l sound a g m q =
-    q ∙ first-same (λ x y. gridHolds l g x y && unblocked l (suc g) x y) (λ x y. eqb (chosenAt l x y) (g + 1)) (a .west) (a .east) (a .south) (a .north)
-    (λ x y i j u v e. eq-eqb (chosenAt l x y) (g + 1) (free-chosen l sound g x y m e ∙ sym (add-one g)))
-    (λ x y i j u v e. chosen-free l sound g x y (eqb-true (chosenAt l x y) (g + 1) e ∙ add-one g))
+named-holds l numbers o g x y =
+    let n = length (l .owners) in
+    let own : ℕ → Bool = ownHolds (l .rects) (l .owners) g x y in
+    same-test (some (λ i. own (at numbers i)) n) (some own n)
+    (λ e. let s = by-some (λ i. own (at numbers i)) n e in some-by own n (at numbers (s .0)) (o .below (s .0) (s .1)) (s .2))
+    (λ e.
+    let s = by-some own n e in
+    let k = o .each (s .0) (s .1) in
+    some-by (λ i. own (at numbers i)) n (k .0) (k .1) (ap own (k .2) ∙ s .2))
+
+-- the search for g
+pub spot-chosen : (l : Rectangles) → SoundRects l → (a : Bounds) (g : ℕ) → g < length (l .ranks) → (numbers : List ℕ) → Each (length (l .owners)) numbers
+    → {s : Spot} → s ≡ firstOf l a g numbers (length (l .owners)) → s ≡ firstChosen l a (g + 1)
+spot-chosen l sound a g m numbers o q =
+    q ∙ first-same (λ x y. some (λ i. ownHolds (l .rects) (l .owners) g x y (at numbers i)) (length (l .owners)) && unblocked l (suc g) x y) (λ x y. eqb (chosenAt l x y) (g + 1))
+    (a .west) (a .east) (a .south) (a .north)
+    (λ x y i j u v e. eq-eqb (chosenAt l x y) (g + 1) (free-chosen l sound g x y m (sym (same x y) ∙ e) ∙ sym (add-one g)))
+    (λ x y i j u v e. same x y ∙ chosen-free l sound g x y (eqb-true (chosenAt l x y) (g + 1) e ∙ add-one g))
+  where
+    same : (x y : ℕ) → (some (λ i. ownHolds (l .rects) (l .owners) g x y (at numbers i)) (length (l .owners)) && unblocked l (suc g) x y)
+        ≡ (gridHolds l g x y && unblocked l (suc g) x y)
+    same x y = ap (λ (b : Bool). b && unblocked l (suc g) x y) (named-holds l numbers o g x y)
 
 -- one number more: some of them pass
 module _ (p : ℕ → Bool) (n : ℕ) where
@@ -115,30 +134,34 @@ module _ (p : ℕ → Bool) (n : ℕ) where
         | no ge ↦ or-left (some p n) (subst (λ (k : ℕ). p k ≡ true) (omega (arith, s .1)) (s .2))
       ]
 
--- one rectangle more
+-- one number more, and its rectangle
+module _ (l : Rectangles) (a : Bounds) (g : ℕ) (numbers : List ℕ) where
+  abbrev named : ℕ → ℕ → ℕ → Bool
+  named x y i = ownHolds (l .rects) (l .owners) g x y (at numbers i)
+
+  pub first-of-none : Nothing ≡ firstOf l a g numbers 0
+  first-of-none =
+      sym (first-none (λ x y. some (named x y) 0 && unblocked l (suc g) x y) (a .west) (a .east) (a .south) (a .north)
+      (λ i j b c d e. untrue (some (named i j) 0 && unblocked l (suc g) i j)
+      (λ t. let s = by-some (named i j) 0 (and-left (some (named i j) 0) (unblocked l (suc g) i j) t) in absurd (omega (arith, s .1)))))
+
+  pub first-of-more : (n : ℕ) (s r : Spot) → s ≡ firstOf l a g numbers n → r ≡ earlier (firstOfRect l a g (at numbers n)) s → r ≡ firstOf l a g numbers (n + 1)
+  first-of-more n s r e h =
+      h ∙ rw e
+      (sym (first-either (λ x y. named x y n && unblocked l (suc g) x y) (λ x y. some (named x y) n && unblocked l (suc g) x y) (a .west) (a .east) (a .south) (a .north))
+      ∙ first-same (λ x y. (named x y n && unblocked l (suc g) x y) || (some (named x y) n && unblocked l (suc g) x y)) (λ x y. some (named x y) (n + 1) && unblocked l (suc g) x y)
+      (a .west) (a .east) (a .south) (a .north)
+      (λ x y i j k m q.
+      let u = and-or-distrib-right (named x y n) (some (named x y) n) (unblocked l (suc g) x y) ∙ q in
+      both (some-more (named x y) n (and-left (named x y n || some (named x y) n) (unblocked l (suc g) x y) u)) (and-right (named x y n || some (named x y) n) (unblocked l (suc g) x y) u))
+      (λ x y i j k m q. sym (and-or-distrib-right (named x y n) (some (named x y) n) (unblocked l (suc g) x y))
+      ∙ both (more-some (named x y) n (and-left (some (named x y) (n + 1)) (unblocked l (suc g) x y) q)) (and-right (some (named x y) (n + 1)) (unblocked l (suc g) x y) q)))
+
+-- a rectangle's part of the area
 module _ (l : Rectangles) (a : Bounds) (g : ℕ) where
   abbrev own : ℕ → ℕ → ℕ → Bool
   own x y r = ownHolds (l .rects) (l .owners) g x y r
 
-  pub first-of-none : Nothing ≡ firstOf l a g 0
-  first-of-none =
-      sym (first-none (λ x y. some (own x y) 0 && unblocked l (suc g) x y) (a .west) (a .east) (a .south) (a .north)
-      (λ i j b c d e. untrue (some (own i j) 0 && unblocked l (suc g) i j)
-      (λ t. let s = by-some (own i j) 0 (and-left (some (own i j) 0) (unblocked l (suc g) i j) t) in absurd (omega (arith, s .1)))))
-
-  pub first-of-more : (n : ℕ) (s t r : Spot) → s ≡ firstOf l a g n → t ≡ firstOfRect l a g n → r ≡ earlier t s → r ≡ firstOf l a g (n + 1)
-  first-of-more n s t r e f h =
-      h ∙ rw (e, f)
-      (sym (first-either (λ x y. own x y n && unblocked l (suc g) x y) (λ x y. some (own x y) n && unblocked l (suc g) x y) (a .west) (a .east) (a .south) (a .north))
-      ∙ first-same (λ x y. (own x y n && unblocked l (suc g) x y) || (some (own x y) n && unblocked l (suc g) x y)) (λ x y. some (own x y) (n + 1) && unblocked l (suc g) x y)
-      (a .west) (a .east) (a .south) (a .north)
-      (λ x y i j k m q.
-      let u = and-or-distrib-right (own x y n) (some (own x y) n) (unblocked l (suc g) x y) ∙ q in
-      both (some-more (own x y) n (and-left (own x y n || some (own x y) n) (unblocked l (suc g) x y) u)) (and-right (own x y n || some (own x y) n) (unblocked l (suc g) x y) u))
-      (λ x y i j k m q. sym (and-or-distrib-right (own x y n) (some (own x y) n) (unblocked l (suc g) x y))
-      ∙ both (more-some (own x y) n (and-left (some (own x y) (n + 1)) (unblocked l (suc g) x y) q)) (and-right (some (own x y) (n + 1)) (unblocked l (suc g) x y) q)))
-
-  -- a rectangle's part of the area
   pub rect-other : (r : ℕ) → (at (l .owners) r ≡ g → ⊥) → Nothing ≡ firstOfRect l a g r
   rect-other r h =
       sym (first-none (λ x y. own x y r && unblocked l (suc g) x y) (a .west) (a .east) (a .south) (a .north) (λ i j b c d e. rw (ne-eqb (at (l .owners) r) g h) refl))
@@ -164,3 +187,12 @@ module _ (l : Rectangles) (a : Bounds) (g : ℕ) where
       both
       (both (eq-eqb (at (l .owners) r) g o) (rect-holds-true (l .rects) r i j (record { west≤ = omega arith; ≤east = omega arith; south≤ = omega arith; ≤north = omega arith })))
       t)
+
+  -- the earlier of a point found, if any, and of a rectangle's first
+  pub next-other : (r : ℕ) → (at (l .owners) r ≡ g → ⊥) → (s : Spot) → s ≡ earlier (firstOfRect l a g r) s
+  next-other r h s = ap (λ (t : Spot). earlier t s) (rect-other r h)
+
+  pub next-own : (r : ℕ) (s t : Spot) (b : Bounds) → b ≡ upTo a s → t ≡ firstOfRect l b g r → {v : Spot} → v ≡ earlier t s → v ≡ earlier (firstOfRect l a g r) s
+  next-own r Nothing t b d e h = h ∙ rw (e, d) refl
+  next-own r (At x y) t b d e h =
+      h ∙ rw (e, d) (first-up-to (λ i j. own i j r && unblocked l (suc g) i j) (a .west) (a .east) (a .south) (a .north) x y)

@@ -4,4 +4,3 @@ pub mod OrderLaws
 pub mod NearLaws
 pub mod EntryLaws
 pub mod Demand3
-pub mod OneEach

@@ -11,8 +11,10 @@ use Rattle.numbers.specs.Lists.{at}
 use Rattle.choice.specs.Rect.{westOf, eastOf, southOf, northOf, rectHolds}
 use Rattle.choice.specs.Blocks.{blocks}
 use Rattle.region.specs.First.{firstIn}
+use Rattle.region.specs.Earlier.{earlier}
 use Rattle.region.specs.declared.Bounds.{Bounds}
 use Rattle.region.specs.declared.Spot.{Spot}
+use Rattle.region.specs.declared.Spot.the-variants.{At, Nothing}
 use Rattle.coverage.specs.Rectangles.{Rectangles, SoundRects, ownHolds, firstChosen}
 
 -- rectangle r is one of a blocker of the grid numbered k, from 1, or of none where k is 0, and holds the point
@@ -32,10 +34,16 @@ abbrev pub firstOfRect : Rectangles → Bounds → ℕ → ℕ → Spot
 firstOfRect l a g r =
     firstIn (λ x y. ownHolds (l .rects) (l .owners) g x y r && unblocked l (suc g) x y) (a .west) (a .east) (a .south) (a .north)
 
--- the same of grid g's rectangles among the first n
-abbrev pub firstOf : Rectangles → Bounds → ℕ → ℕ → Spot
-firstOf l a g n =
-    firstIn (λ x y. some (ownHolds (l .rects) (l .owners) g x y) n && unblocked l (suc g) x y) (a .west) (a .east) (a .south) (a .north)
+-- the same of those rectangles of grid g that the first n numbers name
+abbrev pub firstOf : Rectangles → Bounds → ℕ → List ℕ → ℕ → Spot
+firstOf l a g numbers n =
+    firstIn (λ x y. some (λ i. ownHolds (l .rects) (l .owners) g x y (at numbers i)) n && unblocked l (suc g) x y)
+    (a .west) (a .east) (a .south) (a .north)
+
+-- the area, no farther north than a point that was found
+abbrev pub upTo : Bounds → Spot → Bounds
+upTo a (At x y) = record { west = a .west; east = a .east; south = a .south; north = min (a .north) y }
+upTo a Nothing = a
 
 -- the part of the area that lies in rectangle r
 abbrev pub partOf : List ℕ → ℕ → Bounds → Bounds
@@ -85,6 +93,9 @@ PartAnswer l part k s near after = (s ≡ firstUnblocked l part k) × (length af
 
 abbrev pub RectAnswer : Rectangles → Bounds → ℕ → ℕ → Spot → (near after : List ℕ) → Type 0
 RectAnswer l a g r s near after = (s ≡ firstOfRect l a g r) × (length after ≡ length near)
+
+abbrev pub NextAnswer : Rectangles → Bounds → ℕ → ℕ → Spot → Spot → (near after : List ℕ) → Type 0
+NextAnswer l a g r s t near after = (t ≡ earlier (firstOfRect l a g r) s) × (length after ≡ length near)
 
 abbrev pub GridAnswer : Rectangles → Bounds → ℕ → Spot → (near after : List ℕ) → Type 0
 GridAnswer l a g s near after = (s ≡ firstChosen l a (g + 1)) × (length after ≡ length near)

@@ -1,6 +1,7 @@
 // A whole exercise at once: one call looks many points up, each on its own day, in one group.
 use abi::GROUP_WORDS;
 use fix::Lookup;
+use flat::ROWS;
 use group::GRIDS_MOST;
 use group::Group;
 use group::Latitude;
@@ -22,11 +23,13 @@ ghost use Rattle.lookup.specs.Flat.{Laid};
 ghost use Rattle.exercise.specs.Exercise.{manyVerdict, manyJudged, answerAt, resultsAfter, columnsAgree, columnsAfter, answerWords};
 ghost use Rattle.exercise.specs.Tables.{tableWords, framesIn, Tabled, TablesReady, CallReady, scaleFor, noScale, counted, storedNumbers};
 
-// Where the parts of the tables begin, and how many numbers they have: the rows by rank, their owners, the frames of all grids and the
-// count of rows.
-pub const OWNERS_FROM: usize = flat::SIDES;
+// Where the parts of the tables begin, and how many numbers they have: the rows by rank, their owners and shifts, the frames of all grids
+// and the count of rows.
+pub const OWNERS_FROM: usize = ROWS * 4;
 
-pub const FRAMES_FROM: usize = OWNERS_FROM + GRIDS_MOST;
+pub const SHIFTS_FROM: usize = OWNERS_FROM + ROWS;
+
+pub const FRAMES_FROM: usize = SHIFTS_FROM + ROWS;
 
 pub const COUNT_AT: usize = FRAMES_FROM + flat::FRAMES;
 
@@ -93,12 +96,21 @@ fn fill_tables(words: &[i64; GROUP_WORDS], sides: &[u64], ranks: &[u64], tables:
         × Laid (groupOfWords (now words)) (now sides) (now ranks) (framesIn (now tables)) ⌝ }
     ensures { λ _. ⌜ Tabled (groupOfWords (now (words .entry))) (now (tables .exit)) ⌝ }
 {
-    let mut owners = [0u64; GRIDS_MOST];
+    let mut owners = [0u64; ROWS];
+    let mut shifts = [0u64; ROWS];
     let n = abi::grid_count(words) as usize;
     let from = OWNERS_FROM;
+    let middle = SHIFTS_FROM;
     let to = FRAMES_FROM;
-    let count = flat::rank_rows(sides, &ranks[..n], &mut tables[..from], &mut owners);
-    copy_front(&owners, &mut tables[from..to]);
+    let count = flat::rank_rows(
+        sides,
+        &ranks[..n],
+        &mut tables[..from],
+        &mut owners,
+        &mut shifts,
+    );
+    copy_front(&owners, &mut tables[from..middle]);
+    copy_front(&shifts, &mut tables[middle..to]);
     tables[COUNT_AT] = count as u64;
 }
 
@@ -205,12 +217,14 @@ fn look_ready(
     let x = extent::lon_from_least(point.lon);
     let y = extent::lat_from_least(point.lat);
     let owners = OWNERS_FROM;
+    let shifts = SHIFTS_FROM;
     let frames = FRAMES_FROM;
     let end = COUNT_AT;
     let count = tables[COUNT_AT] as usize;
     lookup::look_ranked(
         &tables[..owners],
-        &tables[owners..frames],
+        &tables[owners..shifts],
+        &tables[shifts..frames],
         &tables[frames..end],
         count,
         abi::parameter_count(words),

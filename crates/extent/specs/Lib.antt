@@ -2,3 +2,4 @@
 pub mod Extent
 pub mod Sizes
 pub mod Sides
+pub mod Order5

@@ -1,7 +1,8 @@
 // Where a grid lies: its extent, its node range and refusal 4; and its sides as unsigned numbers, which loops walk.
 ghost use mathlib.Core.Path.{_≡_};
-ghost use Prim.Native.Nat.{_+_, _*_, _≤_};
-ghost use Rattle.group.specs.Numbers.{parametersMost, nodesMost, startMost};
+ghost use Prim.Native.Nat.{_+_, _-_, _*_, _≤_};
+ghost use lib.IntN.{natAbs};
+ghost use Rattle.group.specs.Numbers.{parametersMost, spacingMost, nodesLeast, nodesMost, startMost};
 ghost use Rattle.extent.specs.Extent.{lonAxis, latAxis, farEdge, spanOf, lonSpan, latSpan, inside};
 ghost use Rattle.extent.specs.Sizes.{Reach, Sized};
 ghost use Rattle.extent.specs.Sides.{lonFromLeast, latFromLeast, sidesOf};
@@ -119,16 +120,26 @@ pub fn node_end(start: u64, ni: u64, nj: u64, np: u64) -> u64
     start + ni * nj * np
 }
 
-// Whether a grid's far edges are within the limits and its node range within the longest list.
+// How far it is from the first of ni nodes to the last.
+fn width(ni: u64, dlon: i64) -> u64
+    requires { ⌜ (nodesLeast ≤ ni) × (ni ≤ nodesMost) × (natAbs dlon ≤ spacingMost) ⌝ }
+    ensures { λ r. ⌜ r ≡ (ni - 1) * natAbs dlon ⌝ }
+{
+    (ni - 1) * numbers::magnitude(dlon)
+}
+
+// Whether a grid's far edges are within the limits, its width within a turn and its node range within the longest list.
 pub fn grid_inside(g: Grid, np: u64) -> bool
     requires { ⌜ (np ≤ parametersMost) × Sized g ⌝ }
     ensures { λ r. ⌜ r ≡ inside np g ⌝ }
 {
     let x = far_edge(lon_axis(g));
     let y = far_edge(lat_axis(g));
+    let wide = width(g.ni, g.dlon);
     let end = node_end(g.start, g.ni, g.nj, np);
     ((group::LON_EDGE_LEAST <= x) & (x <= group::LON_EDGE_MOST))
         & ((group::LAT_EDGE_LEAST <= y) & (y <= group::LAT_EDGE_MOST))
+        & (wide <= group::LON_TURN)
         & (end <= group::LIST_MOST)
 }
 

@@ -4,3 +4,4 @@ pub mod FrameLaws
 pub mod FillLaws
 pub mod OrderSteps
 pub mod OrderLaws
+pub mod TurnedLaws

@@ -1,12 +1,11 @@
--- Rectangles stored in a flat list: what is stored is read back, the rectangles before it stay, and so does all behind it.
+-- Rectangles stored in a flat list: what is stored is read back, and the rectangles before it stay.
 use Prim.Native.Nat.{ℕ, _+_, _*_, _<_}
 use mathlib.Core.Path.{_≡_, _∙_}
 use mathlib.Core.List.{List}
 use native.Mathlib.Omega.{arith}
 use lib.ListN.{length, set, length-set}
 use lib.Seq.{getD-set-same, getD-set-other}
-use Rattle.numbers.specs.Lists.{at, Kept}
-use Rattle.numbers.proofs.KeptLaws.{kept-more, kept-set}
+use Rattle.numbers.specs.Lists.{at}
 use Rattle.extent.specs.declared.Sides.{Sides}
 use Rattle.flat.specs.Rects.{rectAt, putRect}
 
@@ -58,10 +57,3 @@ module _ (rects : List ℕ) (r : ℕ) (s : Sides) (room : r * 4 + 3 < length rec
         south = put-before (q * 4 + 2) (omega arith) i;
         north = put-before (q * 4 + 3) (omega arith) i;
       }
-
-pub rect-kept : (first rects : List ℕ) (r : ℕ) (s : Sides) → Kept (r * 4) first rects → Kept ((r + 1) * 4) first (putRect rects r s)
-rect-kept first rects r s k =
-    let h : Kept ((r + 1) * 4) first rects = kept-more k (omega arith) in
-    kept-set (r * 4 + 3) (s .north)
-    (kept-set (r * 4 + 2) (s .south) (kept-set (r * 4 + 1) (s .east) (kept-set (r * 4) (s .west) h (omega arith)) (omega arith)) (omega arith))
-    (omega arith)

@@ -4,3 +4,4 @@ pub mod Frames
 pub mod Ramps
 pub mod Lists
 pub mod Order
+pub mod Turned

@@ -3,7 +3,7 @@ use Prim.Native.Nat.{ℕ, _*_, _≤_, _<_}
 use mathlib.Core.Path.{_≡_}
 use mathlib.Core.List.{List}
 use lib.ListN.{length, set}
-use Rattle.numbers.specs.Lists.{at, Indices}
+use Rattle.numbers.specs.Lists.{at}
 use Rattle.group.specs.declared.Grid.{Grid}
 use Rattle.group.specs.declared.Group.{Group}
 use Rattle.group.specs.Numbers.{gridsMost}
@@ -31,10 +31,6 @@ pub record Flattened (g : Grid) (k : ℕ) (sides ranks frames sidesAfter ranksAf
   pub sides-put : sidesAfter ≡ putRect sides k (sidesOf g)
   pub rank-put : ranksAfter ≡ set ranks k (g .rank)
   pub frame-put : framesAfter ≡ putFrame frames k (frameOf g)
-
--- the owner, a grid counted from 0, of each of the first n rectangles: each grid owns one
-abbrev pub Owned : ℕ → List ℕ → Type 0
-Owned n owners = Indices n owners
 
 -- room for the sides and the ranks of n grids, within their limit
 pub record Room (sides ranks : List ℕ) (n : ℕ) : Type 0 where

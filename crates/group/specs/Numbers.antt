@@ -18,16 +18,20 @@ lonEdgeMost = 1296000000
 abbrev pub latEdgeMost : ℕ
 latEdgeMost = 324000000
 
+-- a whole turn: the longest way from a grid's first node to its last along a parallel
+abbrev pub lonTurn : ℕ
+lonTurn = 1296000000
+
 -- points and the sides of areas lie no farther from 0
 abbrev pub lonMost : ℕ
-lonMost = 1296000000
+lonMost = 648000000
 
 abbrev pub latMost : ℕ
 latMost = 324000000
 
--- distances are counted from so far west and so far south of 0
+-- distances are counted from so far west and so far south of 0; of longitudes, a turn beyond every edge
 abbrev pub lonZero : ℕ
-lonZero = 1296000000
+lonZero = 2592000000
 
 abbrev pub latZero : ℕ
 latZero = 324000000

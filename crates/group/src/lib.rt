@@ -23,7 +23,7 @@ pub const LAT_EDGE_MOST: i64 = 324000000;
 pub const LAT_EDGE_LEAST: i64 = -LAT_EDGE_MOST;
 
 // Where points and the sides of areas may lie, in mas.
-pub const LON_MOST: i64 = 1296000000;
+pub const LON_MOST: i64 = 648000000;
 
 pub const LON_LEAST: i64 = -LON_MOST;
 
@@ -31,8 +31,11 @@ pub const LAT_MOST: i64 = 324000000;
 
 pub const LAT_LEAST: i64 = -LAT_MOST;
 
-// Distances are counted from so far west and so far south of 0, in mas.
-pub const LON_ZERO: u32 = 1296000000;
+// A whole turn, in mas.
+pub const LON_TURN: u64 = 1296000000;
+
+// Distances are counted from so far west and so far south of 0, in mas; of longitudes, a turn beyond every edge.
+pub const LON_ZERO: u32 = 2592000000;
 
 pub const LAT_ZERO: u32 = 324000000;
 

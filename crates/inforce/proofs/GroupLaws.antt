@@ -23,7 +23,7 @@ use Rattle.flat.specs.Order.{byRank, Before}
 use Rattle.flat.proofs.OrderSteps.{byRank≤}
 use Rattle.flat.proofs.OrderLaws.{mem-byRank, byRank-mem, pairs-byRank, before-differs, by-rank-alike}
 use Rattle.ingroup.specs.InGroup.{chosenIn}
-use Rattle.ingroup.proofs.InGroupLaws.{chosen-holds, rank-limits, flat-apart, flat-chosen}
+use Rattle.ingroup.proofs.InGroupLaws.{chosen-holds, rank-limits, flat-turnable, flat-ranked, flat-apart, flat-chosen}
 use Rattle.region.specs.declared.Spot.the-variants.{At}
 use Rattle.coverage.specs.InForce.{inForceBy}
 use Rattle.coverage.specs.Demand3.{Inside, Ordered, IsFirstTaken, EntriesInForce}
@@ -37,7 +37,7 @@ use Rattle.inforce.specs.InForce.{choiceAt, inForceIn}
 use Rattle.inforce.specs.Hole.{holeIn}
 use Rattle.inforce.specs.Demand3.{IsFirstChosen}
 use Rattle.inforce.specs.Handed.{Narrow, NarrowSpot}
-use Rattle.inforce.proofs.AreaLaws.{lowered-<, lowered-≤, area-size, area-inside, inside-most, inside-area}
+use Rattle.inforce.proofs.AreaLaws.{lowered-<, lowered-≤, area-size, area-lon, area-inside, inside-most, inside-area}
 
 module _ (g : Group) (e : judged g ≡ Accepted) where
   -- the grids by rank are an order of all of them
@@ -63,7 +63,9 @@ module _ (g : Group) (e : judged g ≡ Accepted) where
         let n = accepted-head g e .grids in let h = r .sides-room in let k = r .ranks-room in
         record {
           room = record { few = n; sides-room = omega arith; ranks-room = omega arith };
-          apart = flat-apart g e sides ranks s;
+          turnable = flat-turnable g e sides ranks s (omega arith);
+          ranked = flat-ranked g e sides ranks s;
+          apart = λ x y i j low high. flat-apart g e sides ranks s x y low high i j;
         }
 
     module _ (a : Area) (f : areaFits a ≡ true) where
@@ -74,7 +76,7 @@ module _ (g : Group) (e : judged g ≡ Accepted) where
           let p = raised-lowered lonZero x (m .0) in
           let q = raised-lowered latZero y (m .1) in
           ap₂ (λ (u v : ℕ). flatChosen sides ranks (g .grids) u v) (sym p) (sym q)
-          ∙ flat-chosen g e sides ranks s (lonAt x) (latAt y) (lowered-size lonZero x (m .0)) (lowered-size latZero y (m .1))
+          ∙ flat-chosen g e sides ranks s (lonAt x) (latAt y) (area-lon a f (lonAt x) (latAt y) (inside-area a f x y i)) (lowered-size latZero y (m .1))
 
       same-list : inForceBy (flatChosen sides ranks (g .grids)) (byRank (at ranks) (g .grids) rankMost) (areaFromLeast a) ≡ inForceIn g a
       same-list =

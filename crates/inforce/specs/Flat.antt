@@ -1,17 +1,19 @@
--- What grids in force and the hole are made from: an accepted group's sides and ranks as flat lists, one rectangle a grid.
-use Prim.Native.Nat.{ℕ, _<_}
+-- What grids in force and the hole are made from: an accepted group's sides and ranks as flat lists.
+use Prim.Native.Nat.{ℕ, _≤_, _<_}
 use mathlib.Core.Path.{_≡_}
 use mathlib.Core.Bool.{true}
 use mathlib.Core.List.{List}
 use Rattle.group.specs.declared.Group.{Group}
 use Rattle.group.specs.declared.Verdict.{Verdict}
 use Rattle.group.specs.declared.Verdict.the-variants.{Accepted}
-use Rattle.group.specs.Numbers.{gridsMost, rankMost}
+use Rattle.group.specs.Numbers.{lonTurn, gridsMost, rankMost}
 use Rattle.numbers.specs.Lists.{at}
-use Rattle.choice.specs.Rect.{rectHolds}
+use Rattle.choice.specs.Rect.{turnHolds}
 use Rattle.choice.specs.Choice.{chosen}
 use Rattle.flat.specs.Lists.{Sided, Room}
+use Rattle.extent.specs.Sides.{lonFirst, lonLast}
 use Rattle.flat.specs.Order.{byRank}
+use Rattle.flat.specs.Turned.{SidesTurnable}
 use Rattle.region.specs.declared.Bounds.{Bounds}
 use Rattle.region.specs.declared.Spot.{Spot}
 use Rattle.coverage.specs.declared.Listing.{Listing}
@@ -30,14 +32,21 @@ pub record Ready (g : Group) (a : Area) (sides ranks : List ℕ) : Type 0 where
   pub sided : Sided g (g .grids) sides ranks
   pub room : Room sides ranks gridsMost
 
--- four sides and a rank for each of n grids, of which no two share a rank and a point
+-- four sides and a rank within the limits for each of n grids, of which no two share a rank and an admitted point
 pub record FlatSound (sides ranks : List ℕ) (n : ℕ) : Type 0 where
   pub room : Room sides ranks n
-  pub apart : (x y i j : ℕ) → i < j → j < n → at ranks i ≡ at ranks j → rectHolds sides i x y ≡ true → rectHolds sides j x y ≡ true → ⊥
+  pub turnable : SidesTurnable sides n
+  pub ranked : (k : ℕ) → k < n → (1 ≤ at ranks k) × (at ranks k ≤ rankMost)
+  pub apart : (x y i j : ℕ) → lonFirst ≤ x → x ≤ lonLast → i < j → j < n → at ranks i ≡ at ranks j
+      → turnHolds lonTurn sides i x y ≡ true → turnHolds lonTurn sides j x y ≡ true → ⊥
+
+-- a part of the admitted longitudes
+abbrev pub Admitted : Bounds → Type 0
+Admitted a = (lonFirst ≤ a .west) × (a .east ≤ lonLast)
 
 -- the number of the grid chosen at a point
 abbrev pub flatChosen : List ℕ → List ℕ → ℕ → ℕ → ℕ → ℕ
-flatChosen sides ranks n x y = chosen (λ k. rectHolds sides k x y) (at ranks) n
+flatChosen sides ranks n x y = chosen (λ k. turnHolds lonTurn sides k x y) (at ranks) n
 
 -- the list
 unfoldable pub flatListing : List ℕ → List ℕ → ℕ → Bounds → Listing

@@ -5,7 +5,7 @@ ghost use Rattle.group.specs.Numbers.{gridsMost};
 ghost use Rattle.abi.specs.Abi.{groupOfWords};
 ghost use Rattle.flat.specs.Lists.{Room};
 ghost use Rattle.inforce.specs.Area.{lonFits, latFits, areaFits, lonAt, latAt, areaFromLeast, areaJudged};
-ghost use Rattle.inforce.specs.Flat.{FlatSound, Ready, SidesLeft, flatListing, flatHole};
+ghost use Rattle.inforce.specs.Flat.{FlatSound, Admitted, Ready, SidesLeft, flatListing, flatHole};
 ghost use Rattle.inforce.specs.InForce.{inForceIn, shownEntry, blankEntry, acceptedList, refusedBy, inForceOf};
 ghost use Rattle.inforce.specs.Hole.{holeIn, noHole, acceptedHole, holeOf};
 ghost use Rattle.inforce.specs.Handed.{shownList, Narrow, NarrowSpot};
@@ -32,6 +32,12 @@ use region::Spot;
 const LON_ZERO: u64 = group::LON_ZERO as u64;
 
 const LAT_ZERO: u64 = group::LAT_ZERO as u64;
+
+// The sides of all rectangles that a group's grids can have.
+const RECT_SIDES: usize = flat::ROWS * 4;
+
+// The numbers of all grids that a group can have, and 0.
+const NUMBERS: usize = GRIDS_MOST + 1;
 
 // An area: all whole coordinates from west to east and from south to north, sides included, in mas.
 pub struct Area {
@@ -157,15 +163,23 @@ fn shown_entry(e: Entry) -> GridInForce
 
 // The grids in force by an accepted group's flat lists, the area and the coordinates as distances.
 fn list_flat(sides: &[u64], ranks: &[u64], n: usize, a: region::Bounds) -> Listing
-    requires { ⌜ FlatSound (now sides) (now ranks) n ⌝ }
+    requires { ⌜ FlatSound (now sides) (now ranks) n × Admitted a ⌝ }
     ensures { λ r. ⌜ r ≡ flatListing (now (sides .entry)) (now (ranks .entry)) n a ⌝ }
 {
-    let mut owners = [0u64; GRIDS_MOST];
-    flat::fill_owners(n, &mut owners);
     let mut order = [0u64; GRIDS_MOST];
-    let count = flat::order_by_rank(&ranks[..n], &mut order);
-    let m = n * 4;
-    coverage::in_force(&sides[..m], &owners[..n], &ranks[..n], &order[..count], a)
+    let mut rects = [0u64; RECT_SIDES];
+    let mut owners = [0u64; flat::ROWS];
+    let mut shifts = [0u64; flat::ROWS];
+    let grids = flat::order_by_rank(&ranks[..n], &mut order);
+    let count = flat::turn_rows(sides, &order[..grids], &mut rects, &mut owners, &mut shifts);
+    let m = count * 4;
+    coverage::in_force(
+        &rects[..m],
+        &owners[..count],
+        &ranks[..n],
+        &order[..grids],
+        a,
+    )
 }
 
 // An unused entry.
@@ -246,13 +260,18 @@ pub fn grids_in_force(group: Group, area: Area) -> InForce
 
 // The hole by an accepted group's flat lists, the area and the coordinate as distances.
 fn hole_flat(sides: &[u64], ranks: &[u64], n: usize, a: region::Bounds) -> Spot
-    requires { ⌜ FlatSound (now sides) (now ranks) n ⌝ }
+    requires { ⌜ FlatSound (now sides) (now ranks) n × Admitted a ⌝ }
     ensures { λ s. ⌜ s ≡ flatHole (now (sides .entry)) (now (ranks .entry)) n a ⌝ }
 {
-    let mut owners = [0u64; GRIDS_MOST];
-    flat::fill_owners(n, &mut owners);
-    let m = n * 4;
-    coverage::hole(&sides[..m], &owners[..n], &ranks[..n], a)
+    let mut order = [0u64; NUMBERS];
+    let mut rects = [0u64; RECT_SIDES];
+    let mut owners = [0u64; flat::ROWS];
+    let mut shifts = [0u64; flat::ROWS];
+    let end = n + 1;
+    numbers::fill_indices(end, &mut order);
+    let count = flat::turn_rows(sides, &order[1..end], &mut rects, &mut owners, &mut shifts);
+    let m = count * 4;
+    coverage::hole(&rects[..m], &owners[..count], &ranks[..n], a)
 }
 
 // None, with zeros.

@@ -1,88 +1,180 @@
--- The rows of an accepted group in the order of ranks: the first that holds a point is the chosen grid's.
-use Prim.Native.Nat.{ℕ, suc, _-_, _≤_, _<_}
-use mathlib.Core.Path.{_≡_, sym, ap, _∙_, subst}
+-- The rows of an accepted group in the order of ranks: the first that holds an admitted point is the chosen grid's, for the turn that it uses.
+use Prim.Native.Nat.{ℕ, suc, _+_, _-_, _*_, _/_, _%_, _≤_, _<_}
+use mathlib.Core.Path.{_≡_, sym, ap, _∙_, subst, transport}
 use mathlib.Core.Bool.{true}
 use mathlib.Core.List.{List}
 use mathlib.Core.Logic.{⊎-elim}
 use native.Mathlib.Omega.{arith}
+use native.Mathlib.Decide.{decLt}
 use lib.IntN.{ℤ, natAbs}
-use lib.ListN.{getD}
-use lib.Seq.{getD-take}
+use lib.ListN.{length}
 use Rattle.group.specs.declared.Group.{Group}
 use Rattle.group.specs.declared.Verdict.the-variants.{Accepted}
-use Rattle.group.specs.Numbers.{rankMost, lonZero, latZero}
-use Rattle.extent.specs.declared.Sides.{Sides}
-use Rattle.extent.specs.Sides.{lonFromLeast, latFromLeast}
-use Rattle.extent.proofs.SideLaws.{sidesHold}
+use Rattle.group.specs.Numbers.{rankMost, lonMost, lonTurn, lonZero, latZero}
+use Rattle.group.specs.Record.{gridAt}
+use Rattle.extent.specs.Extent.{lonSpan, holds, lonUsed}
+use Rattle.extent.specs.Sides.{lonFromLeast, latFromLeast, lonFirst, lonLast, sidesLie}
 use Rattle.judge.specs.Judge.{judged}
 use Rattle.flat.specs.Lists.{Sided}
-use Rattle.numbers.specs.Lists.{at, Begins}
-use Rattle.choice.specs.Rect.{rectHolds}
+use Rattle.numbers.specs.First.{first}
+use Rattle.numbers.specs.Lists.{at}
+use Rattle.numbers.specs.Circle.{turns, turnedBy}
+use Rattle.numbers.proofs.FirstLaws.{first-hit}
+use Rattle.numbers.proofs.Lists.{at-mem, mem-at, pairs-at}
+use Rattle.numbers.proofs.OrderLaws.{raised-within}
+use Rattle.choice.specs.Rect.{rectHolds, turnHolds}
 use Rattle.choice.specs.Holder.{holder, Ranked, Owns}
 use Rattle.choice.proofs.HolderLaws.{holder-chosen}
-use Rattle.numbers.proofs.Lists.{mem-at, pairs-at}
+use Rattle.choice.proofs.TurnHolds.{turn-holds-by, turn-holds-cases}
 use Rattle.flat.specs.Rects.{rectAt}
-use Rattle.flat.specs.Order.{byRank, Before, RankedRows}
-use Rattle.flat.proofs.OrderLaws.{pairs-byRank, byRank-mem, begins-number}
+use Rattle.flat.specs.Order.{byRank, Before}
+use Rattle.flat.specs.Turned.{TurnedRows, SidesTurnable, OfGrids, RankedRows}
+use Rattle.flat.proofs.OrderLaws.{pairs-byRank, byRank-mem, mem-byRank}
+use Rattle.flat.proofs.TurnedLaws.{ranked-grids, row-listed, rows-sorted, row-held, row-found, row-first}
 use Rattle.ingroup.specs.InGroup.{chosenIn}
-use Rattle.ingroup.proofs.InGroupLaws.{flat-ranked, flat-apart, flat-chosen}
+use Rattle.ingroup.proofs.InGroupLaws.{flat-ranked, flat-turnable, flat-apart, flat-chosen, flat-holds, flat-used}
 
--- a row holds what its owner's rectangle holds
-row-holds : (sides rows : List ℕ) (r k x y : ℕ) → rectAt rows r ≡ rectAt sides k → rectHolds rows r x y ≡ rectHolds sides k x y
-unfolding rectHolds rectAt
-row-holds sides rows r k x y h = ap (λ (t : Sides). sidesHold t x y) h
+-- a grid counted from 0, by its number
+before-suc : (n : ℕ) → suc n - 1 ≡ n
+before-suc n = omega arith
 
-module _ (rank : ℕ → ℕ) (n count : ℕ) (owners : List ℕ) (b : Begins (byRank rank n rankMost) owners count) where
-  abbrev list : List ℕ
-  list = byRank rank n rankMost
+-- ---- rows of any order of the grids
 
-  -- the order as it stands in the list of owners
-  read : (k : ℕ) → k < count → getD list k 0 ≡ at owners k
-  read k l = rw (← b .same) (getD-take count owners k 0 l)
+-- each number of the order is one of n grids', and each grid has one
+pub record OrderOf (order : List ℕ) (n : ℕ) : Type 0 where
+  pub number : (i : ℕ) → i < length order → (1 ≤ at order i) × (at order i ≤ n)
+  pub each : (k : ℕ) → k < n → (i : ℕ) × (i < length order) × (at order i ≡ suc k)
 
-  pub order-ranked : Ranked rank (at owners) count n
-  order-ranked =
-      record {
-        owned = begins-number rank n rankMost owners count b;
-        sorted = λ q r l m.
-            let p = pairs-at (Before rank) 0 list (pairs-byRank rank n rankMost) q r l (omega (arith, b .many)) in
-            let e = read q (omega arith) in let f = read r m in
-            subst (λ (i : ℕ). rank (i - 1) ≤ rank (at owners r - 1)) e
-            (subst (λ (i : ℕ). rank (getD list q 0 - 1) ≤ rank (i - 1)) f
-            (⊎-elim (λ h. omega arith) (λ h. omega (arith, h .0)) p));
-      }
+-- the numbers 1 to n are such an order
+pub order-by-number : (order : List ℕ) (n : ℕ) → length order ≡ n → ((i : ℕ) → i < n → at order i ≡ suc i) → OrderOf order n
+order-by-number order n e h =
+    record {
+      number = λ i l. let m : i < n = omega arith in (omega (arith, h i m), omega (arith, h i m));
+      each = λ k l. (k, omega arith, h k l);
+    }
 
-  pub order-each : (g : ℕ) → g < n → 1 ≤ rank g → rank g ≤ rankMost → (r : ℕ) × (r < count) × (at owners r ≡ suc g)
-  order-each g l h k =
-      let m = mem-at 0 (byRank-mem rank n rankMost g l h k) in
-      let q : m .0 < count = omega (arith, m .1, b .many) in
-      (m .0, q, sym (read (m .0) q) ∙ m .2)
+-- where the sides of all grids can be turned, those of an order can
+pub order-grids : (sides order : List ℕ) (n : ℕ) → SidesTurnable sides n → OrderOf order n → OfGrids sides order
+order-grids sides order n h w =
+    let room = h .room in
+    record {
+      number = λ i l. let o = w .number i l in (o .0, omega (arith, o .1));
+      turnable = λ i l. let o = w .number i l in h .each (at order i - 1) (omega (arith, o .0, o .1));
+    }
 
--- the owner of a row that holds the point
-pub row-owner : (sides ranks rows owners : List ℕ) (n count : ℕ) → RankedRows sides ranks rows owners n count → (r : ℕ) → r < count
-    → (1 ≤ at owners r) × (at owners r ≤ n) × ((x y : ℕ) → rectHolds rows r x y ≡ true → rectHolds sides (at owners r - 1) x y ≡ true)
-row-owner sides ranks rows owners n count o r l =
-    let b = begins-number (at ranks) n rankMost owners count (o .order) r l in
-    (b .0, b .1, λ x y h. sym (row-holds sides rows r (at owners r - 1) x y (o .made r l)) ∙ h)
+module _ (sides order rows owners shifts : List ℕ) (n count : ℕ) (t : TurnedRows sides order rows owners shifts (length order * turns) count)
+    (o : OfGrids sides order) (w : OrderOf order n) where
+  -- the owner of a row is one of the grids
+  pub row-owner : (r : ℕ) → r < count → at owners r < n
+  row-owner r l = let p = row-listed sides order rows owners shifts count t r l in let q = w .number (t .place r / turns) p in omega (arith, t .owner r l, q .0, q .1)
 
-module _ (g : Group) (e : judged g ≡ Accepted) (sides ranks : List ℕ) (s : Sided g (g .grids) sides ranks) where
-  module _ (rows owners : List ℕ) (count : ℕ) (o : RankedRows sides ranks rows owners (g .grids) count) where
-    owns : (x y : ℕ) → Owns (λ r. rectHolds rows r x y) (at owners) count (λ i. rectHolds sides i x y) (g .grids)
-    owns x y =
+  -- at an admitted point a grid holds it exactly where one of its rows does
+  module _ (x y : ℕ) (low : lonFirst ≤ x) (high : x ≤ lonLast) where
+    pub row-holds : (r : ℕ) → r < count → rectHolds rows r x y ≡ true → turnHolds lonTurn sides (at owners r) x y ≡ true
+    unfolding rectHolds rectAt
+    row-holds r l h =
+        let p = row-held sides order rows owners shifts count t o x y r l (omega arith) h in
+        turn-holds-by lonTurn sides (at owners r) x y (t .place r % turns) (p .0) (p .4)
+
+    pub grid-row : (k : ℕ) → k < n → turnHolds lonTurn sides k x y ≡ true → (r : ℕ) × (r < count) × (at owners r ≡ k) × (rectHolds rows r x y ≡ true)
+    unfolding rectHolds rectAt
+    grid-row k l h =
+        let q = w .each k l in let c = turn-holds-cases lonTurn sides k x y h in
+        let m : at order (q .0) - 1 ≡ k = omega (arith, q .2) in
+        let f = row-found sides order rows owners shifts count t o x y (q .0) (c .0) (q .1) (c .1) low high
+        (subst (λ (j : ℕ). sidesLie (rectAt sides j) (turnedBy lonTurn (c .0) x) y ≡ true) (sym m) (c .2)) in
+        (f .0, f .1, f .3 ∙ m, f .4)
+
+    pub rows-own : Owns (λ r. rectHolds rows r x y) (λ r. suc (at owners r)) count (λ k. turnHolds lonTurn sides k x y) n
+    rows-own =
         record {
-          grid = λ r l h. sym (row-holds sides rows r (at owners r - 1) x y (o .made r l)) ∙ h;
-          rect = λ k l h.
-              let m = flat-ranked g e sides ranks s k l in
-              let q = order-each (at ranks) (g .grids) count owners (o .order) k l (m .0) (m .1) in
-              let f : at owners (q .0) - 1 ≡ k = omega (arith, q .2) in
-              (q .0, q .1, q .2, row-holds sides rows (q .0) (at owners (q .0) - 1) x y (o .made (q .0) (q .1)) ∙ ap (λ (i : ℕ). rectHolds sides i x y) f ∙ h);
+          grid = λ r l h. subst (λ (k : ℕ). turnHolds lonTurn sides k x y ≡ true) (sym (before-suc (at owners r))) (row-holds r l h);
+          rect = λ k l h. let f = grid-row k l h in (f .0, f .1, ap suc (f .2), f .3);
         }
 
-    -- the owner of the first row that holds the point is the grid that is chosen in the group
-    pub ranked-chosen : (x y : ℤ) → natAbs x ≤ lonZero → natAbs y ≤ latZero
-        → holder (λ r. rectHolds rows r (lonFromLeast x) (latFromLeast y)) (at owners) count ≡ chosenIn g x y
-    ranked-chosen x y h v =
-        let p = lonFromLeast x in let q = latFromLeast y in
-        holder-chosen (λ r. rectHolds rows r p q) (at owners) count (at ranks) (λ i. rectHolds sides i p q) (g .grids)
-        (order-ranked (at ranks) (g .grids) count owners (o .order)) (owns p q) (flat-apart g e sides ranks s p q)
-        ∙ flat-chosen g e sides ranks s x y h v
+-- ---- the order by rank
+
+module _ (rank : ℕ → ℕ) (n : ℕ) (limits : (k : ℕ) → k < n → (1 ≤ rank k) × (rank k ≤ rankMost)) where
+  abbrev order : List ℕ
+  order = byRank rank n rankMost
+
+  pub order-by-rank : OrderOf order n
+  order-by-rank =
+      record {
+        number = λ i l. let m = mem-byRank rank n rankMost (at order i) (at-mem 0 order i l) in (m .0, m .1);
+        each = λ k l. let r = limits k l in mem-at 0 (byRank-mem rank n rankMost k l (r .0) (r .1));
+      }
+
+-- ---- the rows of an accepted group
+
+module _ (g : Group) (e : judged g ≡ Accepted) (sides ranks : List ℕ) (s : Sided g (g .grids) sides ranks) (room : g .grids * 4 ≤ length sides) where
+  module _ (rows owners shifts : List ℕ) (count : ℕ) (t : RankedRows sides ranks rows owners shifts (g .grids) count) where
+    abbrev grids-order : List ℕ
+    grids-order = byRank (at ranks) (g .grids) rankMost
+
+    of-grids : OfGrids sides grids-order
+    of-grids = ranked-grids sides (at ranks) (g .grids) (flat-turnable g e sides ranks s room)
+
+    orders : OrderOf grids-order (g .grids)
+    orders = order-by-rank (at ranks) (g .grids) (flat-ranked g e sides ranks s)
+
+    pub ranked-owner : (r : ℕ) → r < count → at owners r < g .grids
+    ranked-owner = row-owner sides grids-order rows owners shifts (g .grids) count t of-grids orders
+
+    sorted : (q r : ℕ) → q < r → r < count → at ranks (at owners q) ≤ at ranks (at owners r)
+    sorted q r l m =
+        let i = t .place q / turns in let j = t .place r / turns in
+        let k = rows-sorted sides grids-order rows owners shifts count t q r l m in
+        let listed = row-listed sides grids-order rows owners shifts count t r m in
+        subst (λ (a : ℕ). at ranks a ≤ at ranks (at owners r)) (sym (t .owner q (omega arith)))
+        (subst (λ (a : ℕ). at ranks (at grids-order i - 1) ≤ at ranks a) (sym (t .owner r m)) (pair i j k listed))
+      where
+        pair : (i j : ℕ) → i ≤ j → j < length grids-order → at ranks (at grids-order i - 1) ≤ at ranks (at grids-order j - 1)
+        pair i j k listed =
+            elim (decLt i j) [
+              | yes lt ↦
+                  ⊎-elim (λ b. omega arith) (λ b. omega (arith, b .0))
+                  (pairs-at (Before (at ranks)) 0 grids-order (pairs-byRank (at ranks) (g .grids) rankMost) i j lt listed)
+              | no ge ↦ let same : i ≡ j = omega arith in rw same (omega arith)
+            ]
+
+    rows-ranked : Ranked (at ranks) (λ r. suc (at owners r)) count (g .grids)
+    rows-ranked =
+        record {
+          owned = λ r l. (omega arith, omega (arith, ranked-owner r l));
+          sorted = λ q r l m. transport (λ i. at ranks (sym (before-suc (at owners q)) i) ≤ at ranks (sym (before-suc (at owners r)) i)) (sorted q r l m);
+        }
+
+    module _ (x y : ℤ) (h : natAbs x ≤ lonMost) (v : natAbs y ≤ latZero) where
+      abbrev p : ℕ
+      p = lonFromLeast x
+
+      abbrev q : ℕ
+      q = latFromLeast y
+
+      distance : (lonFirst ≤ p) × (p ≤ lonLast)
+      distance = let b = raised-within lonZero lonMost x h (omega arith) in (omega (arith, b .0), omega (arith, b .1))
+
+      -- a row that holds the point is one of a grid that does
+      pub ranked-holds : (r : ℕ) → r < count → rectHolds rows r p q ≡ true → holds (gridAt g (at owners r)) x y ≡ true
+      ranked-holds r l held =
+          sym (flat-holds g e sides ranks s x y h v (at owners r) (ranked-owner r l))
+          ∙ row-holds sides grids-order rows owners shifts (g .grids) count t of-grids orders p q (distance .0) (distance .1) r l held
+
+      -- the owner of the first row that holds the point is the grid that is chosen in the group
+      pub ranked-chosen : holder (λ r. rectHolds rows r p q) (λ r. suc (at owners r)) count ≡ chosenIn g x y
+      ranked-chosen =
+          holder-chosen (λ r. rectHolds rows r p q) (λ r. suc (at owners r)) count (at ranks) (λ i. turnHolds lonTurn sides i p q) (g .grids)
+          rows-ranked (rows-own sides grids-order rows owners shifts (g .grids) count t of-grids orders p q (distance .0) (distance .1))
+          (flat-apart g e sides ranks s p q (distance .0) (distance .1))
+          ∙ flat-chosen g e sides ranks s x y h v
+
+      -- and its turn is the one that this grid uses
+      pub ranked-used : (r : ℕ) → r ≡ first (λ i. rectHolds rows i p q) count → r < count
+          → p + at shifts r - lonTurn ≡ lonFromLeast (lonUsed (lonSpan (gridAt g (at owners r))) x)
+      unfolding rectHolds rectAt
+      ranked-used r f l =
+          row-first sides grids-order rows owners shifts count t of-grids p q r l (distance .0) (distance .1) f
+          ∙ sym
+          (flat-used g e sides ranks s x y h v (at owners r) (ranked-owner r l)
+          (ranked-holds r l (subst (λ (i : ℕ). rectHolds rows i p q ≡ true) (sym f) (first-hit (λ i. rectHolds rows i p q) count (subst (λ (i : ℕ). i < count) f l)))))

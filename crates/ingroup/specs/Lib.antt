@@ -1,2 +1,3 @@
--- The choice in a group.
+-- The choice in a group, and order 5 of it.
 pub mod InGroup
+pub mod Order5

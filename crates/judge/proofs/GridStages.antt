@@ -9,12 +9,12 @@ use Rattle.group.specs.declared.Verdict.the-variants.{Accepted, Refused}
 use Rattle.group.specs.Refusals.{refusal}
 use Rattle.group.proofs.RefusalLaws.{at-here, at-past}
 use Rattle.flat.specs.Lists.{Flat}
+use Rattle.judge.specs.declared.Shared.{Shared}
 use Rattle.judge.specs.declared.Shared.the-variants as S
 use Rattle.judge.specs.Judge.{badGrid, outside, namedEarlier, rankedEarlier, judgedGrids, judgedRanks}
-use Rattle.judge.specs.Keys.{clash}
+use Rattle.judge.specs.Keys.{rankRule, clash}
 use Rattle.judge.specs.Rules.{judgedFrom, GridLimits, Scanned}
-use Rattle.judge.proofs.KeyLaws.{sided-listed}
-use Rattle.judge.proofs.JudgeLaws.{comparable, sharing}
+use Rattle.judge.proofs.JudgeLaws.{comparable, sharing, ranks-sharing}
 
 module _ (g : Group) (from : ℕ) {n np bad : ℕ} (en : n ≡ g .grids) (ep : np ≡ g .parameters)
     (eb : bad ≡ first (badGrid g) n) where
@@ -52,11 +52,12 @@ module _ (g : Group) (from : ℕ) {n np bad : ℕ} (en : n ≡ g .grids) (ep : n
             at-here Refused (outside g) (g .grids) 4 1 _ edge (scanned .first-outside) (omega arith)
             ∙ sym (lines-past ∙ at-past Refused (namedEarlier g) (g .grids) 3 1 _ name name-is (omega arith))
 
-        module _ (edged : n ≤ edge) {rank : ℕ} (f : rank ≡ first (λ k. some (clash S.Rank sides ranks k) k) n) where
+        module _ (edged : n ≤ edge) {rule : Shared} (r : rule ≡ rankRule sides n) {rank : ℕ}
+            (f : rank ≡ first (λ k. some (clash rule sides ranks k) k) n) where
           rank-is : rank ≡ first (rankedEarlier g) (g .grids)
           rank-is =
-              sharing g limits sides ranks S.Rank rank (comparable g limits edge (scanned .first-outside) (omega arith))
-              (sided-listed g (g .grids) sides ranks (scanned .flat .sided)) (rw en at f)
+              ranks-sharing g limits sides ranks (comparable g limits edge (scanned .first-outside) (omega arith)) (scanned .flat .sided)
+              rule rank (rw en at r) (rw en at f)
 
           edges-past : judgedFrom from g ≡ judgedRanks g Accepted
           unfolding judgedGrids

@@ -1,7 +1,7 @@
 -- What the judge's loops rely on and show; and the flat comparison of grids as the comparison that document 01 asks for.
 use Prim.Native.Nat.{ℕ, _<_, _≤_}
-use mathlib.Core.Path.{_≡_, sym, _∙_, ap}
-use mathlib.Core.Bool.{false, not, _&&_}
+use mathlib.Core.Path.{_≡_, refl, sym, _∙_, ap}
+use mathlib.Core.Bool.{Bool, true, false, cond, not, _&&_}
 use mathlib.Core.List.{List}
 use native.Mathlib.Omega.{arith}
 use borrow.Author.Tests.{lt-leb, not-false}
@@ -17,14 +17,15 @@ use Rattle.group.specs.Limits.{rampFits, rampBlank, gridBlank}
 use Rattle.abi.specs.Abi.{rampOfWords, gridOfWords, groupOfWords}
 use Rattle.abi.proofs.EntryLaws.{ramp-of-words, grid-of-words}
 use Rattle.extent.specs.Extent.{inside}
-use Rattle.judge.specs.Judge.{unusedRamp, unusedGrid, badRamp, outside, sameName, sameRank}
+use Rattle.flat.specs.Lists.{Sided}
+use Rattle.judge.specs.Judge.{unusedRamp, unusedGrid, badRamp, outside, sameName, sameRank, rankedEarlier}
 use Rattle.judge.specs.Rules.{rampTest, GridLimits}
-use Rattle.judge.specs.Keys.{keysOf, KeysListed, clash, sharesEarlier, Comparable}
+use Rattle.judge.specs.Keys.{keysOf, KeysListed, someReaches, rankRule, clash, sharesEarlier, Comparable}
 use Rattle.judge.specs.declared.RampRule.the-variants as R
 use Rattle.judge.specs.declared.Shared.{Shared}
 use Rattle.judge.specs.declared.Shared.the-variants as S
 use Rattle.judge.proofs.LimitLaws.{name-good, name-bytes, grid-edges}
-use Rattle.judge.proofs.KeyLaws.{clash-name, clash-rank}
+use Rattle.judge.proofs.KeyLaws.{sided-listed, none-reaches, clash-name, clash-rank, clash-turn}
 
 -- the entries of a group that a list of numbers stands for: what the loops over that list found is what is judged
 module _ (ns : List ℤ) where
@@ -49,7 +50,7 @@ module _ (ns : List ℤ) where
       f ∙ first-same _ _ gridsMost (λ k l. let d = sym (grid-of-words ns k l) in λ j. leb (e j) k && not (gridBlank (d j)))
 
 -- where no grid is outside the limits, the sides are true distances
-pub comparable : (g : Group) → GridLimits g → (i : ℕ) → i ≡ first (outside g) (g .grids) → g .grids ≤ i → Comparable S.Rank g
+pub comparable : (g : Group) → GridLimits g → (i : ℕ) → i ≡ first (outside g) (g .grids) → g .grids ≤ i → Comparable S.Turn g
 comparable g f i e h k l =
     grid-edges (gridAt g k) (f .fits k l) (g .parameters)
     (not-false (inside (g .parameters) (gridAt g k)) (none-at (outside g) (g .grids) k (omega arith) l))
@@ -66,8 +67,27 @@ module _ (g : Group) (f : GridLimits g) (fours keys : List ℕ) where
   same-sharing S.Rank u m =
       first-same _ _ (g .grids)
       (λ k l. some-same _ (λ j. sameRank (gridAt g j) (gridAt g k)) k
-      (λ j a. clash-rank g (g .grids) fours keys j k (omega arith) l m (u j (omega arith)) (u k l)))
+      (λ j a. clash-rank g (g .grids) fours keys j k (omega arith) l (u j (omega arith) .0) (u k l .0) m (u j (omega arith) .1) (u k l .1)))
+  same-sharing S.Turn u m =
+      first-same _ _ (g .grids)
+      (λ k l. some-same _ (λ j. sameRank (gridAt g j) (gridAt g k)) k
+      (λ j a. clash-turn g (g .grids) fours keys j k (omega arith) l (u j (omega arith)) (u k l) m))
 
   pub sharing : (s : Shared) (r : ℕ) → Comparable s g → KeysListed (λ k. keysOf s (gridAt g k)) (g .grids) fours keys
       → r ≡ first (λ k. some (clash s fours keys k) k) (g .grids) → r ≡ first (sharesEarlier s g) (g .grids)
   sharing s r u m e = e ∙ same-sharing s u m
+
+-- ranks, by the rule that the list of sides gives
+pub ranks-sharing : (g : Group) → GridLimits g → (sides ranks : List ℕ) → Comparable S.Turn g → Sided g (g .grids) sides ranks
+    → (s : Shared) (r : ℕ) → s ≡ rankRule sides (g .grids)
+    → r ≡ first (λ k. some (clash s sides ranks k) k) (g .grids) → r ≡ first (rankedEarlier g) (g .grids)
+ranks-sharing g f sides ranks u m s r e h =
+    go (someReaches sides (g .grids)) refl (h ∙ ap (λ (t : Shared). first (λ k. some (clash t sides ranks k) k) (g .grids)) e)
+  where
+    listed : KeysListed (λ k. keysOf S.Rank (gridAt g k)) (g .grids) sides ranks
+    listed = sided-listed g (g .grids) sides ranks m
+
+    go : (b : Bool) → someReaches sides (g .grids) ≡ b → r ≡ first (λ k. some (clash (cond b S.Turn S.Rank) sides ranks k) k) (g .grids)
+        → r ≡ first (rankedEarlier g) (g .grids)
+    go true d h = sharing g f sides ranks S.Turn r u listed h
+    go false d h = sharing g f sides ranks S.Rank r (λ k l. (u k l, none-reaches g (g .grids) sides ranks m d k l)) listed h

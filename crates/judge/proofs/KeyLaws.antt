@@ -1,7 +1,7 @@
 -- Laws of the keys: eight bytes as one number, keys stored in lists, and keys that agree exactly where two grids share what they may not.
 use Prim.Native.Nat.{ℕ, zero, suc, _+_, _*_, _-_, _^_, _<_, _≤_}
 use mathlib.Core.Path.{_≡_, refl, sym, ap, _∙_}
-use mathlib.Core.Bool.{Bool, true, _&&_}
+use mathlib.Core.Bool.{Bool, true, false, _&&_, _||_}
 use mathlib.Core.List.{List}
 use native.Mathlib.Nat.{pow-le-pow-right, pow-suc, mul-le-mul-right}
 use native.Mathlib.Numerals.{add-one}
@@ -9,23 +9,24 @@ use native.Mathlib.Decide.{decLt}
 use native.Mathlib.Omega.{arith}
 use borrow.Author.Count.{below-more}
 use borrow.Author.Tests.{eqb-true, eq-eqb}
-use lib.Dec.{eqb}
+use lib.Dec.{leb, eqb}
 use lib.ListN.{length, getD, set, length-set}
 use lib.Seq.{getD-set-same, getD-set-other}
 use Rattle.numbers.specs.First.{every}
 use Rattle.numbers.proofs.Bools.{and-left, and-right, both, same-test}
-use Rattle.numbers.proofs.FirstLaws.{every-at, all-every}
+use Rattle.numbers.proofs.FirstLaws.{none-by, every-at, all-every}
 use Rattle.group.specs.declared.Name.{Name}
 use Rattle.group.specs.declared.Group.{Group}
 use Rattle.group.specs.Numbers.{nameMost}
 use Rattle.group.specs.Record.{gridAt}
 use Rattle.extent.specs.declared.Sides.{Sides}
-use Rattle.extent.specs.Sides.{Edges}
-use Rattle.extent.proofs.SideLaws.{meet-sides}
+use Rattle.extent.specs.Extent.{meet}
+use Rattle.extent.specs.Sides.{sidesOf, Edges, lonFirst, lonLast, sidesMeet, turnsMeet, reaches}
+use Rattle.extent.proofs.MeetLaws.{meet-turns, meet-written}
 use Rattle.flat.specs.Rects.{rectAt}
 use Rattle.flat.specs.Lists.{Sided}
 use Rattle.judge.specs.Judge.{sameByte, sameName, sameRank}
-use Rattle.judge.specs.Keys.{packed, wordAt, keysOf, putFour, KeysListed, clash}
+use Rattle.judge.specs.Keys.{packed, wordAt, keysOf, putFour, KeysListed, someReaches, clash}
 use Rattle.judge.specs.declared.Keys.{Keys}
 use Rattle.judge.specs.declared.Shared.the-variants as S
 
@@ -133,6 +134,13 @@ sided-listed g n sides ranks s =
       d = λ k l. ap (λ (t : Sides). t .north) (s .side k l);
     }
 
+-- where no grid of the list of sides reaches the ends of the admitted longitudes, none of the group does
+pub none-reaches : (g : Group) (n : ℕ) (sides ranks : List ℕ) → Sided g n sides ranks → someReaches sides n ≡ false
+    → (k : ℕ) → k < n → reaches (sidesOf (gridAt g k)) ≡ false
+unfolding someReaches rectAt
+none-reaches g n sides ranks s e k l =
+    ap reaches (sym (s .side k l)) ∙ none-by (λ i. leb (getD sides (i * 4) 0) lonFirst || leb lonLast (getD sides (i * 4 + 1) 0)) n k e l
+
 -- names are the same exactly where their words are
 module _ (m n : Name) (f : (j : ℕ) → j < nameMost → getD (m .bytes) j 0 < 256) (g : (j : ℕ) → j < nameMost → getD (n .bytes) j 0 < 256) where
   byte : (x : Name) (from j : ℕ) → ℕ
@@ -203,20 +211,28 @@ module _ (g : Group) (n : ℕ) (fours keys : List ℕ) (j k : ℕ) (hj : j < n) 
         sym (same-words (gridAt g j .name) (gridAt g k .name) (λ b. f j b hj) (λ b. f k b hk)),
       )
 
-  pub clash-rank : KeysListed (λ i. keysOf S.Rank (gridAt g i)) n fours keys → Edges (gridAt g j) → Edges (gridAt g k)
-      → clash S.Rank fours keys k j ≡ sameRank (gridAt g j) (gridAt g k)
-  unfolding clash sameRank
-  clash-rank s e f =
-      rw (
-        s .key j hj,
-        s .key k hk,
-        s .a j hj,
-        s .a k hk,
-        s .b j hj,
-        s .b k hk,
-        s .c j hj,
-        s .c k hk,
-        s .d j hj,
-        s .d k hk,
-        sym (meet-sides (gridAt g j) (gridAt g k) e f),
-      )
+  -- ranks, by any test of the sides that tells whether the two meet
+  ranks-by : (t : Sides → Sides → Bool) → KeysListed (λ i. keysOf S.Rank (gridAt g i)) n fours keys
+      → meet (gridAt g j) (gridAt g k) ≡ t (sidesOf (gridAt g j)) (sidesOf (gridAt g k))
+      → (eqb (getD keys j 0) (getD keys k 0) && t (rectAt fours j) (rectAt fours k)) ≡ sameRank (gridAt g j) (gridAt g k)
+  unfolding sameRank rectAt
+  ranks-by t s e =
+      (λ i. eqb (s .key j hj i) (s .key k hk i) && t (side j hj i) (side k hk i))
+      ∙ ap (λ (m : Bool). eqb (gridAt g j .rank) (gridAt g k .rank) && m) (sym e)
+    where
+      side : (i : ℕ) → i < n → rectAt fours i ≡ sidesOf (gridAt g i)
+      side i l = λ x. record { west = s .a i l x; east = s .b i l x; south = s .c i l x; north = s .d i l x }
+
+  module _ (a : Edges (gridAt g j)) (b : Edges (gridAt g k)) where
+    -- as they are written
+    pub clash-rank : KeysListed (λ i. keysOf S.Rank (gridAt g i)) n fours keys
+        → reaches (sidesOf (gridAt g j)) ≡ false → reaches (sidesOf (gridAt g k)) ≡ false
+        → clash S.Rank fours keys k j ≡ sameRank (gridAt g j) (gridAt g k)
+    unfolding clash rectAt
+    clash-rank s r t = ranks-by sidesMeet s (meet-written (gridAt g j) (gridAt g k) a b r t)
+
+    -- round the earth
+    pub clash-turn : KeysListed (λ i. keysOf S.Turn (gridAt g i)) n fours keys
+        → clash S.Turn fours keys k j ≡ sameRank (gridAt g j) (gridAt g k)
+    unfolding clash rectAt
+    clash-turn s = ranks-by turnsMeet s (meet-turns (gridAt g j) (gridAt g k) a b)

@@ -8,3 +8,4 @@ pub mod Accepted
 pub mod TableLaws
 pub mod KeptLaws
 pub mod StoredLaws
+pub mod Order5

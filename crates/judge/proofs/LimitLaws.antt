@@ -126,9 +126,9 @@ module _ (g : Grid) (e : gridFits g ≡ true) where
         first = start-most;
       }
 
-  -- with the far edges within the limits, so are all four sides
+  -- with the far edges and the width within the limits, so are all four sides
   pub grid-edges : (np : ℕ) → inside np g ≡ true → Edges g
-  grid-edges np h = edges-within np g grid-sized lat-size h
+  grid-edges np h = edges-within np g h grid-sized lat-size
 
 -- a byte of a well-formed name is a byte
 alphabet : (b : ℕ) → nameByte b ≡ true → b < 256

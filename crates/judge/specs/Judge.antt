@@ -40,7 +40,7 @@ sameName m n = eqb (m .len) (n .len) && every (sameByte m n) nameMost
 abbrev pub namedEarlier : Group → ℕ → Bool
 namedEarlier g k = some (λ j. sameName (gridAt g j .name) (gridAt g k .name)) k
 
--- 4: a far edge is outside the limits, or the node range ends too late
+-- 4: a far edge is outside the limits, the grid is wider than a turn, or the node range ends too late
 abbrev pub outside : Group → ℕ → Bool
 outside g k = not (inside (g .parameters) (gridAt g k))
 

@@ -1,4 +1,5 @@
--- What the contracts of `judge` cite.
+-- What the contracts of `judge` cite, and what it promises.
 pub mod Judge
 pub mod Keys
 pub mod Rules
+pub mod Order5

@@ -1,7 +1,7 @@
 // The judge of a group handed over as a record or as a list of numbers: refusals 2 to 5.
 ghost use mathlib.Core.Path.{_≡_};
-ghost use mathlib.Core.Bool.{true, false, cond, not, _&&_};
-ghost use Prim.Native.Nat.{ℕ, _+_, _*_, _<_, _≤_};
+ghost use mathlib.Core.Bool.{true, false, cond, not, _&&_, _||_};
+ghost use Prim.Native.Nat.{ℕ, _+_, _-_, _*_, _<_, _≤_};
 ghost use lib.Dec.{leb, eqb};
 ghost use lib.ListN.{length, set};
 ghost use Rattle.numbers.specs.First.{first, some};
@@ -9,13 +9,17 @@ ghost use Rattle.group.specs.Numbers.{parametersMost, rampsMost, gridsMost};
 ghost use Rattle.group.specs.Limits.{gridFits, gridBlank, headFits};
 ghost use Rattle.abi.specs.Abi.{rampOfWords, gridOfWords, groupOfWords};
 ghost use Rattle.extent.specs.Extent.{inside};
+ghost use Rattle.extent.specs.Sides.{ahead};
 ghost use Rattle.flat.specs.Lists.{FlatRoom, Flattened};
 ghost use Rattle.judge.specs.Judge.{badGrid, judged};
 ghost use Rattle.judge.specs.Rules.{rampTest, HeadLimits, judgedFrom, KeyRoom, Scanned, Left};
-ghost use Rattle.judge.specs.Keys.{wordAt, nameKeys, putFour, agree, clash};
+ghost use Rattle.judge.specs.Keys.{wordAt, nameKeys, putFour, agree, someReaches, rankRule, clash};
 use abi::GROUP_WORDS;
+use flat::LON_FIRST;
+use flat::LON_LAST;
 use group::Grid;
 use group::Group;
+use group::LON_TURN;
 use group::Name;
 use group::Ramp;
 use group::Refusal;
@@ -40,10 +44,12 @@ enum RampRule {
     Limits,
 }
 
-// What two grids may not share: a name; or a rank, where their extents share a coordinate.
+// What two grids may not share: a name; or a rank, where they hold a coordinate in common: where their extents share one as they are
+// written, or round the earth.
 enum Shared {
     Name,
     Rank,
+    Turn,
 }
 
 // The numbers by which a grid is compared with another.
@@ -55,7 +61,7 @@ struct Keys {
     d: u64,
 }
 
-// What one pass over the grids finds: the first whose line is outside its limits, and the first whose far edge or node range is; each is
+// What one pass over the grids finds: the first whose line is outside its limits, and the first whose far edge, width or node range is; each is
 // the count of grids if there is none.
 struct Scan {
     bad: u64,
@@ -149,8 +155,8 @@ fn put_keys(fours: &mut [u64], keys: &mut [u64], i: usize, m: Keys)
     keys[i] = m.key;
 }
 
-// Stores what the lists have of a grid whose line is within its limits, as that of grid k, and answers whether its far edges and its node
-// range are within theirs.
+// Stores what the lists have of a grid whose line is within its limits, as that of grid k, and answers whether its far edges, its width
+// and its node range are within theirs.
 fn list_grid(
     g: Grid,
     np: u64,
@@ -215,6 +221,35 @@ fn scan_grids(
     Scan { bad: i, edge: edge }
 }
 
+// How far east of w the longitude x lies, round the earth.
+fn ahead(w: u64, x: u64) -> u64
+    ensures { λ r. ⌜ r ≡ ahead w x ⌝ }
+{
+    if w <= x {
+        return (x - w) % LON_TURN;
+    }
+    LON_TURN - 1 - (w - x - 1) % LON_TURN
+}
+
+// How far it is from w to e, 0 if e lies west of w.
+fn width(w: u64, e: u64) -> u64
+    ensures { λ r. ⌜ r ≡ e - w ⌝ }
+{
+    if w <= e {
+        return e - w;
+    }
+    0
+}
+
+// Whether two extents share a longitude round the earth: the west side of one lies in the other.
+fn lons_meet(w: u64, e: u64, v: u64, f: u64) -> bool
+    ensures { λ r. ⌜ r ≡ (leb (ahead v w) (f - v) || leb (ahead w v) (e - w)) ⌝ }
+{
+    let first = ahead(v, w) <= width(v, f);
+    let second = ahead(w, v) <= width(w, e);
+    first | second
+}
+
 // Whether the keys of grids j and k agree.
 fn keys_agree(shared: Shared, fours: &[u64], j: usize, k: usize) -> bool
     requires { ⌜ (j * 4 + 3 < length (now fours)) × (k * 4 + 3 < length (now fours)) ⌝ }
@@ -233,6 +268,10 @@ fn keys_agree(shared: Shared, fours: &[u64], j: usize, k: usize) -> bool
             (fours[p] <= fours[q + 1])
                 & (fours[q] <= fours[p + 1])
                 & ((fours[p + 2] <= fours[q + 3]) & (fours[q + 2] <= fours[p + 3]))
+        }
+        Shared::Turn => {
+            let lons = lons_meet(fours[p], fours[p + 1], fours[q], fours[q + 1]);
+            lons & ((fours[p + 2] <= fours[q + 3]) & (fours[q + 2] <= fours[p + 3]))
         }
     }
 }
@@ -279,6 +318,33 @@ fn first_clash(shared: Shared, fours: &[u64], keys: &[u64], n: u64) -> u64
     i
 }
 
+// Whether one of n grids reaches the ends of the admitted longitudes.
+fn some_reaches(sides: &[u64], n: u64) -> bool
+    requires { ⌜ n * 4 ≤ length (now sides) ⌝ }
+    ensures { λ r. ⌜ r ≡ someReaches (now (sides .entry)) n ⌝ }
+{
+    let mut i: u64 = 0;
+    while i < n {
+        let at = i as usize * 4;
+        if (sides[at] <= LON_FIRST) | (LON_LAST <= sides[at + 1]) {
+            return true;
+        }
+        i += 1;
+    }
+    false
+}
+
+// How the ranks of n grids are compared: round the earth only where one of them reaches the ends of the admitted longitudes.
+fn rank_rule(sides: &[u64], n: u64) -> Shared
+    requires { ⌜ n * 4 ≤ length (now sides) ⌝ }
+    ensures { λ r. ⌜ r ≡ rankRule (now (sides .entry)) n ⌝ }
+{
+    if some_reaches(sides, n) {
+        return Shared::Turn;
+    }
+    Shared::Rank
+}
+
 // Refusal 2 of the grid lines, of which the first is line `from`, then 3 to 5; what it leaves in the lists, `judge_into` says.
 fn judge_grids(
     words: &[i64; GROUP_WORDS],
@@ -315,7 +381,7 @@ fn judge_grids(
             place: found.edge + 1,
         });
     }
-    let rank = first_clash(Shared::Rank, sides, ranks, n);
+    let rank = first_clash(rank_rule(sides, n), sides, ranks, n);
     if rank < n {
         return Verdict::Refused(Refusal {
             number: 5,

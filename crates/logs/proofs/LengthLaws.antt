@@ -1,4 +1,4 @@
--- What an accepted lookup of a position says of the sizes of its numbers, and how long its line can then be: at most 94 bytes.
+-- What an accepted lookup of a position says of the sizes of its numbers, and how long its line can then be: at most 93 bytes.
 use Prim.Native.Nat.{ℕ, zero, suc, _*_, _-_, _≤_}
 use mathlib.Core.Path.{_≡_, sym, subst}
 use mathlib.Core.List.{List, [], _∷_, map}
@@ -28,7 +28,7 @@ use Rattle.lookup.proofs.FoundLaws.{found}
 use Rattle.lookup.proofs.ResultLaws.{best, answered, rest-zero}
 use Rattle.exercise.specs.Exercise.{pointAt}
 use Rattle.logs.specs.Line.{fixKeyword, gridName, entryText}
-use Rattle.logs.specs.Writing.{entryFound, lineText}
+use Rattle.logs.specs.Writing.{entryFound, lineText, lineMost}
 use Rattle.logs.specs.Reading.{FixFound}
 
 pub fix-found : (g : Group) (nodes : List ℤ) (p : Position) (f : Fix) → looked g nodes (pointAt p) (p .day) ≡ L.Fix f → FixFound g p f
@@ -68,11 +68,11 @@ numbers-length r h (suc n) =
     let b = numbers-length (λ q. r (suc q)) (λ q. h (suc q)) n in
     omega (arith, suc-mul n 11)
 
-pub text-most : (g : Group) (p : Position) (f : Fix) → FixFound g p f → length (lineText g p f) ≤ 94
+pub text-most : (g : Group) (p : Position) (f : Fix) → FixFound g p f → length (lineText g p f) ≤ lineMost
 unfolding lineText
 text-most g p f w =
     let x = w .lon in let y = w .lat in let d = w .day in
-    let a = intText-length 9 (p .lon .0) (omega arith) in
+    let a = intText-length 8 (p .lon .0) (omega arith) in
     let b = intText-length 8 (p .lat .0) (omega arith) in
     let c = intText-length 6 (p .day) (omega arith) in
     let m = gridAt g (f .grid - 1) .name in

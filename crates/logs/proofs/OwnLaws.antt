@@ -34,8 +34,8 @@ use Rattle.header.specs.declared.Written.the-variants as W
 use Rattle.header.specs.Header.{writtenRefusal, writtenCount}
 use Rattle.header.proofs.Demand2.{put-front}
 use Rattle.logs.specs.Line.{entryText, gridName}
-use Rattle.logs.specs.Writing.{entryFound, lineText, foundWritten, foundAfter, lineWritten, lineAfter}
-use Rattle.logs.specs.Order4.{foundFor, lineMost, LookupRefuses, writtenBytes, OwnLine, LineWritten}
+use Rattle.logs.specs.Writing.{lineMost, entryFound, lineText, foundWritten, foundAfter, lineWritten, lineAfter}
+use Rattle.logs.specs.Order4.{foundFor, LookupRefuses, writtenBytes, OwnLine, LineWritten}
 use Rattle.logs.proofs.LengthLaws.{fix-found, text-most}
 use Rattle.logs.proofs.WrittenLaws.{fix-short, fix-count, lookup-refused}
 use Rattle.logs.proofs.KindLaws.{refused-some, the-grid}

@@ -27,7 +27,7 @@ use Rattle.header.specs.Header.{writtenRefusal, writtenCount}
 use Rattle.logs.specs.declared.Fault.{Fault}
 use Rattle.logs.specs.Line.{Entry, entryText, lineKind}
 use Rattle.logs.specs.Log.{fault, noFault, logJudged, judgementRefusal, judgementFault}
-use Rattle.logs.specs.Writing.{lineWritten, lineAfter}
+use Rattle.logs.specs.Writing.{lineMost, lineWritten, lineAfter}
 
 -- ---- a line
 
@@ -140,10 +140,6 @@ pub record InParts (g : Group) (nodes : List ℤ) (a b : List ℕ) : Type 0 wher
       → judgementFault (logJudged g nodes (a ++ b)) ≡ judgementFault (logJudged g nodes a)
 
 -- ---- our own writer
-
--- a written line has at most so many bytes, its line feed among them
-abbrev pub lineMost : ℕ
-lineMost = 94
 
 -- what the lookup refuses
 abbrev pub LookupRefuses : Group → List ℤ → Position → Refusal → Type 0

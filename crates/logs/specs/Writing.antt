@@ -28,6 +28,10 @@ entryFound g p f = record { position = p; name = gridName g (f .grid); shifts = 
 unfoldable pub lineText : Group → Position → Fix → List ℕ
 lineText g p f = entryText (entryFound g p f) ++ (10 ∷ [])
 
+-- it has at most so many bytes
+abbrev pub lineMost : ℕ
+lineMost = 93
+
 -- the bytes of a lookup's line, none beside a refusal
 abbrev pub foundText : Group → Position → Lookup → List ℕ
 foundText g p (L.Fix f) = lineText g p f

@@ -74,7 +74,7 @@ const PLACE: usize = 3;
 const SHIFTS: usize = group::PARAMETERS_MOST as usize;
 
 // The most bytes of a written line.
-const LINE_MOST: usize = 94;
+const LINE_MOST: usize = 93;
 
 // Reads as many fields of a cut line as there is room for, from field `first` on, as numbers: whether each is one.
 fn read_numbers(line: &[u8], cuts: &[usize; CUTS], first: usize, numbers: &mut [i64]) -> bool
@@ -194,12 +194,20 @@ fn look_at(
     let x = extent::lon_from_least(point.lon);
     let y = extent::lat_from_least(point.lat);
     let owners = exercise::OWNERS_FROM;
+    let shifts = exercise::SHIFTS_FROM;
     let frames = exercise::FRAMES_FROM;
     let end = exercise::COUNT_AT;
-    let rows = tables[exercise::COUNT_AT] as usize;
-    let grid = choice::first_holder(&tables[..owners], &tables[owners..frames], rows, x, y);
+    let count = tables[exercise::COUNT_AT] as usize;
+    let held = choice::first_holder(
+        &tables[..owners],
+        &tables[owners..shifts],
+        &tables[shifts..frames],
+        count,
+        x,
+        y,
+    );
     let np = abi::parameter_count(words);
-    lookup::fix_chosen(&tables[frames..end], grid, np, nodes, scale.factor, x, y)
+    lookup::fix_held(&tables[frames..end], held, np, nodes, scale.factor, x, y)
 }
 
 // Judges a line, given without its line feed, by the tables of an accepted call and the scale of the day last looked up.
@@ -361,7 +369,7 @@ pub fn line_words(
     }
 }
 
-// Writes the one line of a position, `fix` LON LAT DAY GRID V1 .. VNP with its line feed, and answers the count of bytes, at most 94;
+// Writes the one line of a position, `fix` LON LAT DAY GRID V1 .. VNP with its line feed, and answers the count of bytes, at most 93;
 // what stands behind them stays. Refused as the lookup is, then by 12 if the output is too short; nothing is written then. Under the
 // same group and nodes the line passes `judge_log`.
 pub fn write_log_line(group: Group, nodes: &[i32], position: Position, out: &mut [u8]) -> Written

@@ -1,7 +1,6 @@
 -- The laws of the lookup: choice, offsets, stages and promises.
 pub mod OffsetLaws
 pub mod FixAtLaws
-pub mod ChosenLaws
 pub mod BridgeLaws
 pub mod RampLaws
 pub mod StageLaws
@@ -13,4 +12,5 @@ pub mod FoundLaws
 pub mod ResultLaws
 pub mod SameLaws
 pub mod Demand2
+pub mod Order5
 pub mod AnswerLaws

@@ -1,7 +1,7 @@
 -- A point that a grid of an accepted group holds lies in the grid: what its cell needs.
 use Prim.Native.Nat.{ℕ, _+_, _-_, _*_, _≤_, _<_}
 use mathlib.Core.Path.{_≡_, refl, sym, subst}
-use mathlib.Core.Bool.{Bool, true, false, cond, _&&_}
+use mathlib.Core.Bool.{Bool, true, false, cond}
 use mathlib.Core.Logic.{⊎-elim}
 use native.Mathlib.Omega.{arith}
 use borrow.Author.Tests.{leb-true}
@@ -17,10 +17,12 @@ use Rattle.group.specs.declared.Grid.{Grid}
 use Rattle.group.specs.declared.Group.{Group}
 use Rattle.group.specs.declared.Point.{Point}
 use Rattle.group.specs.declared.Verdict.the-variants.{Accepted}
-use Rattle.group.specs.Numbers.{lonMost, latMost, lonZero, latZero, lonAdmitted, latAdmitted, lonEdgeFits, latEdgeFits, spacingMost, listMost}
+use Rattle.group.specs.Numbers.{lonMost, latMost, lonZero, latZero, lonAdmitted, latAdmitted, spacingMost}
 use Rattle.group.specs.Limits.{spacingFits}
 use Rattle.group.specs.Record.{gridAt}
-use Rattle.extent.specs.Extent.{lonAxis, latAxis, farEdge, spanOf, lonSpan, latSpan, lonHolds, latHolds, holds, nodeEnd, inside}
+use Rattle.extent.specs.Extent.{farEdge, spanOf, lonSpan, latSpan, lonLies, holds, lonUsed}
+use Rattle.extent.proofs.SideLaws.{inside-range, used-size}
+use Rattle.extent.proofs.Order5.{first-used}
 use Rattle.judge.specs.Judge.{judged}
 use Rattle.judge.proofs.Accepted.{accepted, accepted-head, accepted-sized}
 use Rattle.judge.proofs.LimitLaws.{lon-size, lat-size, dlon-good, dlat-good}
@@ -66,17 +68,16 @@ spacing-least (negsuc n) e = omega arith
 -- ---- in a grid
 
 module _ (g : Grid) (x y : ℤ) (h : holds g x y ≡ true) where
-  lon-distance : natAbs (x -ℤ g .lon .0) ≤ (g .ni - 1) * natAbs (g .dlon)
-  unfolding holds lonSpan spanOf farEdge
-  lon-distance = axis-distance (g .lon .0) (g .dlon) x (g .ni - 1) (and-left (lonHolds (lonSpan g) x) (latHolds (latSpan g) y) h)
+  lon-lies : lonLies (lonSpan g) (lonUsed (lonSpan g) x) ≡ true
+  lon-lies = first-used g x y .lies h .0
+
+  lon-distance : natAbs (lonUsed (lonSpan g) x -ℤ g .lon .0) ≤ (g .ni - 1) * natAbs (g .dlon)
+  unfolding lonSpan spanOf farEdge
+  lon-distance = axis-distance (g .lon .0) (g .dlon) (lonUsed (lonSpan g) x) (g .ni - 1) lon-lies
 
   lat-distance : natAbs (y -ℤ g .lat .0) ≤ (g .nj - 1) * natAbs (g .dlat)
-  unfolding holds latSpan spanOf farEdge
-  lat-distance = axis-distance (g .lat .0) (g .dlat) y (g .nj - 1) (and-right (lonHolds (lonSpan g) x) (latHolds (latSpan g) y) h)
-
-range-end : (np : ℕ) (g : Grid) → inside np g ≡ true → nodeEnd np g ≤ listMost
-unfolding inside
-range-end np g e = leb-true _ _ (and-right (lonEdgeFits (farEdge (lonAxis g)) && latEdgeFits (farEdge (latAxis g))) _ e)
+  unfolding latSpan spanOf farEdge
+  lat-distance = axis-distance (g .lat .0) (g .dlat) y (g .nj - 1) (first-used g x y .lies h .1)
 
 -- ---- in an accepted group
 
@@ -95,18 +96,20 @@ module _ (g : Group) (a : judged g ≡ Accepted) (p : Point) (k : ℕ) (l : k < 
         dx-most = lon-distance e (p .lon .0) (p .lat .0) h;
         dy-most = lat-distance e (p .lon .0) (p .lat .0) h;
         np-most = accepted-head g a .parameters;
-        range-most = range-end (g .parameters) e (accepted g a .edges k l);
+        range-most = inside-range (g .parameters) e (accepted g a .edges k l);
       }
 
-  -- the point seen from the grid's frame
+  -- the point seen from the grid's frame, by the longitude used
   pub offset-seen : pointFits p ≡ true
-      → offsetIn (frameOf (gridAt g k)) (g .parameters) (lonFromLeast (p .lon .0)) (latFromLeast (p .lat .0)) ≡ offsetOf (gridAt g k) (g .parameters) p
+      → offsetIn (frameOf (gridAt g k)) (g .parameters) (lonFromLeast (lonUsed (lonSpan (gridAt g k)) (p .lon .0))) (latFromLeast (p .lat .0))
+      ≡ offsetOf (gridAt g k) (g .parameters) p
   unfolding offsetOf
   offset-seen h =
       let e = gridAt g k in let f = accepted g a .grid k l in
       let u = lonAdmitted (p .lon .0) in let v = latAdmitted (p .lat .0) in
       let x =
-      raised-apart lonZero (p .lon .0) (e .lon .0) (omega (arith, within-size lonMost (p .lon .0) (and-left u v h))) (omega (arith, lon-size e f)) in
+      raised-apart lonZero (lonUsed (lonSpan e) (p .lon .0)) (e .lon .0)
+      (used-size (lonSpan e) (p .lon .0) (omega (arith, within-size lonMost (p .lon .0) (and-left u v h)))) (omega (arith, lon-size e f)) in
       let y =
       raised-apart latZero (p .lat .0) (e .lat .0) (omega (arith, within-size latMost (p .lat .0) (and-right u v h))) (omega (arith, lat-size e f)) in
       λ i.

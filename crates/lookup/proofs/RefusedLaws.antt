@@ -102,11 +102,11 @@ module _ (g : Group) (nodes : List ℤ) (p : Point) (t : ℤ) where
       (corner-unused g nodes p isBeyond (λ v. valueMost < natAbs v) is-beyond k b)
       (λ f. refl))
 
-  in-choice : judged g ≡ Accepted → (c : ℕ) → chosenIn g (p .lon .0) (p .lat .0) ≡ c → (factor : ℤ)
+  in-choice : judged g ≡ Accepted → pointFits p ≡ true → (c : ℕ) → chosenIn g (p .lon .0) (p .lat .0) ≡ c → (factor : ℤ)
       → From7 (lookupRefusal (fixAt c (seenFrom g p) nodes factor))
   unfolding fixAt
-  in-choice a zero e factor = inl (refl, none-holds g (p .lon .0) (p .lat .0) e)
-  in-choice a (suc k) e factor = let b = chosen-is-best g p a k e in inr (λ r h. h .1 k (b .among) (b .held), in-grid k factor b)
+  in-choice a o zero e factor = inl (refl, none-holds g (p .lon .0) (p .lat .0) e)
+  in-choice a o (suc k) e factor = let b = chosen-is-best g p a o k e in inr (λ r h. h .1 k (b .among) (b .held), in-grid k factor b)
 
   stands : Refuses g nodes p t (lookupRefusal (looked g nodes p t))
   unfolding Refuses looked lookedIn
@@ -118,7 +118,7 @@ module _ (g : Group) (nodes : List ℤ) (p : Point) (t : ℤ) where
       row-stage L.Refused lookupRefusal (λ r. refl) _ From13 (not (dayFits t)) 9 _ (λ e. outside dayMost t (not-true _ e)) (λ e. inside dayMost t (not-false _ e))
       (λ c.
       short-stage L.Refused lookupRefusal (λ r. refl) From7 g nodes (fixOf g nodes p t)
-      (λ d. in-choice a (chosenIn g (p .lon .0) (p .lat .0)) refl (factorOf (g .ramp) (g .ramps) t)))))
+      (λ d. in-choice a (not-false _ b) (chosenIn g (p .lon .0) (p .lat .0)) refl (factorOf (g .ramp) (g .ramps) t)))))
 
   single : Single (Refuses g nodes p t)
   unfolding Refuses

@@ -11,6 +11,7 @@ use Rattle.group.specs.declared.Group.{Group}
 use Rattle.group.specs.declared.Point.{Point}
 use Rattle.group.specs.Numbers.{resultMost}
 use Rattle.group.specs.Record.{gridAt}
+use Rattle.extent.specs.Extent.{lonSpan, lonUsed}
 use Rattle.judge.proofs.Accepted.{accepted, accepted-head}
 use Rattle.cell.proofs.ValueLaws.{value-half-step, value-least, value-most}
 use Rattle.day.specs.Day.{factorOf, resultOf}
@@ -42,7 +43,7 @@ module _ (g : Group) (nodes : List ℤ) (p : Point) (t : ℤ) (f : Fix) (e : loo
   l = seenFrom g p (w .k)
 
   pub best : BestGrid g p (w .k)
-  best = chosen-is-best g p (w .ready .accepted) (w .k) (w .chosen)
+  best = chosen-is-best g p (w .ready .accepted) (w .ready .point) (w .k) (w .chosen)
 
   inside : InsideGrid l
   inside = offset-inside g (w .ready .accepted) p (w .k) (best .among) (best .held)
@@ -74,7 +75,7 @@ module _ (g : Group) (nodes : List ℤ) (p : Point) (t : ℤ) (f : Fix) (e : loo
 
   -- at node (i, j) of the chosen grid the value is the node's, whatever the cell's other corners hold
   pub at-node : (i j q : ℕ) → i < gridAt g (w .k) .ni → j < gridAt g (w .k) .nj → q < g .parameters
-      → p .lon .0 ≡ gridAt g (w .k) .lon .0 +ℤ pos i *ℤ gridAt g (w .k) .dlon
+      → lonUsed (lonSpan (gridAt g (w .k))) (p .lon .0) ≡ gridAt g (w .k) .lon .0 +ℤ pos i *ℤ gridAt g (w .k) .dlon
       → p .lat .0 ≡ gridAt g (w .k) .lat .0 +ℤ pos j *ℤ gridAt g (w .k) .dlat
       → resultIn f q ≡ resultOf (nodeAt l nodes i j q) (factorOf (g .ramp) (g .ramps) t)
   unfolding offsetOf
@@ -82,7 +83,7 @@ module _ (g : Group) (nodes : List ℤ) (p : Point) (t : ℤ) (f : Fix) (e : loo
       let c = gridAt g (w .k) in
       answered q hq .result
       ∙ ap (λ (z : ℤ). resultOf z (factorOf (g .ramp) (g .ramps) t))
-      (value-node inside nodes q i j hi hj (node-distance (p .lon .0) (c .lon .0) (c .dlon) i ex) (node-distance (p .lat .0) (c .lat .0) (c .dlat) j ey))
+      (value-node inside nodes q i j hi hj (node-distance (lonUsed (lonSpan c) (p .lon .0)) (c .lon .0) (c .dlon) i ex) (node-distance (p .lat .0) (c .lat .0) (c .dlat) j ey))
 
   -- the results behind NP are 0
   pub rest-zero : (q : ℕ) → g .parameters ≤ q → resultIn f q ≡ pos 0

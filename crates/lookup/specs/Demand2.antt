@@ -15,7 +15,7 @@ use Rattle.group.specs.declared.Verdict.the-variants.{Refused}
 use Rattle.group.specs.Numbers.{lonMost, latMost, dayMost, valueMost, resultMost, mark}
 use Rattle.group.specs.Record.{gridAt}
 use Rattle.group.specs.Refusals.{refusal, noRefusal}
-use Rattle.extent.specs.Extent.{holds, nodeEnd}
+use Rattle.extent.specs.Extent.{lonSpan, holds, lonUsed, nodeEnd}
 use Rattle.judge.specs.Judge.{judged}
 use Rattle.cell.specs.Cell.{weightedSum}
 use Rattle.cell.specs.Used.{EachUsed, SomeUsed}
@@ -126,9 +126,9 @@ pub record LookedUp (g : Group) (nodes : List ℤ) (p : Point) (t : ℤ) (r : Lo
   pub grid : BestGrid g p k
   pub results : (q : ℕ) → q < g .parameters → Answered g nodes p t (seenFrom g p k) q (resultsOf r q)
   pub rest : (q : ℕ) → g .parameters ≤ q → resultsOf r q ≡ pos 0
-  -- at node (i, j) of the grid the value is the node's, whatever the cell's other corners hold
+  -- at node (i, j) of the grid, as the longitude used gives it, the value is the node's, whatever the cell's other corners hold
   pub at-node : (i j q : ℕ) → i < gridAt g k .ni → j < gridAt g k .nj → q < g .parameters
-      → p .lon .0 ≡ gridAt g k .lon .0 +ℤ pos i *ℤ gridAt g k .dlon
+      → lonUsed (lonSpan (gridAt g k)) (p .lon .0) ≡ gridAt g k .lon .0 +ℤ pos i *ℤ gridAt g k .dlon
       → p .lat .0 ≡ gridAt g k .lat .0 +ℤ pos j *ℤ gridAt g k .dlat
       → resultsOf r q ≡ resultOf (nodeAt (seenFrom g p k) nodes i j q) (factorOf (g .ramp) (g .ramps) t)
 

@@ -1,12 +1,12 @@
 -- The lookup of one point over a group's flat lists, and what it may rely on.
-use Prim.Native.Nat.{ℕ, _+_, _-_, _*_, _≤_, _<_}
+use Prim.Native.Nat.{ℕ, zero, suc, _+_, _-_, _*_, _^_, _≤_, _<_}
 use mathlib.Core.Path.{_≡_}
 use mathlib.Core.Bool.{true}
 use mathlib.Core.List.{List}
 use lib.IntN.{ℤ}
 use lib.ListN.{length, take, drop}
 use Rattle.group.specs.declared.Group.{Group}
-use Rattle.group.specs.Numbers.{nodesMost, startMost, gridsMost}
+use Rattle.group.specs.Numbers.{lonTurn, nodesMost, startMost, gridsMost}
 use Rattle.group.specs.Limits.{rampFits}
 use Rattle.abi.specs.Words.{headWords, gridsFrom}
 use Rattle.flat.specs.declared.Frame.{Frame}
@@ -14,10 +14,14 @@ use Rattle.flat.specs.Frames.{frameAt}
 use Rattle.flat.specs.Ramps.{rampIn}
 use Rattle.flat.specs.Lists.{Flat, FlatRoom}
 use Rattle.numbers.specs.Lists.{at}
-use Rattle.choice.specs.Rect.{rectHolds}
-use Rattle.choice.specs.Holder.{holder}
+use Rattle.choice.specs.Rect.{rectHolds, turnUsed}
+use Rattle.choice.specs.Holder.{heldBy}
+use Rattle.choice.specs.declared.Held.{Held}
+use Rattle.choice.specs.declared.Held.the-variants.{By, Nothing}
 use Rattle.fix.specs.declared.Offset.{Offset}
 use Rattle.fix.specs.declared.Lookup.{Lookup}
+use Rattle.fix.specs.declared.Lookup.the-variants as L
+use Rattle.group.specs.Refusals.{refusal}
 use Rattle.fix.specs.Inside.{InsideGrid, RangeListed}
 use Rattle.lookup.specs.Lookup.{fixAt}
 
@@ -63,13 +67,36 @@ rampRows numbers = take (gridsFrom - headWords) (drop headWords numbers)
 abbrev pub RampsFit : List ℤ → ℕ → Type 0
 RampsFit numbers n = (k : ℕ) → k < n → rampFits (rampIn (rampRows numbers) k) ≡ true
 
--- 7, 8 or 11, or the fix, from rectangles in the order of their owners' ranks
-abbrev pub fixRanked : (rows owners frames : List ℕ) (count np : ℕ) → List ℤ → ℤ → (x y : ℕ) → Lookup
-fixRanked rows owners frames count np nodes factor x y =
-    fixAt (holder (λ i. rectHolds rows i x y) (at owners) count) (λ k. offsetIn (frameAt frames k) np x y) nodes factor
+-- the longitude that the grid numbered c, from 1, uses of a point (x, y), by the list of sides; x itself where c is 0, for none
+abbrev pub usedAt : List ℕ → ℕ → (x y : ℕ) → ℕ
+usedAt sides zero x y = x
+usedAt sides (suc k) x y = turnUsed lonTurn sides k x y
+
+-- 7 where nothing holds the point, else 8 or 11, or the fix in the owner of the row that does, for its turn
+abbrev pub fixHeld : (frames : List ℕ) → Held → (np : ℕ) → List ℤ → ℤ → (x y : ℕ) → Lookup
+fixHeld frames Nothing np nodes factor x y = L.Refused (refusal 7 0)
+fixHeld frames (By owner shift) np nodes factor x y = fixAt (suc owner) (λ k. offsetIn (frameAt frames k) np (x + shift - lonTurn) y) nodes factor
+
+-- what that may rely on: the row's owner holds the point for the row's turn
+pub record TurnChosen (frames : List ℕ) (owner shift np nodes x y : ℕ) : Type 0 where
+  pub least : lonTurn ≤ x + shift
+  pub most : x + shift < 2 ^ 64
+  pub chosen : Chosen frames (suc owner) np nodes (x + shift - lonTurn) y
+
+abbrev pub HeldChosen : (frames : List ℕ) → Held → (np nodes x y : ℕ) → Type 0
+HeldChosen frames Nothing np nodes x y = Unit {0}
+HeldChosen frames (By owner shift) np nodes x y = TurnChosen frames owner shift np nodes x y
+
+-- from rectangles in the order of their owners' ranks: by the first that holds the point
+abbrev pub heldIn : (rows owners shifts : List ℕ) (count x y : ℕ) → Held
+heldIn rows owners shifts count x y = heldBy (λ r. rectHolds rows r x y) (at owners) (at shifts) count
+
+abbrev pub fixRanked : (rows owners shifts frames : List ℕ) (count np : ℕ) → List ℤ → ℤ → (x y : ℕ) → Lookup
+fixRanked rows owners shifts frames count np nodes factor x y = fixHeld frames (heldIn rows owners shifts count x y) np nodes factor x y
 
 -- what that lookup may rely on
-pub record LaidRows (rows owners frames : List ℕ) (count np nodes x y : ℕ) : Type 0 where
+pub record LaidRows (rows owners shifts frames : List ℕ) (count np nodes x y : ℕ) : Type 0 where
   pub rows-room : count * 4 ≤ length rows
   pub owners-room : count ≤ length owners
-  pub chosen : (r : ℕ) → r < count → rectHolds rows r x y ≡ true → Chosen frames (at owners r) np nodes x y
+  pub shifts-room : count ≤ length shifts
+  pub ready : HeldChosen frames (heldIn rows owners shifts count x y) np nodes x y

@@ -3,3 +3,4 @@ pub mod Lookup
 pub mod Answer
 pub mod Flat
 pub mod Demand2
+pub mod Order5

@@ -15,7 +15,7 @@ use Rattle.group.specs.declared.Verdict.the-variants.{Accepted, Refused}
 use Rattle.group.specs.Numbers.{lonAdmitted, latAdmitted, dayFits}
 use Rattle.group.specs.Record.{gridAt}
 use Rattle.group.specs.Refusals.{refusal, refuseIf, refuseFirst, unlessRefused}
-use Rattle.extent.specs.Extent.{nodeEnd}
+use Rattle.extent.specs.Extent.{lonSpan, lonUsed, nodeEnd}
 use Rattle.judge.specs.Judge.{judged}
 use Rattle.ingroup.specs.InGroup.{chosenIn}
 use Rattle.day.specs.Day.{factorOf}
@@ -36,11 +36,11 @@ endsEarly g count k = ltb count (nodeEnd (g .parameters) (gridAt g k))
 unfoldable pub nodesJudged : Group → ℕ → Verdict
 nodesJudged g count = refuseFirst Refused (endsEarly g count) (g .grids) 13 1 Accepted
 
--- the point seen from a grid
+-- the point seen from a grid, by the longitude used
 unfoldable pub offsetOf : Grid → ℕ → Point → Offset
 offsetOf g np p =
     record {
-      dx = natAbs (p .lon .0 -ℤ g .lon .0);
+      dx = natAbs (lonUsed (lonSpan g) (p .lon .0) -ℤ g .lon .0);
       dy = natAbs (p .lat .0 -ℤ g .lat .0);
       sx = natAbs (g .dlon);
       sy = natAbs (g .dlat);

@@ -1,32 +1,35 @@
 // The lookup: what a group of grids says of a point on a day.
 use abi::GROUP_WORDS;
+use choice::Held;
 use fix::Lookup;
 use fix::Offset;
 use flat::Frame;
 use group::Group;
+use group::LON_TURN;
 use group::Point;
 use group::Refusal;
 use group::Verdict;
 ghost use mathlib.Core.Path.{_≡_};
 ghost use mathlib.Core.Bool.{true};
-ghost use Prim.Native.Nat.{_*_, _≤_};
+ghost use Prim.Native.Nat.{_+_, _*_, _^_, _<_, _≤_};
 ghost use lib.Dec.{ltb};
 ghost use lib.IntN.{natAbs};
 ghost use lib.ListN.{length};
 ghost use Rattle.numbers.specs.First.{first};
-ghost use Rattle.group.specs.Numbers.{parametersMost, rampsMost, gridsMost, dayFits, factorMost};
+ghost use Rattle.group.specs.Numbers.{lonTurn, parametersMost, rampsMost, gridsMost, dayFits, factorMost};
 ghost use Rattle.abi.specs.Words.{groupWords};
 ghost use Rattle.abi.specs.Abi.{groupOfWords};
 ghost use Rattle.flat.specs.Frames.{frameAt, frameEnd};
 ghost use Rattle.flat.specs.Lists.{Room, Framed};
 ghost use Rattle.numbers.specs.Lists.{at};
-ghost use Rattle.choice.specs.Rect.{rectHolds};
+ghost use Rattle.choice.specs.Rect.{turnHolds};
 ghost use Rattle.choice.specs.Choice.{chosen};
 ghost use Rattle.judge.specs.Judge.{judged};
 ghost use Rattle.day.specs.Flat.{factorIn};
 ghost use Rattle.lookup.specs.Answer.{storedRecord};
 ghost use Rattle.lookup.specs.Lookup.{pointFits, nodesJudged, fixAt, fixOf, lookedIn, looked, LookupReady};
-ghost use Rattle.lookup.specs.Flat.{distance, offsetIn, Chosen, Laid, FramesSized, rampRows, RampsFit, fixRanked, LaidRows};
+ghost use Rattle.lookup.specs.Flat.{distance, offsetIn, Chosen, Laid, FramesSized, rampRows, RampsFit};
+ghost use Rattle.lookup.specs.Flat.{usedAt, fixHeld, HeldChosen, fixRanked, LaidRows};
 
 // A lookup's answer as C has it: the number and the place of its refusal, 0 and 0 if there is none, and the chosen grid's number and
 // its results in steps, zeros beside a refusal.
@@ -116,19 +119,56 @@ pub fn fix_chosen(
 
 // The number of the grid chosen at a point (x, y), from 1, by the lists of so many grids; 0 for none.
 fn chosen_flat(sides: &[u64], ranks: &[u64], grids: usize, x: u64, y: u64) -> u64
-    requires { ⌜ Room (now sides) (now ranks) grids ⌝ }
-    ensures { λ r. ⌜ r ≡ chosen (λ i. rectHolds (now (sides .entry)) i x y) (at (now (ranks .entry))) grids ⌝ }
+    requires { ⌜ Room (now sides) (now ranks) grids × (lonTurn ≤ x) × (x + lonTurn < 2 ^ 64) ⌝ }
+    ensures { λ r. ⌜ r ≡ chosen (λ i. turnHolds lonTurn (now (sides .entry)) i x y) (at (now (ranks .entry))) grids ⌝ }
 {
     let m = grids * 4;
-    choice::chosen_at(&sides[..m], &ranks[..grids], x, y)
+    choice::chosen_at(&sides[..m], &ranks[..grids], LON_TURN, x, y)
 }
 
-// The lookup of one point (x, y), given as distances in mas from the least longitude and latitude, in an accepted group of which
+// The longitude that the grid numbered c, from 1, uses of a point (x, y); x itself where c is 0, for none.
+fn used_at(sides: &[u64], c: u64, x: u64, y: u64) -> u64
+    requires { ⌜ (c * 4 ≤ length (now sides)) × (lonTurn ≤ x) × (x + lonTurn < 2 ^ 64) ⌝ }
+    ensures { λ r. ⌜ r ≡ usedAt (now (sides .entry)) c x y ⌝ }
+{
+    if c == 0 {
+        return x;
+    }
+    choice::used_lon(sides, (c - 1) as usize, LON_TURN, x, y)
+}
+
+// The fix of a point (x, y) in the grid that holds it by one of its rectangles, for that one's turn; refusal 7 where nothing does.
+pub fn fix_held(
+    frames: &[u64],
+    held: Held,
+    np: u64,
+    nodes: &[i32],
+    factor: i64,
+    x: u64,
+    y: u64,
+) -> Lookup
+    requires { ⌜ HeldChosen (now frames) held np (length (now nodes)) x y × (natAbs factor ≤ factorMost) ⌝ }
+    ensures { λ r. ⌜ r ≡ fixHeld (now (frames .entry)) held np (now (nodes .entry)) factor x y ⌝ }
+{
+    match held {
+        Held::Nothing => Lookup::Refused(Refusal {
+            number: 7,
+            place: 0,
+        }),
+        Held::By(owner, shift) => {
+            let at = x + shift - LON_TURN;
+            fix_chosen(frames, owner + 1, np, nodes, factor, at, y)
+        }
+    }
+}
+
+// The lookup of one point (x, y), given as distances in mas from the zeros of longitude and latitude, in an accepted group of which
 // the flat lists are made once, for many points: refusal 7, 8 or 11, or the fix. The rectangles stand in the order of their owners'
-// ranks, best first: the owner of the first that holds the point is chosen; a grid may own several.
+// ranks, best first: the owner of the first that holds the point is chosen; a grid may own several, one for each turn.
 pub fn look_ranked(
     rows: &[u64],
     owners: &[u64],
+    shifts: &[u64],
     frames: &[u64],
     count: usize,
     np: u64,
@@ -137,11 +177,12 @@ pub fn look_ranked(
     x: u64,
     y: u64,
 ) -> Lookup
-    requires { ⌜ LaidRows (now rows) (now owners) (now frames) count np (length (now nodes)) x y × (natAbs factor ≤ factorMost) ⌝ }
-    ensures { λ r. ⌜ r ≡ fixRanked (now (rows .entry)) (now (owners .entry)) (now (frames .entry)) count np (now (nodes .entry)) factor x y ⌝ }
+    requires { ⌜ LaidRows (now rows) (now owners) (now shifts) (now frames) count np (length (now nodes)) x y × (natAbs factor ≤ factorMost) ⌝ }
+    ensures { λ r. ⌜ r ≡ fixRanked (now (rows .entry)) (now (owners .entry)) (now (shifts .entry)) (now (frames .entry)) count np
+        (now (nodes .entry)) factor x y ⌝ }
 {
-    let c = choice::first_holder(rows, owners, count, x, y);
-    fix_chosen(frames, c, np, nodes, factor, x, y)
+    let held = choice::first_holder(rows, owners, shifts, count, x, y);
+    fix_held(frames, held, np, nodes, factor, x, y)
 }
 
 // The first of n grids whose node range, of np parameters, ends behind so many nodes, n if none does.
@@ -204,8 +245,9 @@ fn look_in(
     let x = extent::lon_from_least(point.lon);
     let y = extent::lat_from_least(point.lat);
     let c = chosen_flat(sides, ranks, abi::grid_count(words) as usize, x, y);
+    let at = used_at(sides, c, x, y);
     let factor = factor_on(words, abi::ramp_count(words), day);
-    fix_chosen(frames, c, abi::parameter_count(words), nodes, factor, x, y)
+    fix_chosen(frames, c, abi::parameter_count(words), nodes, factor, at, y)
 }
 
 // Refusal 13 of so many nodes, for an accepted group with these frames.

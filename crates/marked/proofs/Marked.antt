@@ -4,7 +4,7 @@ use Rattle.numbers.specs.First.{first}
 use Rattle.numbers.specs.Round.{gain, nearest, roundZ}
 use Rattle.group.specs.Limits.{byteFits, nameFits, nameBlank, headFits, gridFits, gridBlank}
 use Rattle.group.specs.Refusals.{refuseIf, refuseFirst}
-use Rattle.extent.specs.Extent.{farEdge, spanOf, lonSpan, latSpan, holds, meet, inside}
+use Rattle.extent.specs.Extent.{farEdge, spanOf, lonSpan, latSpan, holds, meet, inside, lonHolds, lonUsed, lonInward, lonMeet}
 use Rattle.judge.specs.Judge.{sameName, sameRank, judgedLines, judgedLimits, judgedGrids, judgedRanks, judged}
 use Rattle.choice.specs.Choice.{betterOf, chosen}
 use Rattle.ingroup.specs.InGroup.{chosenIn}
@@ -24,5 +24,5 @@ unfolding AllHold CaseHolds table first gain nearest roundZ byteFits nameFits na
     farEdge spanOf lonSpan latSpan holds meet inside sameName sameRank refuseIf refuseFirst judgedLines judgedLimits judgedGrids judgedRanks judged
     betterOf chosen cellIndex cellAlong weightsOf usedSome valueOf rampFactor sumOf factorOf resultOf
     F.cellOf F.cornersAt F.cornersOf F.cornerSome F.valueIn F.resultAt F.fixIn
-    chosenIn offsetOf fixAt lookedIn looked firstInRow firstInRows firstIn ofRank byRank entriesOf areaFits areaJudged inForceOf
+    lonHolds lonUsed lonInward lonMeet chosenIn offsetOf fixAt lookedIn looked firstInRow firstInRows firstIn ofRank byRank entriesOf areaFits areaJudged inForceOf
 all-marked = (refl, (refl, (refl, (refl, (refl, (refl, (refl, (refl, (refl, (refl, (refl, (refl, (refl, (refl, tt))))))))))))))

@@ -1,7 +1,7 @@
 -- What a loop that looks for the first index shows, once for every test.
 use Prim.Native.Nat.{ℕ, zero, suc, _+_, _<_, _≤_, zero-le, suc-le-suc}
 use mathlib.Core.Path.{_≡_, refl, sym, _∙_, ap, subst}
-use mathlib.Core.Bool.{Bool, true, false, cond, not, _&&_, and-false}
+use mathlib.Core.Bool.{Bool, true, false, cond, not, _&&_, _||_, and-false}
 use native.Mathlib.Omega.{arith}
 use native.Mathlib.Nat.{le-of-suc-le-suc, not-suc-le-zero}
 use borrow.Author.Count.{below-more, below-none}
@@ -152,3 +152,21 @@ module _ (p : ℕ → Bool) (n : ℕ) where
 
   pub by-some : some p n ≡ true → (i : ℕ) × (i < n) × (p i ≡ true)
   by-some e = let l = ltb-true (first p n) n e in (first p n, l, first-hit p n l)
+
+-- a test beside a test of an index
+pub some-and : (p : ℕ → Bool) (n : ℕ) (b : Bool) → (some p n && b) ≡ some (λ k. p k && b) n
+some-and p n b =
+    same-test (some p n && b) (some (λ k. p k && b) n)
+    (λ e. let i = by-some p n (and-left (some p n) b e) in some-by (λ k. p k && b) n (i .0) (i .1) (both (i .2) (and-right (some p n) b e)))
+    (λ e. let i = by-some (λ k. p k && b) n e in both (some-by p n (i .0) (i .1) (and-left (p (i .0)) b (i .2))) (and-right (p (i .0)) b (i .2)))
+
+-- of three
+three : (a b c : Bool) → (a || (b || c)) ≡ ltb (cond a zero (suc (cond b zero (suc (cond c zero (suc zero)))))) 3
+three true b c = refl
+three false true c = refl
+three false false true = refl
+three false false false = refl
+
+pub some-three : (p : ℕ → Bool) → (p 0 || (p 1 || p 2)) ≡ some p 3
+unfolding first
+some-three p = three (p 0) (p 1) (p 2)

@@ -3,7 +3,7 @@ use Prim.Native.Nat.{ℕ, _+_, _-_, _*_, _%_, _^_, _≤_, _<_}
 use mathlib.Core.Path.{_≡_, sym, ap, _∙_, subst}
 use mathlib.Core.Logic.{⊎-elim}
 use native.Mathlib.Omega.{arith}
-use lib.IntN.{ℤ, pos, _-ℤ_, natAbs}
+use lib.IntN.{ℤ, pos, _+ℤ_, _-ℤ_, natAbs}
 use mathlib.Core.Bool.{true}
 use native.Mathlib.Nat.{one-mul}
 use lib.Dec.{T, lit<}
@@ -12,8 +12,8 @@ use lib.Signed.{ltZ, ltZ-yes}
 use mir.Syntax.{Width}
 use mir.Val.{SFits, toZ, ofZ, hbits}
 use mir.ValLaws.{toZ-ofZ}
-use Rattle.numbers.proofs.Diff.{up, dn, Diff, up-or-dn, up-mag, diff-≡, diff-of, diff--, diff-pos, less-of, natAbs-diff, up-pos, dn-pos, <-diff}
-use Rattle.numbers.proofs.OrderLaws.{raised-is}
+use Rattle.numbers.proofs.Diff.{up, dn, Diff, up-or-dn, up-mag, diff-≡, diff-of, diff-self, diff-+, diff--, diff-pos, less-of, natAbs-diff, up-pos, dn-pos, <-diff}
+use Rattle.numbers.proofs.OrderLaws.{size-add, raised-is}
 use Rattle.numbers.specs.Order.{raised}
 
 -- what is read back of x's bits, where x is y and y fits
@@ -69,6 +69,27 @@ raised-lowered m x h =
 
 pub lowered-raised : (m : ℕ) (z : ℤ) → natAbs z ≤ m → pos (raised m z) -ℤ pos m ≡ z
 lowered-raised m z h = sym (less-of z (raised m z) m (sym (raised-is m z h)))
+
+-- a number with another added or taken off, raised
+module _ (m t : ℕ) (x : ℤ) (h : natAbs x + t ≤ m) where
+  pub add-size : natAbs (x +ℤ pos t) ≤ m
+  add-size = omega (arith, size-add x (pos t))
+
+  pub less-size : natAbs (x -ℤ pos t) ≤ m
+  less-size =
+      let z = x -ℤ pos t in let d = diff-- (diff-self x) (diff-pos t) .diff in
+      let n = natAbs-diff z in let k = natAbs-diff x in
+      ⊎-elim (λ e. omega arith) (λ e. omega arith) (up-or-dn z)
+
+  pub raised-add : raised m (x +ℤ pos t) ≡ raised m x + t
+  raised-add =
+      let d = diff-+ (diff-self x) (diff-pos t) .diff in
+      omega (arith, diff-raised m (x +ℤ pos t) add-size .diff, diff-raised m x (omega arith) .diff)
+
+  pub raised-less : raised m (x -ℤ pos t) ≡ raised m x - t
+  raised-less =
+      let d = diff-- (diff-self x) (diff-pos t) .diff in
+      omega (arith, diff-raised m (x -ℤ pos t) less-size .diff, diff-raised m x (omega arith) .diff)
 
 -- 1 shifted left by k
 pub one-shifted : (k : ℕ) → k < 64 → 1 * 2 ^ k % 2 ^ 64 ≡ 2 ^ k

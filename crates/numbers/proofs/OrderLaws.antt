@@ -84,6 +84,11 @@ pub raised-bound : (m : ℕ) (z : ℤ) → natAbs z ≤ m → raised m z ≤ m +
 raised-bound m (pos n) h = omega arith
 raised-bound m (negsuc n) h = omega arith
 
+-- of a number no larger in size than b
+pub raised-within : (m b : ℕ) (z : ℤ) → natAbs z ≤ b → b ≤ m → (m - b ≤ raised m z) × (raised m z ≤ m + b)
+raised-within m b (pos n) h k = (omega arith, omega arith)
+raised-within m b (negsuc n) h k = (omega arith, omega arith)
+
 -- the order of signed numbers, as tests
 pub leZ-refl : (a : ℤ) → leZ a a ≡ true
 leZ-refl (pos a) = le-leb a a (omega arith)
@@ -103,14 +108,8 @@ leZ-total (pos a) (negsuc b) e = refl
 leZ-total (negsuc a) (pos b) e = absurd (let z : _≡_ {A = ℕ} 0 1 = cc in omega arith)
 leZ-total (negsuc a) (negsuc b) e = let h = leb-false b a e in le-leb a b (omega arith)
 
--- two spans overlap exactly where they share a number
+-- two spans that overlap share a number
 module _ (a b c d : ℤ) where
-  pub shared-overlap : (x : ℤ) → between a b x ≡ true → between c d x ≡ true → (leZ a d && leZ c b) ≡ true
-  shared-overlap x e f =
-      both
-      (leZ-trans a x d (and-left (leZ a x) (leZ x b) e) (and-right (leZ c x) (leZ x d) f))
-      (leZ-trans c x b (and-left (leZ c x) (leZ x d) f) (and-right (leZ a x) (leZ x b) e))
-
   shared-pick : (t : Bool) → leZ a c ≡ t → leZ a b ≡ true → leZ c d ≡ true → leZ a d ≡ true → leZ c b ≡ true
       → (x : ℤ) × ((between a b x ≡ true) × (between c d x ≡ true))
   shared-pick true e p q u v = (c, (both e v, both (leZ-refl c) q))

@@ -4,3 +4,4 @@ pub mod Order3
 pub mod First
 pub mod Order
 pub mod Lists
+pub mod Circle

@@ -2,7 +2,7 @@
 use mathlib.Core.Path.{_≡_, refl, sym, _∙_, subst}
 use mathlib.Core.Bool.{Bool, true, false, cond, _&&_, _||_}
 use mathlib.Core.Logic.{_⊎_, inl, inr, ⊎-elim}
-use Prim.Native.Nat.{ℕ, zero, suc, _+_, _-_, _≤_, _<_}
+use Prim.Native.Nat.{ℕ, zero, suc, _+_, _-_, _≤_, _<_, min}
 use native.Mathlib.Omega.{arith}
 use native.Mathlib.Decide.{decLt}
 use lib.Dec.{leb, ltb, eqb}
@@ -248,3 +248,22 @@ module _ (a b : Spot) {x y : ℕ} (p : a ≡ At x y) where
 
   pub earlier-second : {u v : ℕ} → b ≡ At u v → (v < y) ⊎ ((v ≡ y) × (u < x)) → At u v ≡ earlier a b
   earlier-second {u} {v} q o = rw (p, q, no-earlier x y u v o) refl
+
+-- A point found is the earlier one of all farther north: the search can end at its row.
+pub first-up-to : (p : ℕ → ℕ → Bool) (west east south north x y : ℕ)
+    → earlier (firstIn p west east south (min north y)) (At x y) ≡ earlier (firstIn p west east south north) (At x y)
+first-up-to p west east south north x y =
+    ⊎-elim
+    (λ n. rw (first-none p west east south north n, first-none p west east south (min north y) (λ i j a b c d. n i j a b c (omega arith))) refl)
+    (λ f. let r = f .2 in
+    elim (decLt y (f .1)) [
+      | yes lt ↦
+          rw (first-none p west east south (min north y) (λ i j a b c d. r .below i j a b c (omega arith)), first-at p west east south north r, no-earlier (f .0) (f .1) x y (inl lt)) refl
+      | no ge ↦
+          rw (
+            first-at p west east south north r,
+            first-at p west east south (min north y)
+                (record { west≤ = r .west≤; ≤east = r .≤east; south≤ = r .south≤; ≤north = omega (arith, r .≤north); here = r .here; below = r .below; left = r .left }),
+          ) refl
+    ])
+    (is-cases p west east south north)

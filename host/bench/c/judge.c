@@ -53,7 +53,7 @@ int plain_ramp_within(const bulhyemik_ramp *r)
 
 int plain_grid_within(const bulhyemik_grid *g)
 {
-    return within(g->lon, LONGITUDE) && within(g->lat, LATITUDE) && within(g->dlon, 1000000) && g->dlon != 0 &&
+    return within(g->lon, TURN) && within(g->lat, LATITUDE) && within(g->dlon, 1000000) && g->dlon != 0 &&
            within(g->dlat, 1000000) && g->dlat != 0 && between(g->ni, 2, 16384) && between(g->nj, 2, 16384) &&
            between(g->rank, 1, 1000) && between(g->start, 0, NODE_LIST - 1);
 }
@@ -103,13 +103,13 @@ uint64_t plain_sound(const bulhyemik_group *group, plain_sides *sides, uint64_t 
         s->east = lon < g->lon ? g->lon : lon;
         s->south = lat < g->lat ? lat : g->lat;
         s->north = lat < g->lat ? g->lat : lat;
-        if (!within(lon, LONGITUDE) || !within(lat, LATITUDE) || plain_end(g, group->parameters) > NODE_LIST)
+        if (!within(lon, TURN) || !within(lat, LATITUDE) || s->east - s->west > TURN || plain_end(g, group->parameters) > NODE_LIST)
             return refused(4, k + 1, place);
         ranks[k] = g->rank;
     }
     for (k = 1; k < group->grids; k++)
         for (j = 0; j < k; j++)
-            if (ranks[j] == ranks[k] && meet(&sides[j], &sides[k]))
+            if (ranks[j] == ranks[k] && share(&sides[j], &sides[k]))
                 return refused(5, k + 1, place);
     return refused(0, 0, place);
 }

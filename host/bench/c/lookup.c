@@ -85,32 +85,40 @@ static int holds(const plain_sides *s, int64_t lon, int64_t lat)
     return s->west <= lon && lon <= s->east && s->south <= lat && lat <= s->north;
 }
 
-/* For one point: the best grid that holds it, from 0, or -1. */
-static int64_t best_holder(const bulhyemik_group *group, const plain_sides *sides, int64_t lon, int64_t lat)
+/* For one point: the best grid that holds it, from 0, or -1. Leaves the longitude at which the grid has it. */
+static int64_t best_holder(const bulhyemik_group *group, const plain_sides *sides, int64_t *lon, int64_t lat)
 {
-    int64_t chosen = -1, best = INT64_MAX, k;
+    int64_t chosen = -1, best = INT64_MAX, at = *lon, k;
     for (k = 0; k < group->grids; k++) {
-        int64_t rank = group->grid[k].rank;
-        if (rank < best && holds(&sides[k], lon, lat)) {
+        int64_t rank = group->grid[k].rank, used = at;
+        if (at < sides[k].west)
+            used = at + TURN;
+        else if (at > sides[k].east)
+            used = at - TURN;
+        if (rank < best && holds(&sides[k], used, lat)) {
             chosen = k;
             best = rank;
+            *lon = used;
         }
     }
     return chosen;
 }
 
-/* For many points: the same by the grids' order of ranks, and their sides in it. Grids of one rank do not meet, so that the
- * first that holds the point is the best. */
-static int64_t first_holder(const int64_t *order, const plain_sides *ordered, int64_t grids, int64_t lon, int64_t lat)
+/* For many points: the same by the pieces in the order of ranks. Grids of one rank hold no common point, so that the first piece
+ * that holds it is the best grid's. */
+static int64_t first_holder(const plain_lookups *ready, int64_t *lon, int64_t lat)
 {
     int64_t k;
-    for (k = 0; k < grids; k++)
-        if (holds(&ordered[k], lon, lat))
-            return order[k];
+    for (k = 0; k < ready->count; k++)
+        if (holds(&ready->piece[k], *lon, lat)) {
+            *lon += ready->turn[k];
+            return ready->grid[k];
+        }
     return -1;
 }
 
-/* The results in the grid that was chosen for the point, with the day's factor: 0, 7, 8 or 11, beside which the fix is zeros. */
+/* The results in the grid that was chosen for the point, at the grid's longitude, with the day's factor: 0, 7, 8 or 11, beside
+ * which the fix is zeros. */
 static uint64_t found(const bulhyemik_group *group, int64_t chosen, const int32_t *nodes, int64_t lon, int64_t lat,
                       int64_t times, bulhyemik_fix *fix)
 {
@@ -139,7 +147,7 @@ uint64_t plain_lookup(const bulhyemik_group *group, const int32_t *nodes, size_t
 {
     plain_sides sides[BULHYEMIK_MOST_GRIDS];
     uint64_t number = plain_judged(group, sides, place);
-    int64_t few;
+    int64_t few, chosen;
     memset(fix, 0, sizeof *fix);
     if (number != 0)
         return number;
@@ -149,18 +157,22 @@ uint64_t plain_lookup(const bulhyemik_group *group, const int32_t *nodes, size_t
     few = few_nodes(group, nodes_len);
     if (few != 0)
         return refused(13, few, place);
-    return refused(found(group, best_holder(group, sides, lon, lat), nodes, lon, lat, factor(group, day), fix), 0, place);
+    chosen = best_holder(group, sides, &lon, lat);
+    return refused(found(group, chosen, nodes, lon, lat, factor(group, day), fix), 0, place);
 }
 
 uint64_t plain_ready(plain_lookups *ready, const bulhyemik_group *group, const plain_sides *sides,
                      const int32_t *nodes, size_t nodes_len, uint64_t *place)
 {
-    int64_t few = few_nodes(group, nodes_len), k;
+    int64_t order[BULHYEMIK_MOST_GRIDS], few = few_nodes(group, nodes_len), k, from;
     if (few != 0)
         return refused(13, few, place);
-    plain_order_by_rank(group, ready->order);
-    for (k = 0; k < group->grids; k++)
-        ready->ordered[k] = sides[ready->order[k]];
+    plain_order_by_rank(group, order);
+    for (k = 0, from = 0; k < group->grids; k++) {
+        ready->count = from + plain_pieces(&sides[order[k]], ready->piece + from, ready->turn + from);
+        for (; from < ready->count; from++)
+            ready->grid[from] = order[k];
+    }
     ready->group = group;
     ready->nodes = nodes;
     ready->day = 0;
@@ -174,7 +186,7 @@ static inline uint64_t fix_on(const plain_lookups *ready, const bulhyemik_positi
 {
     const bulhyemik_group *group = ready->group;
     uint64_t number = admitted(at->lon, at->lat, at->day);
-    int64_t chosen;
+    int64_t lon = at->lon, chosen;
     if (number != 0) {
         memset(fix, 0, sizeof *fix);
         return number;
@@ -183,8 +195,8 @@ static inline uint64_t fix_on(const plain_lookups *ready, const bulhyemik_positi
         *day = at->day;
         *times = factor(group, at->day);
     }
-    chosen = first_holder(ready->order, ready->ordered, group->grids, at->lon, at->lat);
-    return found(group, chosen, ready->nodes, at->lon, at->lat, *times, fix);
+    chosen = first_holder(ready, &lon, at->lat);
+    return found(group, chosen, ready->nodes, lon, at->lat, *times, fix);
 }
 
 uint64_t plain_fix(plain_lookups *ready, const bulhyemik_position *at, bulhyemik_fix *fix)

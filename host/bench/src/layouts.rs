@@ -1,6 +1,7 @@
 //! Groups of up to 64 grids: layouts that make the grids in force, or a hole, hard to find.
 
-use interface::{Area, Grid, Group, Name, Timed};
+use interface::{Area, Grid, Group, MOST_GRIDS, Name, Timed};
+use plain::{LONGITUDE, TURN};
 
 /// A grid of 3 by 3 nodes: its west and south side, its width and height, both even, in milliarcseconds, and its rank.
 #[derive(Clone, Copy)]
@@ -34,6 +35,39 @@ pub fn bounds(group: &Group) -> Area {
     };
     let grids = &group.grid[..group.grids as usize];
     grids.iter().map(plain::extent).reduce(around).expect("a layout has grids")
+}
+
+/// How far east a group is moved for its middle to lie on the 180° meridian.
+pub fn to_the_meridian(group: &Group) -> i64 {
+    let Area { west, east, .. } = bounds(group);
+    LONGITUDE - (west + east) / 2
+}
+
+/// A group moved so that its middle lies on the meridian, which cuts the grids there in two.
+pub fn across(mut group: Group) -> Group {
+    let by = to_the_meridian(&group);
+    group.grid[..group.grids as usize].iter_mut().for_each(|grid| grid.lon += by);
+    group
+}
+
+/// A group across the meridian with a grid that goes around the earth from its east side to its west side, so that an area of
+/// every longitude has no other holes than the group's bounds have. Of 64 grids it takes the place of the last. It is as short as
+/// spacings allow, and may end a few milliarcseconds within the bounds.
+pub fn closed(mut group: Group) -> Group {
+    if group.grids as usize == MOST_GRIDS {
+        group.grids -= 1;
+    }
+    let mut group = across(group);
+    let Area { west, east, south, north } = bounds(&group);
+    let width = west - 1 - (east + 1 - TURN);
+    let long_enough = |cells: i64| (cells, (width + cells - 1) / cells);
+    let (cells, dlon) =
+        (1_296..16_384).map(long_enough).min_by_key(|(cells, dlon)| cells * dlon).expect("there are some");
+    let rank = group.grids + 1;
+    let (name, lon, dlat) = (Name::new(b"around"), east + 1 - TURN, north - south);
+    group.grid[group.grids as usize] = Grid { name, lon, lat: south, dlon, dlat, ni: cells + 1, nj: 2, rank, start: 0 };
+    group.grids += 1;
+    group
 }
 
 /// The rectangles of these west and south sides, widths and heights, the earlier ones ranking better.

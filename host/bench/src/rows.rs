@@ -6,6 +6,7 @@ use crate::works::{Exercise, Hole, InForceEverywhere, Judge, JudgeLog, Load, Loo
 use crate::{layouts, logs};
 use differ::Random;
 use interface::{Area, Grid, Group, HEADER_BYTES, MOST_RAMPS, Name, Position, Ramp, Timed};
+use plain::{LONGITUDE, TURN};
 
 /// How many points, digits and floats the long works have, and how many lines, digits and tabs the logs.
 #[derive(Clone, Copy)]
@@ -124,12 +125,24 @@ const LAYOUTS: [Layout; 6] = [
     ("bricks from east to west", layouts::bricks),
 ];
 
+/// What a search has found, for grids in force alone.
+const ANNEALED: Layout = ("annealed", layouts::annealed);
+
 /// Layouts for holes alone, in which many rows are to be walked.
 const COVERS: [Layout; 2] =
     [("bricks but for the last coordinate", layouts::corner), ("two stacks of bricks", layouts::stacks)];
 
+/// Layouts whose holes are looked for across the meridian: the squares in squares, which are all cut in two, and the bricks, in
+/// which many rows are to be walked.
+const CLOSED: [Layout; 4] = [LAYOUTS[2], LAYOUTS[5], COVERS[0], COVERS[1]];
+
 fn in_force((name, layout): Layout) -> Row {
     row(&format!("grids in force, {name}"), 20, move || InForceEverywhere::new(layout()))
+}
+
+fn in_force_across((name, layout): Layout) -> Row {
+    let name = format!("grids in force across the meridian, {name}");
+    row(&name, 20, move || InForceEverywhere::new(layouts::across(layout())))
 }
 
 /// The hole of the area that a layout's grids fill.
@@ -141,9 +154,31 @@ fn hole((name, layout): Layout) -> Row {
     })
 }
 
+/// The same across the meridian: of all longitudes, with a grid around the earth where the layout is not.
+fn hole_across((name, layout): Layout) -> Row {
+    row(&format!("hole across the meridian, {name}"), 20, move || {
+        let group = layouts::closed(layout());
+        let area = layouts::bounds(&group);
+        Hole::new(group, Area { west: -LONGITUDE, east: LONGITUDE, ..area })
+    })
+}
+
 /// Points of some waters looked up by one call.
 fn exercise(name: &str, count: i64, waters: Waters, points: fn(Waters, i64) -> Vec<Position>, ramps: bool) -> Row {
     row(name, 5, move || Exercise::new(with_ramps((waters.group)(), ramps), points(waters, count)))
+}
+
+/// The same without ramps, with the middle of the waters on the meridian.
+fn exercise_across(name: &str, count: i64, waters: Waters, points: fn(Waters, i64) -> Vec<Position>) -> Row {
+    row(name, 5, move || {
+        let group = with_ramps((waters.group)(), false);
+        let by = layouts::to_the_meridian(&group);
+        let mut points = points(waters, count);
+        for at in &mut points {
+            at.lon += if at.lon + by > LONGITUDE { by - TURN } else { by };
+        }
+        Exercise::new(layouts::across(group), points)
+    })
 }
 
 /// The log of points of some waters, with 8 ramps.
@@ -187,15 +222,22 @@ pub fn all(sizes: Sizes) -> Vec<Row> {
         exercise("10,000 points at once, a track, 64 grids, 8 ramps", points, NESTED, neighbours, true),
         exercise("10,000 points at once, random, 64 grids", points, NESTED, scattered, false),
         exercise("10,000 points at once, random, 64 grids, 8 ramps", points, NESTED, scattered, true),
+        exercise_across("10,000 points at once across the meridian, a track, 1 grid", points, ONE_GRID, neighbours),
+        exercise_across("10,000 points at once across the meridian, random, 1 grid", points, ONE_GRID, scattered),
+        exercise_across("10,000 points at once across the meridian, a track, 64 grids", points, NESTED, neighbours),
+        exercise_across("10,000 points at once across the meridian, random, 64 grids", points, NESTED, scattered),
         rounding("the rounding alone, 10,000 values", points, value),
         rounding("the rounding alone, 10,000 ramp factors", points, ramp_factor),
         rounding("the rounding alone, 10,000 results", points, result),
     ];
     rows.extend(LAYOUTS.map(in_force));
-    rows.push(in_force(("annealed", layouts::annealed)));
+    rows.push(in_force(ANNEALED));
+    rows.extend(LAYOUTS.map(in_force_across));
+    rows.push(in_force_across(ANNEALED));
     rows.push(row("hole, the whole earth", 20, || Hole::new(layouts::nested(), Area::EARTH)));
     rows.extend(LAYOUTS.map(hole));
     rows.extend(COVERS.map(hole));
+    rows.extend(CLOSED.map(hole_across));
     let Sizes { log_lines, log_digits, log_tabs, .. } = sizes;
     rows.extend([
         log("a log of a million lines, a track, 1 grid", log_lines, ONE_GRID, voyage),
@@ -230,6 +272,7 @@ mod tests {
     use crate::measure::answers;
     use crate::{back_end, layouts};
     use interface::{Answer, Area, Fault, Group, Timed, Uncovered};
+    use plain::LONGITUDE;
     use reference::{Reference, round_each};
 
     const SMALL: Sizes =
@@ -280,22 +323,35 @@ mod tests {
         }
     }
 
+    /// The hole of a group in an area.
+    fn found(group: &Group, area: Area) -> Uncovered {
+        let mut uncovered = Uncovered::default();
+        assert_eq!(Reference.hole(group, area, &mut uncovered, &mut 0), 0);
+        uncovered
+    }
+
     /// Of the layouts for holes all rows are to be walked: the hole is at the end. Four of the others have none.
     #[test]
     fn the_hardest_holes_come_last() {
-        let found = |layout: fn() -> Group| {
-            let group = layout();
-            let area = layouts::bounds(&group);
-            let mut uncovered = Uncovered::default();
-            assert_eq!(Reference.hole(&group, area, &mut uncovered, &mut 0), 0);
-            (uncovered, area)
-        };
+        let within = |group: Group| found(&group, layouts::bounds(&group));
         for covered in [layouts::hidden, layouts::lanes, layouts::nested, layouts::bricks] {
-            assert_eq!(found(covered).0, Uncovered::default());
+            assert_eq!(within(covered()), Uncovered::default());
         }
-        let (corner, Area { east, north, .. }) = found(layouts::corner);
-        assert_eq!(corner, Uncovered { found: 1, lon: east, lat: north });
-        assert_eq!(found(layouts::stacks).0, Uncovered { found: 1, lon: 1_001, lat: 3_151 });
+        let Area { east, north, .. } = layouts::bounds(&layouts::corner());
+        assert_eq!(within(layouts::corner()), Uncovered { found: 1, lon: east, lat: north });
+        assert_eq!(within(layouts::stacks()), Uncovered { found: 1, lon: 1_001, lat: 3_151 });
+    }
+
+    /// Across the meridian too, where of the stacks the last brick is left out.
+    #[test]
+    fn the_hardest_holes_across_the_meridian_come_last() {
+        let within = |layout: fn() -> Group| {
+            let group = layouts::closed(layout());
+            found(&group, Area { west: -LONGITUDE, east: LONGITUDE, ..layouts::bounds(&group) })
+        };
+        assert_eq!([layouts::nested, layouts::bricks].map(within), [Uncovered::default(); 2]);
+        let hole = |lon, lat| Uncovered { found: 1, lon: lon - LONGITUDE, lat };
+        assert_eq!([layouts::corner, layouts::stacks].map(within), [hole(1_550, 3_000), hole(1, 3_051)]);
     }
 
     #[test]
@@ -306,7 +362,7 @@ mod tests {
         };
         assert_eq!(chosen(&[]).len(), rows.len());
         assert_eq!(chosen(&["one lookup"]), ["one lookup, 1 grid", "one lookup, 64 grids"]);
-        assert_eq!(chosen(&["stairs", "judge"]), ["judge of 64 grids", "grids in force, stairs", "hole, stairs"]);
+        assert_eq!(chosen(&["e, stairs", "judge"]), ["judge of 64 grids", "grids in force, stairs", "hole, stairs"]);
         let layouts = chosen(&["grids in force", "force, stairs"]);
         assert!(layouts.len() > 1 && layouts.iter().all(|name| name.starts_with("grids in force")));
         let why = named(&rows, &["stairs", "stares"]).expect_err("no name has it");

@@ -58,9 +58,10 @@ fn shift(k: usize) -> String {
 fn differs(calls: &dyn Calls, model: &Model, line: &[u8]) -> Option<String> {
     let fields = form::fields(line, count(&model.group));
     let [_, lon, lat, day, grid, shifts @ ..] = &fields[..] else { return None };
-    let found = model.look(calls, Position { lon: decimal(lon)?, lat: decimal(lat)?, day: decimal(day)? });
+    let at = Position { lon: decimal(lon)?, lat: decimal(lat)?, day: decimal(day)? };
+    let found = model.look(calls, at);
     if let Err(refusal) = accepted(found.number, found.at) {
-        return Some(format!("the lookup is refused: {}", refusal.words()));
+        return Some(format!("the lookup is refused: {}", refusal.words_at(at)));
     }
     let chosen = model.chosen(&found.fix);
     if *grid != chosen.as_bytes() {

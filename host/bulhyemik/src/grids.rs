@@ -1,6 +1,7 @@
 //! `grids HEADER`: the grids of a header, as a table for people or as records for programs.
 
 use crate::arguments::Arguments;
+use crate::extent::{extent, of_points};
 use crate::formats::Format;
 use crate::group::{self, name, node_range, unit};
 use crate::json::{self, List, Text};
@@ -18,12 +19,6 @@ pub fn grids(calls: &dyn Calls, arguments: &Arguments, out: &mut Output) -> Resu
         Format::Json => object(&group),
         Format::Csv => table(&group).csv(),
     })
-}
-
-/// The least and the greatest of a grid's coordinates along an axis.
-fn extent(first: i64, spacing: i64, count: i64) -> [i64; 2] {
-    let last = first + spacing * (count - 1);
-    [first.min(last), first.max(last)]
 }
 
 const COLUMNS: [Column; 13] = [
@@ -82,7 +77,7 @@ const HEADINGS: [&str; 12] = [
     "last",
 ];
 
-/// Two rows a grid, one for each axis, in columns.
+/// Two rows a grid, one for each axis, in columns; where its longitudes are not those of points, these below them.
 fn for_people(group: &Group) -> String {
     let mut rows = vec![HEADINGS.map(String::from).to_vec()];
     for (number, grid) in group::grids(group) {
@@ -91,26 +86,26 @@ fn for_people(group: &Group) -> String {
         row.extend(axis("longitude", grid.lon, grid.dlon, grid.ni));
         row.extend([range.start.to_string(), (range.end - 1).to_string()]);
         rows.push(row);
-        let mut row = vec![String::new(); 3];
-        row.extend(axis("latitude", grid.lat, grid.dlat, grid.nj));
-        rows.push(row);
+        let written = extent(grid.lon, grid.dlon, grid.ni);
+        let below = |columns: &[String]| [&vec![String::new(); 3], columns].concat();
+        let points = of_points(written);
+        if points != [written] {
+            rows.extend(points.into_iter().map(|run| below(&from_to("points", run))));
+        }
+        rows.push(below(&axis("latitude", grid.lat, grid.dlat, grid.nj)));
     }
     aligned(&rows)
 }
 
-/// The columns of an axis: its name, the extent in milliarcseconds and in degrees, the spacing, the count of nodes.
-fn axis(name: &str, first: i64, spacing: i64, count: i64) -> [String; 7] {
-    let [least, greatest] = extent(first, spacing, count);
+/// The columns of an axis: its extent, the spacing, the count of nodes.
+fn axis(name: &str, first: i64, spacing: i64, count: i64) -> Vec<String> {
+    [&from_to(name, extent(first, spacing, count))[..], &[spacing.to_string(), count.to_string()]].concat()
+}
+
+/// The columns of an extent: what it is of, in milliarcseconds and in degrees.
+fn from_to(name: &str, [least, greatest]: [i64; 2]) -> [String; 5] {
     let degrees = |mas: i64| format!("{:.7}", mas as f64 / 3_600_000.0);
-    [
-        name.into(),
-        least.to_string(),
-        greatest.to_string(),
-        degrees(least),
-        degrees(greatest),
-        spacing.to_string(),
-        count.to_string(),
-    ]
+    [name.into(), least.to_string(), greatest.to_string(), degrees(least), degrees(greatest)]
 }
 
 /// Columns of words to the left: the name of the grid, and the axis.

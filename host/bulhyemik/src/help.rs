@@ -22,7 +22,8 @@ Looks up shifts in groups of grids.
 -h or --help behind a command says more of it; -V or --version prints the
 version. Files that are read can be - for standard input; behind -- a word that
 begins with - is no option. Longitudes and latitudes are whole milliarcseconds:
-1 degree is 3600000.
+1 degree is 3600000. Points and areas have longitudes of at most 180 degrees,
+648000000 in size; a grid can reach beyond.
 
 With --json or --csv grids, lookup, screen, inforce and hole print records for
 programs: JSON, an object on a line, or CSV, a line of headings first. A refusal
@@ -61,7 +62,9 @@ usage: bulhyemik grids [--tsv | --json | --csv] HEADER
 Prints the grids of a header as a table: number, name, rank, and for each axis
 the extent in milliarcseconds and in degrees, the spacing and the count of
 nodes; then the first and the last position of the grid's values in the node
-list, counted from 0.
+list, counted from 0. An extent is shown as the header has it; where a grid
+reaches the 180 degree meridian or beyond, lines `points` below its longitudes
+say which longitudes of points it holds.
 
 With --tsv it is one line a grid, parted by tabs: number, name, rank, west,
 east, south and north in milliarcseconds, DLON, DLAT, NI, NJ, first and last
@@ -94,7 +97,8 @@ usage: bulhyemik lookup [--json | --csv] HEADER NODES LON LAT DAY
 Looks up a point on a day. Prints `fix`, LON, LAT, DAY, the name of the grid
 used and its shifts in steps, parted by tabs; or `refused`, the number of the
 refusal, its place, LON, LAT and DAY. NODES is a file of little-endian 32-bit
-integers. LON and LAT are in milliarcseconds.
+integers. LON and LAT are in milliarcseconds, LON at most 648000000 in size. A
+grid that reaches beyond the 180 degree meridian is used on both sides of it.
 
 Without a point, each line of standard input is one: LON, LAT and DAY parted by
 tabs. Each gets its line as it comes, in the same order. A line that is not of
@@ -143,7 +147,8 @@ usage: bulhyemik inforce [--json | --csv] HEADER WEST EAST SOUTH NORTH
 Lists the grids that are chosen somewhere in an area, sides included, best rank
 first: number, name, and longitude and latitude of the southmost, then westmost
 coordinate at which the grid is chosen, parted by tabs. The sides are in
-milliarcseconds.
+milliarcseconds. An area across the 180 degree meridian needs two calls:
+WEST 648000000 SOUTH NORTH, and -648000000 EAST SOUTH NORTH.
 
 With --json it is one object: count, and grids, a list with an object for each:
 number, name, longitude_mas and latitude_mas. With --csv the lines are parted by
@@ -159,7 +164,8 @@ usage: bulhyemik hole [--json | --csv] HEADER WEST EAST SOUTH NORTH
 
 Says whether an area, sides included, has a coordinate that no grid holds.
 Prints `hole`, and longitude and latitude of the southmost, then westmost such
-coordinate, parted by tabs; or `none`. The sides are in milliarcseconds.
+coordinate, parted by tabs; or `none`. The sides are in milliarcseconds; an area
+across the 180 degree meridian needs two calls, as of inforce.
 Nodes play no part: where a grid has no data, a lookup is still refused by 8.
 
 With --json it is one object: hole (an object of longitude_mas and latitude_mas,

@@ -1,8 +1,9 @@
-//! What can be seen on the line of a header that the library refused by 1 or 2. Number and place are the library's.
+//! What can be seen in a header that the library refused by 1, 2, 4 or 5. Number and place are the library's.
 
 use crate::form::{self, Wanted, byte_order_mark, unclosed};
 use crate::kinds::{GRID, GROUP, Kind, RAMP};
 use crate::number::decimal;
+use crate::reach::Reach;
 use crate::stop::Refusal;
 
 /// What is to be seen at the place of a refusal, in words.
@@ -12,6 +13,11 @@ pub fn hint(text: &[u8], refusal: &Refusal) -> Option<String> {
     match refusal.number {
         1 => text.form(place),
         2 => text.limit(place),
+        4 => text.grid(place)?.too_far(),
+        5 => {
+            let later = text.grid(place)?;
+            (1..place).find_map(|k| later.clash(&text.grid(k)?))
+        }
         _ => None,
     }
 }
@@ -79,6 +85,16 @@ impl<'a> Text<'a> {
         let fields = fields(self.line(place).ok()?);
         Some(format!("line {place}: {}", self.kind(place)?.beyond(&fields[1..])?))
     }
+
+    /// The grid of a number from 1, if its numbers and those of the group line are within their limits.
+    fn grid(&self, number: usize) -> Option<Reach> {
+        let group = GROUP.within(&fields(self.line(1).ok()?)[1..])?;
+        let [_, parameters, ramps, grids] = group.try_into().ok()?;
+        let number = i64::try_from(number).ok().filter(|number| (1..=grids).contains(number))?;
+        let fields = fields(self.line((1 + ramps + number) as usize).ok()?);
+        let numbers = GRID.within(&fields[1..])?.try_into().ok()?;
+        Some(Reach::new(number, fields[1], numbers, parameters))
+    }
 }
 
 #[cfg(test)]
@@ -93,7 +109,7 @@ mod tests {
             for byte in [b'\t', b'\n', b'\r', b'9', 0, 0xff] {
                 let mut text = whole.to_vec();
                 text[k] = byte;
-                for number in 0..4 {
+                for number in 0..6 {
                     for place in (0..6).chain([u64::MAX]) {
                         assert!(hint(&text, &Refusal { number, place }).is_none_or(plain));
                         assert!(hint(&text[..k], &Refusal { number, place }).is_none_or(plain));
@@ -106,7 +122,7 @@ mod tests {
     #[test]
     fn nothing_is_said_where_nothing_is_seen() {
         let sound = b"group\tdock\tmetre\t13\t1\t0\t1\ngrid\tbasin\t0\t0\t10\t10\t3\t2\t1\t0\n";
-        for (number, place) in [(1, 1), (1, 2), (2, 1), (2, 2), (3, 1), (5, 1)] {
+        for (number, place) in [(1, 1), (1, 2), (2, 1), (2, 2), (3, 1), (4, 1), (4, 2), (5, 1)] {
             assert_eq!(hint(sound, &Refusal { number, place }), None);
         }
     }

@@ -5,7 +5,7 @@ use crate::arguments::Arguments;
 use crate::formats::Format;
 use crate::json;
 use crate::output::Output;
-use crate::stop::{Stop, accepted};
+use crate::stop::Stop;
 use crate::table::{Cell, LATITUDE, LONGITUDE, Table};
 use interface::{Calls, Uncovered};
 
@@ -13,7 +13,7 @@ pub fn hole(calls: &dyn Calls, arguments: &Arguments, out: &mut Output) -> Resul
     let (group, area) = area::read(calls, arguments)?;
     let (mut uncovered, mut place) = (Uncovered::default(), 0);
     let number = calls.hole(&group, area, &mut uncovered, &mut place);
-    accepted(number, place)?;
+    area::accepted(&area, number, place)?;
     let table = table(&uncovered);
     out.put(match out.format {
         Format::Text if table.rows.is_empty() => "none\n".into(),

@@ -6,7 +6,7 @@ use crate::formats::Format;
 use crate::group::name;
 use crate::json::{self, List};
 use crate::output::Output;
-use crate::stop::{Stop, accepted};
+use crate::stop::Stop;
 use crate::table::{Cell, Column, LATITUDE, LONGITUDE, Table};
 use interface::{Calls, Entry, Group, InForce};
 
@@ -14,7 +14,7 @@ pub fn inforce(calls: &dyn Calls, arguments: &Arguments, out: &mut Output) -> Re
     let (group, area) = area::read(calls, arguments)?;
     let (mut list, mut place) = (InForce::default(), 0);
     let number = calls.grids_in_force(&group, area, &mut list, &mut place);
-    accepted(number, place)?;
+    area::accepted(&area, number, place)?;
     let table = table(&group, &list);
     out.put(match out.format {
         Format::Text => table.lines('\t'),

@@ -73,6 +73,13 @@ impl Kind {
         })
     }
 
+    /// The numbers behind the keyword, if each is within its limit.
+    pub fn within(&self, fields: &[&[u8]]) -> Option<Vec<i64>> {
+        let (_, numbers) = fields.split_at_checked(self.texts.len())?;
+        let number = |(number, field): (&Number, &&[u8])| decimal(field).filter(|_| number.beyond(field).is_none());
+        self.numbers.iter().zip(numbers).map(number).collect()
+    }
+
     /// The first number behind the keyword that is outside its limit, or a ramp's A above its B.
     pub fn beyond(&self, fields: &[&[u8]]) -> Option<String> {
         let (_, numbers) = fields.split_at_checked(self.texts.len())?;

@@ -3,6 +3,7 @@
 mod area;
 mod arguments;
 mod check;
+mod extent;
 mod fault;
 mod files;
 mod form;
@@ -25,6 +26,7 @@ mod output;
 mod parted;
 mod points;
 mod printed;
+mod reach;
 mod screen;
 mod shown;
 mod signals;

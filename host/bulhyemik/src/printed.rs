@@ -36,7 +36,7 @@ impl Printed {
         let (Position { lon, lat, day }, Refusal { number, place }) = (at, refusal);
         match format {
             Format::Text => format!("{}\t{lon}\t{lat}\t{day}\n", refusal.line()),
-            Format::Json => json::line(&[&members(&at), &refusal.members(&Text(&refusal.words()))]),
+            Format::Json => json::line(&[&members(&at), &refusal.members(&Text(&refusal.words_at(at)))]),
             Format::Csv => {
                 let empty = ",".repeat(self.headings.len() + group.parameters as usize);
                 format!("{lon},{lat},{day},{number},{place}{empty}\n")
@@ -54,7 +54,7 @@ impl Printed {
         which: &str,
     ) -> Result<(), Stop> {
         out.put(self.refused(out.format, &model.group, at, refusal))?;
-        out.say(&format!("bulhyemik: {which}refused: {}\n", refusal.words()))
+        out.say(&format!("bulhyemik: {which}refused: {}\n", refusal.words_at(at)))
     }
 }
 

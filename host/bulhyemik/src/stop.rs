@@ -1,7 +1,9 @@
 //! Why a command stops short: a refusal of the library, a log that does not pass, wrong usage, or a file that can't be used.
 
+use crate::extent::turned;
 use crate::formats::Format;
 use crate::json::{self, Member, Text};
+use interface::Position;
 
 /// A refusal of the library, by its number and place.
 #[derive(Clone, Copy)]
@@ -30,6 +32,16 @@ impl Refusal {
         }
     }
 
+    /// The refusal of a point in words. For a longitude that it can't have, the one that it can is named.
+    pub fn words_at(&self, at: Position) -> String {
+        match turned(at.lon) {
+            Some(lon) if self.number == 6 && lon != at.lon => {
+                format!("{}; for longitude {} write {lon}", self.words(), at.lon)
+            }
+            _ => self.words(),
+        }
+    }
+
     /// The refusal in words.
     pub fn words(&self) -> String {
         let place = self.place;
@@ -38,9 +50,11 @@ impl Refusal {
             (2, 0) => "Q is outside 0 to 20".into(),
             (2, _) => format!("line {place} has a number outside its limit, or a ramp's A above its B"),
             (3, _) => format!("grid {place} has the name of an earlier grid"),
-            (4, _) => format!("grid {place} reaches beyond the longitude or latitude limits, or beyond 16777216 nodes"),
-            (5, _) => format!("grid {place} shares a coordinate and its rank with an earlier grid"),
-            (6, _) => "the point is outside longitude ±1296000000 or latitude ±324000000".into(),
+            (4, _) => {
+                format!("grid {place} reaches beyond its limits, is wider than a whole turn, or has too many nodes")
+            }
+            (5, _) => format!("grid {place} holds a point that an earlier grid of its rank holds too"),
+            (6, _) => "the point is outside longitude ±648000000 or latitude ±324000000".into(),
             (7, _) => "no grid holds the point".into(),
             (8, _) => "a node that the point needs is the no-data mark".into(),
             (9, _) => "the day is outside ±1000000".into(),
@@ -75,11 +89,13 @@ pub enum Stop {
 }
 
 impl Stop {
-    /// 1 for a refusal or a log that does not pass, 2 for wrong usage or a file.
+    /// 1 for a refusal or a log that does not pass, 2 for wrong usage or a file; where nobody reads any more, what shells tell of
+    /// tools that SIGPIPE ends.
     pub fn status(&self) -> u8 {
         match self {
             Stop::Refused { .. } | Stop::Failed { .. } | Stop::PointsRefused => 1,
-            Stop::Usage(_) | Stop::File(_) | Stop::Gone => 2,
+            Stop::Usage(_) | Stop::File(_) => 2,
+            Stop::Gone => 141,
         }
     }
 

@@ -1,12 +1,15 @@
 //! Groups whose grids cover an area, or all of it but a little.
 
-use crate::groups::{Axis, LATITUDE, LONGITUDE, of_grids};
+use crate::groups::{A_TURN, Axis, LATITUDE, LONGITUDE, ONE_LESS, TURN, TWO_LESS, around, of_grids, turned};
 use crate::random::Random;
 use interface::{Area, Group};
 
 /// A sound group and an area that its grids cover together, in one of four cases whole, in the others mostly but for its last
 /// coordinate, another one or a slit; of some areas a side stands a milliarcsecond further in or out.
 pub fn cover(random: &mut Random) -> (Group, Area) {
+    if random.percent(8) {
+        return belt(random);
+    }
     let mut area = somewhere(random);
     let mut pieces = vec![area];
     for _ in 0..random.pick(&[0, 1, 2, 3, 5, 8, 30]) {
@@ -25,8 +28,8 @@ pub fn cover(random: &mut Random) -> (Group, Area) {
         pieces.swap(k, random.below(k + 1));
     }
     let axes = |random: &mut Random, k: usize| {
-        let Area { west, east, south, north } = pieces[k];
-        [axis(random, west, east), axis(random, south, north)]
+        let (west, east) = elsewhere(random, &pieces[k]);
+        [axis(random, west, east), axis(random, pieces[k].south, pieces[k].north)]
     };
     let group = of_grids(random, pieces.len(), axes);
     if random.percent(25) {
@@ -39,6 +42,35 @@ pub fn cover(random: &mut Random) -> (Group, Area) {
         }
     }
     (group, area)
+}
+
+/// An area once around the earth, and a group of two grids, one above the other, that cover it, now and then but for one
+/// longitude or a row.
+fn belt(random: &mut Random) -> (Group, Area) {
+    let Area { south, north, .. } = somewhere(random);
+    let middle = random.between(south + 1, north - 3);
+    let begin = middle + random.pick(&[0, 1, 1, 1, 2]);
+    let group = of_grids(random, 2, |random, k| {
+        let (spacing, count) = random.pick(&[A_TURN, ONE_LESS, TWO_LESS]);
+        let (south, north) = if k == 0 { (south, middle) } else { (begin, north) };
+        [around(random, spacing, count), axis(random, south, north)]
+    });
+    (group, Area { west: -LONGITUDE, east: LONGITUDE, south, north })
+}
+
+/// The longitudes of a piece, at times turned, and at times on beyond the meridian where the piece ends there.
+fn elsewhere(random: &mut Random, piece: &Area) -> (i64, i64) {
+    let (mut west, mut east) = (piece.west, piece.east);
+    if random.percent(50) && east - west < 900_000 {
+        west -= if west == -LONGITUDE { random.between(0, 9) } else { 0 };
+        east += if east == LONGITUDE { random.between(0, 9) } else { 0 };
+    }
+    let from = turned(random, west, TURN);
+    if random.percent(50) && (-TURN..=TURN).contains(&(from + east - west)) {
+        (from, from + east - west)
+    } else {
+        (west, east)
+    }
 }
 
 /// An area of five coordinates or more along each axis, in the middle or at an end of the world.

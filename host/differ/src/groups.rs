@@ -3,7 +3,9 @@
 use crate::random::Random;
 use interface::{Grid, Group, Name, Ramp};
 
-pub const LONGITUDE: i64 = 1_296_000_000;
+/// Once around the earth: a grid's own longitude and far edge go so far either way, points and areas half of it.
+pub const TURN: i64 = 1_296_000_000;
+pub const LONGITUDE: i64 = 648_000_000;
 pub const LATITUDE: i64 = 324_000_000;
 const NODE_LIST: i64 = 16_777_216;
 
@@ -21,12 +23,14 @@ struct World {
 
 fn world(random: &mut Random) -> World {
     let small = World { lon: 0, lat: 0, spacing: 6, count: 6 };
-    match random.below(10) {
-        0 => World { lon: -LONGITUDE, ..small },
-        1 => World { lon: LONGITUDE, lat: LATITUDE, ..small },
+    match random.below(15) {
+        0 => World { lon: -TURN, ..small },
+        1 => World { lon: TURN, lat: LATITUDE, ..small },
         2 => World { lat: -LATITUDE, ..small },
         3 => World { spacing: 1_000_000, count: 12, ..small },
         4 => World { count: 60, spacing: 50_000, ..small },
+        5..9 => World { lon: LONGITUDE, ..small },
+        9 => World { lon: LONGITUDE, spacing: 1_000_000, count: 12, ..small },
         _ => small,
     }
 }
@@ -41,11 +45,41 @@ fn share(a: (i64, i64), b: (i64, i64)) -> bool {
     a.0.max(b.0) <= a.1.min(b.1)
 }
 
-/// Whether two grids share a coordinate.
+/// Whether two grids hold a common point.
 fn overlap(a: &Grid, b: &Grid) -> bool {
-    share(reach(a.lon, a.dlon, a.ni), reach(b.lon, b.dlon, b.ni))
+    let (west, east) = reach(b.lon, b.dlon, b.ni);
+    let turned = |turns: i64| (west + turns * TURN, east + turns * TURN);
+    (-2..=2).any(|turns| share(reach(a.lon, a.dlon, a.ni), turned(turns)))
         && share(reach(a.lat, a.dlat, a.nj), reach(b.lat, b.dlat, b.nj))
 }
+
+/// A longitude within ±limit that is this one or whole turns from it, or this one if there is none.
+pub fn turned(random: &mut Random, lon: i64, limit: i64) -> i64 {
+    let all = (-2..=2).map(|turns| lon.saturating_add(turns * TURN));
+    let within: Vec<i64> = all.filter(|other| (-limit..=limit).contains(other)).collect();
+    if within.is_empty() { lon } else { random.pick(&within) }
+}
+
+/// A longitude, in some cases turned, that a grid can have.
+fn turned_at_times(random: &mut Random, lon: i64) -> i64 {
+    if random.percent(35) { turned(random, lon, TURN) } else { lon }
+}
+
+/// An axis of longitudes of this spacing and count that begins or ends at or beside the meridian, or anywhere.
+pub fn around(random: &mut Random, spacing: i64, count: i64) -> Axis {
+    let width = (count - 1) * spacing;
+    let beside = random.pick(&[-1, 0, 0, 0, 1]);
+    let wests = [-LONGITUDE + beside, LONGITUDE - width + beside, random.between(-TURN, TURN - width)];
+    let west = random.pick(&wests).clamp(-TURN, TURN - width);
+    if random.percent(50) { (west, spacing, count) } else { (west + width, -spacing, count) }
+}
+
+/// Spacing and count of grids that are just a turn wide, a milliarcsecond or two less, a milliarcsecond more, and two turns wide.
+pub const A_TURN: (i64, i64) = (1_000_000, 1_297);
+pub const ONE_LESS: (i64, i64) = (251_993, 5_144);
+pub const TWO_LESS: (i64, i64) = (556_462, 2_330);
+const ONE_MORE: (i64, i64) = (952_241, 1_362);
+const TWO_TURNS: (i64, i64) = (1_000_000, 2_593);
 
 /// An axis inside ±limit.
 fn axis(random: &mut Random, centre: i64, limit: i64, world: World) -> Axis {
@@ -105,8 +139,15 @@ fn ramp(random: &mut Random) -> Ramp {
 pub fn sound(random: &mut Random) -> Group {
     let world = world(random);
     let grids = random.pick(&[1, 1, 2, 2, 3, 3, 4, 5, 6, 8, 16, 64]);
+    let wide = if random.percent(16) { 60 } else { 0 };
     of_grids(random, grids, |random, _| {
-        [axis(random, world.lon, LONGITUDE, world), axis(random, world.lat, LATITUDE, world)]
+        if random.percent(wide) {
+            let (spacing, count) = A_TURN;
+            let low = World { count: 2, ..world };
+            return [around(random, spacing, count), axis(random, world.lat, LATITUDE, low)];
+        }
+        let centre = turned_at_times(random, world.lon);
+        [axis(random, centre, TURN, world), axis(random, world.lat, LATITUDE, world)]
     })
 }
 
@@ -197,7 +238,7 @@ fn push_out(random: &mut Random, grid: &mut Grid, parameters: i64) {
     match random.below(3) {
         0 => {
             let width = across(grid.dlon, grid.ni);
-            grid.lon = (LONGITUDE + beyond - width.abs()) * width.signum();
+            grid.lon = (TURN + beyond - width.abs()) * width.signum();
         }
         1 => {
             let height = across(grid.dlat, grid.nj);
@@ -207,14 +248,28 @@ fn push_out(random: &mut Random, grid: &mut Grid, parameters: i64) {
     }
 }
 
-/// Gives grid k the rank of grid j and moves it over the east edge of j, onto it or just past it.
+/// Makes a grid a turn wide, a milliarcsecond less or more, or two turns.
+fn widen(random: &mut Random, grid: &mut Grid) {
+    let (spacing, count) = random.pick(&[A_TURN, ONE_LESS, ONE_MORE, ONE_MORE, TWO_TURNS]);
+    (grid.lon, grid.dlon, grid.ni) = around(random, spacing, count);
+    grid.nj = grid.nj.min(2);
+}
+
+/// Gives grid k the rank of grid j and moves it over the east edge of j, onto it or just past it, or to where it is so by turns.
+/// Now and then that edge is first moved to where the longitudes of points or of grids end.
 fn clash(random: &mut Random, record: &mut Group, j: usize, k: usize) {
     let Grid { lon, dlon, ni, lat, rank, .. } = record.grid[j];
-    let (_, east) = reach(lon, dlon, ni);
+    let (_, mut east) = reach(lon, dlon, ni);
+    if random.percent(25) {
+        let end = random.pick(&[LONGITUDE, TURN]);
+        record.grid[j].lon = lon.saturating_add(end.saturating_sub(east));
+        east = end;
+    }
     let grid = &mut record.grid[k];
     grid.rank = rank;
     grid.lat = lat;
-    grid.lon = east.saturating_add(random.between(-1, 1));
+    let beside = east.saturating_add(random.between(-1, 1));
+    grid.lon = turned_at_times(random, beside);
     grid.dlon = grid.dlon.saturating_abs();
 }
 
@@ -222,7 +277,7 @@ fn clash(random: &mut Random, record: &mut Group, j: usize, k: usize) {
 pub fn damage(random: &mut Random, record: &mut Group) {
     let (ramps, grids) = counts(record);
     let (k, later) = (random.below(grids), random.below(grids));
-    match random.below(20) {
+    match random.below(22) {
         0 | 1 => break_head(random, record),
         2 => break_name(random, &mut record.name),
         3 if ramps > 0 => break_ramp(random, &mut record.ramp[k % ramps]),
@@ -236,6 +291,7 @@ pub fn damage(random: &mut Random, record: &mut Group) {
         9 => break_name(random, &mut record.grid[k].name),
         10..=12 => record.grid[later].name = record.grid[k].name,
         13..=15 => push_out(random, &mut record.grid[k], record.parameters),
+        16 => widen(random, &mut record.grid[k]),
         _ => clash(random, record, k.min(later), k.max(later)),
     }
 }

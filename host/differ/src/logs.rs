@@ -1,5 +1,6 @@
 //! Logs of a group's lookups: lines that pass, and damage to them, so that every kind of fault comes up.
 
+use crate::groups::TURN;
 use crate::places::{position, positions};
 use crate::random::Random;
 use crate::texts;
@@ -154,18 +155,19 @@ fn damage_form(random: &mut Random, field: &mut Vec<u8>) {
     }
 }
 
-/// Another number: beside it, one that a narrower word would take for it, or one of many digits.
+/// Another number: beside it, a turn from it, one that a narrower word would take for it, or one of many digits.
 fn damage_number(random: &mut Random, field: Option<&mut Vec<u8>>) {
     let Some(field) = field else { return };
     let digits = random.pick(&[1, 9, 10, 18, 19, 20, 40, 300]);
     let Ok(number) = str::from_utf8(field).unwrap_or_default().parse::<i128>() else { return };
-    let other = match random.below(7) {
+    let other = match random.below(8) {
         0 => number + 1,
         1 => number - 1,
         2 => -number,
         3 => number + (1 << random.pick(&[8, 16, 31, 32, 63, 64])),
         4 => number - (1 << random.pick(&[32, 64])),
         5 => random.odd().into(),
+        6 => number + random.pick(&[-1, 1]) * i128::from(TURN),
         _ => return field.extend([random.pick(b"0159")].repeat(digits)),
     };
     *field = other.to_string().into_bytes();

@@ -1,5 +1,6 @@
 //! Random positions, areas and node lists for a group.
 
+use crate::groups::{LONGITUDE, TURN, turned};
 use crate::random::Random;
 use interface::{Area, Grid, Group, Position};
 
@@ -16,28 +17,40 @@ fn along(random: &mut Random, from: i64, spacing: i64, count: i64) -> i64 {
         1 => 0,
         _ => random.between(0, count - 1),
     };
-    let beside = match random.below(5) {
-        0 => 0,
-        1 => random.between(-1, 1),
-        2 => spacing / 2,
+    let beside = match random.below(6) {
+        0 | 1 => 0,
+        2 => random.between(-1, 1),
+        3 => spacing / 2,
         _ => random.between(0, spacing.abs()) * spacing.signum(),
     };
     from.saturating_add(node * spacing).saturating_add(if node == count - 1 { -beside } else { beside })
 }
 
+/// A longitude on or beside a grid, turned so that a point can have it.
+fn longitude(random: &mut Random, grid: &Grid) -> i64 {
+    let lon = along(random, grid.lon, grid.dlon, grid.ni);
+    turned(random, lon, LONGITUDE)
+}
+
 /// The position of a lookup.
 pub fn position(random: &mut Random, record: &Group) -> Position {
     let grid = some_grid(random, record);
-    let mut lon = along(random, grid.lon, grid.dlon, grid.ni);
+    let mut lon = longitude(random, &grid);
     let mut lat = along(random, grid.lat, grid.dlat, grid.nj);
     match random.below(40) {
         0 => lon = random.odd(),
         1 => lat = random.odd(),
-        2 => lon = random.pick(&[-1_296_000_001, -1_296_000_000, 1_296_000_000, 1_296_000_001]),
-        3 => lat = random.pick(&[-324_000_001, -324_000_000, 324_000_000, 324_000_001]),
+        2 => lat = random.pick(&[-324_000_001, -324_000_000, 324_000_000, 324_000_001]),
+        3 => lon = lon.saturating_add(random.pick(&[-TURN, TURN])),
+        4..7 => lon = at_the_meridian(random),
         _ => {}
     }
     Position { lon, lat, day: day(random, record) }
+}
+
+/// The last longitude on either side of the meridian, or one beyond it.
+fn at_the_meridian(random: &mut Random) -> i64 {
+    random.pick(&[-LONGITUDE - 1, -LONGITUDE, -LONGITUDE, LONGITUDE, LONGITUDE, LONGITUDE + 1])
 }
 
 /// The points of an exercise, none, one or many: each on its own day, on days that come back, or all on the first one's.
@@ -71,13 +84,16 @@ pub fn area(random: &mut Random, record: &Group) -> Area {
         return Area::EARTH;
     }
     let (one, other) = (some_grid(random, record), some_grid(random, record));
-    let (x1, x2) = (along(random, one.lon, one.dlon, one.ni), along(random, other.lon, other.dlon, other.ni));
+    let (x1, x2) = (longitude(random, &one), longitude(random, &other));
     let (y1, y2) = (along(random, one.lat, one.dlat, one.nj), along(random, other.lat, other.dlat, other.nj));
     let mut sides = [x1.min(x2), x1.max(x2), y1.min(y2), y1.max(y2)];
-    match random.below(12) {
+    match random.below(14) {
         0 => sides.swap(0, 1),
         1 => sides.swap(2, 3),
         2 => sides[random.below(4)] = random.odd(),
+        3 => sides[random.below(2)] = at_the_meridian(random),
+        4 => sides[1] = sides[1].saturating_add(TURN),
+        5 => (sides[0], sides[1]) = (-LONGITUDE, LONGITUDE),
         _ => {}
     }
     let [west, east, south, north] = sides;

@@ -45,7 +45,7 @@ impl Random {
 
     /// A number that breaks, meets or just misses some limit of document 01.
     pub fn odd(&mut self) -> i64 {
-        const LIMITS: [i64; 16] = [
+        const LIMITS: [i64; 17] = [
             0,
             1,
             3,
@@ -59,6 +59,7 @@ impl Random {
             10_000_000,
             16_777_215,
             324_000_000,
+            648_000_000,
             1_296_000_000,
             1 << 32,
             1 << 62,

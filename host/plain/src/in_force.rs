@@ -1,6 +1,6 @@
 //! Grids in force: for each grid the first of its coordinates in the area that no better grid holds.
 
-use crate::group::meet;
+use crate::group::{meet, pieces};
 use crate::judge::judge_area;
 use interface::{Area, Entry, Group, Refusal};
 
@@ -14,13 +14,16 @@ fn part(rectangle: &Area, area: &Area) -> Option<Area> {
     })
 }
 
-/// The southmost, then westmost coordinate of a rectangle that no blocker holds; the blockers rise by west side.
-fn first_free(rectangle: &Area, blockers: &[Area]) -> Option<(i64, i64)> {
+/// The southmost, then westmost coordinate of a grid's pieces that no blocker holds; the blockers rise by west side.
+fn first_free(pieces: &[Area], blockers: &[Area]) -> Option<(i64, i64)> {
+    let &Area { south, north, .. } = pieces.first()?;
     let mut rows: Vec<i64> = blockers.iter().map(|b| b.north + 1).collect();
-    rows.push(rectangle.south);
+    rows.push(south);
     rows.sort_unstable();
-    let rows = rows.into_iter().filter(|&y| rectangle.south <= y && y <= rectangle.north);
-    rows.map(|lat| (first_free_in_row(rectangle.west, lat, blockers), lat)).find(|&(lon, _)| lon <= rectangle.east)
+    rows.into_iter().filter(|&lat| south <= lat && lat <= north).find_map(|lat| {
+        let free = pieces.iter().map(|piece| (first_free_in_row(piece.west, lat, blockers), piece.east));
+        free.filter(|(lon, east)| lon <= east).map(|(lon, _)| (lon, lat)).min()
+    })
 }
 
 /// The westmost longitude of a row, from `lon` on, that no blocker holds.
@@ -47,11 +50,10 @@ pub fn in_force(group: &Group, area: Area) -> Result<Vec<Entry>, Refusal> {
     for same_rank in order.chunk_by(|a, b| a.0 == b.0) {
         let mut seen = Vec::new();
         for &(_, k) in same_rank {
-            if let Some(rectangle) = part(&extents[k], &area) {
-                if let Some((lon, lat)) = first_free(&rectangle, &better) {
-                    list.push(Entry { grid: k as i64 + 1, lon, lat });
-                }
-                seen.push(rectangle);
+            let earlier = seen.len();
+            seen.extend(pieces(&extents[k]).filter_map(|(piece, _)| part(&piece, &area)));
+            if let Some((lon, lat)) = first_free(&seen[earlier..], &better) {
+                list.push(Entry { grid: k as i64 + 1, lon, lat });
             }
         }
         better.extend(seen);

@@ -1,9 +1,8 @@
 //! The judge: limits and refusals 2 to 5, and 10 of an area.
 
-use crate::group::{end, extent, meet};
+use crate::group::{LONGITUDE, TURN, end, extent, share};
 use interface::{Area, Grid, Group, MOST_GRIDS, NAME_BYTES, Name, Ramp, Refusal};
 
-pub const LONGITUDE: i64 = 1_296_000_000;
 pub const LATITUDE: i64 = 324_000_000;
 const NODE_LIST: i64 = 16_777_216;
 
@@ -44,7 +43,7 @@ pub fn ramp_within(&Ramp { a, s0, b, s1 }: &Ramp) -> bool {
 }
 
 pub fn grid_within(grid: &Grid) -> bool {
-    within(grid.lon, LONGITUDE)
+    within(grid.lon, TURN)
         && within(grid.lat, LATITUDE)
         && within(grid.dlon, 1_000_000)
         && grid.dlon != 0
@@ -87,14 +86,14 @@ pub fn sound(group: &Group) -> Result<[Area; MOST_GRIDS], Refusal> {
     let mut ranks = [0; MOST_GRIDS];
     for (k, grid) in grids.iter().enumerate() {
         let e = extent(grid);
-        let inside = -LONGITUDE <= e.west && e.east <= LONGITUDE && -LATITUDE <= e.south && e.north <= LATITUDE;
-        if !inside || end(grid, group.parameters) > NODE_LIST {
+        let inside = -TURN <= e.west && e.east <= TURN && -LATITUDE <= e.south && e.north <= LATITUDE;
+        if !inside || e.east - e.west > TURN || end(grid, group.parameters) > NODE_LIST {
             return Err(refusal(4, k + 1));
         }
         (all[k], ranks[k]) = (e, grid.rank);
     }
     for k in 1..grids.len() {
-        if (0..k).any(|j| ranks[j] == ranks[k] && meet(&all[j], &all[k])) {
+        if (0..k).any(|j| ranks[j] == ranks[k] && share(&all[j], &all[k])) {
             return Err(refusal(5, k + 1));
         }
     }

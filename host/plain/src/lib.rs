@@ -13,5 +13,5 @@ mod round;
 mod write;
 
 pub use back_end::Plain;
-pub use group::{end, extent};
+pub use group::{LONGITUDE, TURN, end, extent};
 pub use round::{nearest, round_each};

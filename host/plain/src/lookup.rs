@@ -1,7 +1,7 @@
 //! The lookup of a point on a day, and lookups in a group that is judged once.
 
-use crate::group::{end, holds};
-use crate::judge::{LATITUDE, LONGITUDE, judge, refusal, within};
+use crate::group::{LONGITUDE, end, holds, longitude_used, pieces};
+use crate::judge::{LATITUDE, judge, refusal, within};
 use crate::round::nearest;
 use interface::{Answer, Area, Fix, Group, MARK, MOST_GRIDS, Position, Ramp, Refusal};
 
@@ -47,22 +47,9 @@ fn long_enough(group: &Group, nodes: &[i32]) -> Result<(), Refusal> {
     }
 }
 
-/// The chosen grid's number and three results, of an admitted position, with the day's factor.
-fn fix(
-    group: &Group,
-    extents: &[Area; MOST_GRIDS],
-    nodes: &[i32],
-    &Position { lon, lat, .. }: &Position,
-    factor: i64,
-) -> Result<Fix, Refusal> {
+/// The number of grid k and three results, of a point that it has at this longitude, with the day's factor.
+fn fix(group: &Group, k: usize, nodes: &[i32], lon: i64, lat: i64, factor: i64) -> Result<Fix, Refusal> {
     let parameters = group.parameters;
-    let (mut chosen, mut best) = (None, i64::MAX);
-    for (k, grid) in group.grid[..group.grids as usize].iter().enumerate() {
-        if grid.rank < best && holds(&extents[k], lon, lat) {
-            (chosen, best) = (Some(k), grid.rank);
-        }
-    }
-    let k = chosen.ok_or(refusal(7, 0))?;
     let grid = &group.grid[k];
     let (i, fx) = cell(grid.lon, grid.dlon, grid.ni, lon);
     let (j, fy) = cell(grid.lat, grid.dlat, grid.nj, lat);
@@ -96,13 +83,30 @@ pub fn lookup(group: &Group, nodes: &[i32], at: Position) -> Result<Fix, Refusal
     let extents = judge(group)?;
     admitted(&at)?;
     long_enough(group, nodes)?;
-    fix(group, &extents, nodes, &at, factor(group, at.day))
+    let (mut chosen, mut best) = (None, i64::MAX);
+    for (k, grid) in group.grid[..group.grids as usize].iter().enumerate() {
+        let used = longitude_used(&extents[k], at.lon);
+        if grid.rank < best && holds(&extents[k], used, at.lat) {
+            (chosen, best) = (Some((k, used)), grid.rank);
+        }
+    }
+    let (k, used) = chosen.ok_or(refusal(7, 0))?;
+    fix(group, k, nodes, used, at.lat, factor(group, at.day))
 }
 
-/// Lookups in a judged group with nodes for all of its grids; the factor is worked out anew only where the day changes.
+/// A piece of a grid: the grid from 0, its rank, and the turn from the piece to the grid.
+struct Piece {
+    area: Area,
+    grid: usize,
+    rank: i64,
+    turn: i64,
+}
+
+/// Lookups in a judged group with nodes for all of its grids: its grids are cut once, and the factor is worked out anew only
+/// where the day changes.
 pub struct Lookups<'a> {
     group: &'a Group,
-    extents: &'a [Area; MOST_GRIDS],
+    pieces: Vec<Piece>,
     nodes: &'a [i32],
     day: i64,
     times: i64,
@@ -110,9 +114,13 @@ pub struct Lookups<'a> {
 
 impl<'a> Lookups<'a> {
     /// Refusal 13.
-    pub fn new(group: &'a Group, extents: &'a [Area; MOST_GRIDS], nodes: &'a [i32]) -> Result<Lookups<'a>, Refusal> {
+    pub fn new(group: &'a Group, extents: &[Area; MOST_GRIDS], nodes: &'a [i32]) -> Result<Lookups<'a>, Refusal> {
         long_enough(group, nodes)?;
-        Ok(Lookups { group, extents, nodes, day: 0, times: factor(group, 0) })
+        let mut all = Vec::with_capacity(MOST_GRIDS);
+        for (k, grid) in group.grid[..group.grids as usize].iter().enumerate() {
+            all.extend(pieces(&extents[k]).map(|(area, turn)| Piece { area, grid: k, rank: grid.rank, turn }));
+        }
+        Ok(Lookups { group, pieces: all, nodes, day: 0, times: factor(group, 0) })
     }
 
     #[inline]
@@ -121,7 +129,14 @@ impl<'a> Lookups<'a> {
         if at.day != self.day {
             (self.day, self.times) = (at.day, factor(self.group, at.day));
         }
-        fix(self.group, self.extents, self.nodes, at, self.times)
+        let (mut chosen, mut best) = (None, i64::MAX);
+        for piece in &self.pieces {
+            if piece.rank < best && holds(&piece.area, at.lon, at.lat) {
+                (chosen, best) = (Some(piece), piece.rank);
+            }
+        }
+        let piece = chosen.ok_or(refusal(7, 0))?;
+        fix(self.group, piece.grid, self.nodes, at.lon + piece.turn, at.lat, self.times)
     }
 }
 

@@ -1,6 +1,6 @@
 //! Grids in force in an area and its hole, by coordinate compression and, for small areas, by trying every coordinate.
 
-use crate::geometry::{chosen, extent, grids};
+use crate::geometry::{chosen, extent, grids, turned};
 use crate::judge::judge;
 use crate::limits;
 use crate::refusal::refuse;
@@ -35,7 +35,7 @@ fn seen(record: &Group, area: Area) -> Result<Seen, Refusal> {
     Ok(by_compression(grids(record), area))
 }
 
-/// Looks only at longitudes and latitudes where some grid or the area begins, or just past where a grid ends:
+/// Looks only at longitudes and latitudes where some grid, turned or not, or the area begins, or just past where a grid ends:
 /// between two neighbours of these the choice is the same all along.
 pub fn by_compression(grids: &[Grid], area: Area) -> Seen {
     let extents: Vec<_> = grids.iter().map(extent).collect();
@@ -46,7 +46,8 @@ pub fn by_compression(grids: &[Grid], area: Area) -> Seen {
         all.dedup();
         all
     };
-    let lons = cuts(area.west, area.east, extents.iter().flat_map(|e| [e.west, e.east + 1]).collect());
+    let ends = extents.iter().flat_map(|e| turned(e.west).into_iter().chain(turned(e.east + 1)));
+    let lons = cuts(area.west, area.east, ends.collect());
     let lats = cuts(area.south, area.north, extents.iter().flat_map(|e| [e.south, e.north + 1]).collect());
     seen_at(grids, lons.into_iter(), lats.into_iter())
 }

@@ -1,6 +1,10 @@
-//! Extents of grids and the ranges of their nodes.
+//! Extents of grids, the points that they hold and the ranges of their nodes.
 
+use crate::limits;
 use interface::{Grid, Group};
+
+/// Once around the earth, and the most that a grid may be wide.
+pub const TURN: i128 = 1_296_000_000;
 
 /// A rectangle of whole coordinates, sides included.
 #[derive(Clone, Copy, Debug, PartialEq, Eq)]
@@ -12,15 +16,33 @@ pub struct Extent {
 }
 
 impl Extent {
-    pub fn holds(&self, lon: i128, lat: i128) -> bool {
-        self.west <= lon && lon <= self.east && self.south <= lat && lat <= self.north
+    pub fn width(&self) -> i128 {
+        self.east - self.west
     }
 
-    /// Whether some coordinate lies in both.
-    pub fn meets(&self, other: &Extent) -> bool {
-        self.west.max(other.west) <= self.east.min(other.east)
-            && self.south.max(other.south) <= self.north.min(other.north)
+    /// The longitude that a grid of this extent uses for a point at `lon`: the point's own, it plus a turn or it minus a turn,
+    /// the first that lies in the extent; none if it doesn't hold the point.
+    pub fn longitude_used(&self, lon: i128) -> Option<i128> {
+        [lon, lon + TURN, lon - TURN].into_iter().find(|x| (self.west..=self.east).contains(x))
     }
+
+    pub fn holds(&self, lon: i128, lat: i128) -> bool {
+        self.longitude_used(lon).is_some() && (self.south..=self.north).contains(&lat)
+    }
+
+    /// Whether grids of both extents hold some admitted point. Of such points the westmost longitude is the least one admitted,
+    /// or one at which either grid begins, turned or not; and either grid begins at their southmost latitude.
+    pub fn meets(&self, other: &Extent) -> bool {
+        let wests = [self, other].into_iter().flat_map(|e| turned(e.west)).chain([-limits::LONGITUDE]);
+        let souths = [self.south, other.south];
+        let both = |lon: i128, lat: i128| self.holds(lon, lat) && other.holds(lon, lat);
+        wests.filter(|&lon| limits::longitude(lon)).any(|lon| souths.iter().any(|&lat| both(lon, lat)))
+    }
+}
+
+/// Where a point may stand that a grid has at `lon`.
+pub fn turned(lon: i128) -> [i128; 3] {
+    [lon, lon - TURN, lon + TURN]
 }
 
 /// Longitude and latitude of the last node.

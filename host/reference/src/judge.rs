@@ -1,6 +1,6 @@
 //! The judge of a group handed over as a record: refusals 2 to 5 in that order.
 
-use crate::geometry::{extent, far_edge, range_end};
+use crate::geometry::{TURN, extent, far_edge, range_end};
 use crate::limits;
 use crate::refusal::refuse;
 use interface::{Grid, Group, Ramp, Refusal};
@@ -41,7 +41,10 @@ pub fn sound(record: &Group) -> Result<(), Refusal> {
     let named_earlier = |k: usize| grids[..k].iter().any(|g| g.name.text() == grids[k].name.text());
     let too_far = |k: usize| {
         let (lon, lat) = far_edge(&grids[k]);
-        !limits::longitude(lon) || !limits::latitude(lat) || range_end(&grids[k], record.parameters) > limits::NODE_LIST
+        !limits::grid_longitude(lon)
+            || !limits::latitude(lat)
+            || extent(&grids[k]).width() > TURN
+            || range_end(&grids[k], record.parameters) > limits::NODE_LIST
     };
     let clashes = |k: usize| grids[..k].iter().any(|g| g.rank == grids[k].rank && extent(g).meets(&extent(&grids[k])));
     let faults: [(u64, &dyn Fn(usize) -> bool); 3] = [(3, &named_earlier), (4, &too_far), (5, &clashes)];

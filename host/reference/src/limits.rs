@@ -1,9 +1,12 @@
-//! The admitted ranges of document 01's table 'Numbers', each as a test of one number.
+//! The admitted ranges of document 01's table 'Numbers', as order 5 amends them, each as a test of one number.
 
 use interface::{Grid, Name, Ramp};
 use std::ops::RangeInclusive;
 
-pub const LONGITUDE: i128 = 1_296_000_000;
+/// Of a grid's own longitude and far edge.
+pub const GRID_LONGITUDE: i128 = 1_296_000_000;
+/// Of points and of the sides of areas.
+pub const LONGITUDE: i128 = 648_000_000;
 pub const LATITUDE: i128 = 324_000_000;
 pub const DAY: i128 = 1_000_000;
 pub const NODE: i128 = 4_000_000;
@@ -13,6 +16,10 @@ pub const REFUSALS: RangeInclusive<u64> = 1..=13;
 
 const SPACING: i128 = 1_000_000;
 const FACTOR: i128 = 10_000_000;
+
+pub fn grid_longitude(x: i128) -> bool {
+    (-GRID_LONGITUDE..=GRID_LONGITUDE).contains(&x)
+}
 
 pub fn longitude(x: i128) -> bool {
     (-LONGITUDE..=LONGITUDE).contains(&x)
@@ -49,7 +56,7 @@ pub fn ramp([a, s0, b, s1]: [i128; 4]) -> bool {
 pub fn grid([lon, lat, dlon, dlat, ni, nj, rank, start]: [i128; 8]) -> bool {
     let spacing = |d: i128| (1..=SPACING).contains(&d.abs());
     let count = |n: i128| (2..=16_384).contains(&n);
-    longitude(lon)
+    grid_longitude(lon)
         && latitude(lat)
         && spacing(dlon)
         && spacing(dlat)

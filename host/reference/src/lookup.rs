@@ -1,6 +1,6 @@
 //! Lookup of a point on a day: choice of the grid, cell, bilinear value, day factor, results.
 
-use crate::geometry::{chosen, grids, range_end};
+use crate::geometry::{chosen, extent, grids, range_end};
 use crate::judge::judge;
 use crate::limits;
 use crate::refusal::refuse;
@@ -14,9 +14,9 @@ struct Along {
     distance: i128,
 }
 
-fn along(from: i64, spacing: i64, count: i64, at: i64) -> Along {
+fn along(from: i64, spacing: i64, count: i64, at: i128) -> Along {
     let size = i128::from(spacing).abs();
-    let away = (i128::from(at) - i128::from(from)).abs();
+    let away = (at - i128::from(from)).abs();
     let index = (away / size).min(i128::from(count) - 2);
     Along { index, size, distance: away - index * size }
 }
@@ -81,8 +81,9 @@ pub fn lookup(record: &Group, nodes: &[i32], at: Position) -> Result<Fix, Refusa
         return refuse(7, 0);
     };
     let g = &grids[choice];
-    let x = along(g.lon, g.dlon, g.ni, at.lon);
-    let y = along(g.lat, g.dlat, g.nj, at.lat);
+    let used = extent(g).longitude_used(lon).expect("the chosen grid holds the point");
+    let x = along(g.lon, g.dlon, g.ni, used);
+    let y = along(g.lat, g.dlat, g.nj, lat);
     let corners = used_corners(&x, &y);
     let node = |i: i128, j: i128, p: i64| nodes[node_place(g, record.parameters, i, j, p)];
     let any = |test: &dyn Fn(i32) -> bool| {

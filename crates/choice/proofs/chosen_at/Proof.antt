@@ -3,7 +3,7 @@ use Prim.Native.Nat.{_≤_, _-_}
 use mathlib.Core.Path.{_≡_, refl}
 use native.Mathlib.Omega.{arith}
 use Rattle.numbers.specs.Lists.{at}
-use Rattle.choice.specs.Rect.{rectHolds, pairCount}
+use Rattle.choice.specs.Rect.{turnHolds, pairCount}
 use Rattle.choice.specs.Choice.{chosen}
 use Rattle.choice.proofs.ChoiceLaws.{chosen≤}
 use Rattle.choice.proofs.Turn.{chosen-more}
@@ -12,11 +12,11 @@ use Rattle.choice.proofs.chosen_at.Statement.{statement}
 use Rattle.choice.proofs.chosen_at.Tie as tie
 
 abbrev Inv-loop : tie.InvT-loop
-Inv-loop sides ranks x y n c₀ i₀ c i =
-    (n ≡ pairCount sides ranks) × (i ≤ n) × (c ≡ chosen (λ i. rectHolds sides i x y) (at ranks) i)
+Inv-loop sides ranks turn x y n c₀ i₀ c i =
+    (n ≡ pairCount sides ranks) × (i ≤ n) × (c ≡ chosen (λ i. turnHolds turn sides i x y) (at ranks) i)
 
 abbrev μ-loop : tie.MeasureT-loop
-μ-loop sides ranks x y n c₀ i₀ c i =
+μ-loop sides ranks turn x y n c₀ i₀ c i =
     n - i
 
 pair-count-requires : tie.Need-pair-count-requires Inv-loop μ-loop
@@ -30,7 +30,7 @@ better-of-requires : tie.Need-better-of-requires Inv-loop μ-loop
 better-of-requires c κs =
     let a = c .before .before .before .before .before .args in
     let l = c .before .loop in
-    (omega arith, omega (arith, l .inv .2, chosen≤ (λ i. rectHolds (a .sides .now) i (a .x) (a .y)) (at (a .ranks .now)) (l .i)))
+    (omega arith, omega (arith, l .inv .2, chosen≤ (λ i. turnHolds (a .turn) (a .sides .now) i (a .x) (a .y)) (at (a .ranks .now)) (l .i)), search needs, search needs)
 
 add-i : tie.Need-add-i Inv-loop μ-loop
 add-i c = search needs
@@ -44,7 +44,7 @@ loop-again c =
     let l = c .before .before .loop in (
       search needs,
       search needs,
-      chosen-more (λ i. rectHolds (a .sides .now) i (a .x) (a .y)) (at (a .ranks .now)) (l .i) (l .c) (c .better-of .result) (l .inv .2) (c .better-of .ensures),
+      chosen-more (λ i. turnHolds (a .turn) (a .sides .now) i (a .x) (a .y)) (at (a .ranks .now)) (l .i) (l .c) (c .better-of .result) (l .inv .2) (c .better-of .ensures),
     )
 
 returns : tie.Need-returns Inv-loop μ-loop

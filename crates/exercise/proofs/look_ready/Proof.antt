@@ -21,9 +21,9 @@ use Rattle.lookup.specs.Flat.{fixRanked}
 use Rattle.lookup.proofs.StageLaws.{day-told, looked-accepted, looked-6, looked-9, looked-on}
 use Rattle.lookup.proofs.BridgeLaws.{ranked-laid, ranked-fix}
 use Rattle.exercise.specs.declared.Scale.{Scale}
-use Rattle.exercise.specs.Tables.{countIndex, rowsIn, ownersIn, framesIn}
+use Rattle.exercise.specs.Tables.{countIndex, rowsIn, ownersIn, shiftsIn, framesIn}
 use Rattle.exercise.proofs.ScaleLaws.{scale-in}
-use Rattle.exercise.proofs.TableLaws.{rows-length, owners-length, frames-length, few-rows}
+use Rattle.exercise.proofs.TableLaws.{rows-length, owners-length, shifts-length, frames-length, few-rows}
 use borrow.Author.Needs.{needs}
 use Rattle.exercise.proofs.look_ready.Statement.{statement}
 use Rattle.exercise.proofs.look_ready.Tie as tie
@@ -91,25 +91,37 @@ part-look-ranked-start-2 c = search needs
 part-look-ranked-end-2 : tie.Need-part-look-ranked-end-2
 part-look-ranked-end-2 c = search needs
 
+mul-look-ranked-3 : tie.Need-mul-look-ranked-3
+mul-look-ranked-3 c = search needs
+
+sub-look-ranked-3 : tie.Need-sub-look-ranked-3
+sub-look-ranked-3 c = search needs
+
+part-look-ranked-start-3 : tie.Need-part-look-ranked-start-3
+part-look-ranked-start-3 c = search needs
+
+part-look-ranked-end-3 : tie.Need-part-look-ranked-end-3
+part-look-ranked-end-3 c = search needs
+
 parameter-count-requires : tie.Need-parameter-count-requires
 parameter-count-requires c κs = search needs
 
 -- before the lookup in the rows
 module _ (c : tie.After-struct-told2) where
   abbrev entry : tie.Start
-  entry = c .before .before .before .before .before .before .before .before .before .before .before .before .before .before
+  entry = c .before .before .before .before .before .before .before .before .before .before .before .before .before .before .before
 
   day-bits : SFits w64 (entry .args .scale .day)
-  day-bits = record { sfits = c .before .before .before .before .before .before .before .before .before .before .struct-told .given .0 .1 }
+  day-bits = record { sfits = c .before .before .before .before .before .before .before .before .before .before .before .struct-told .given .0 .1 }
 
   day : dayFits (entry .args .scale .day) ≡ true
-  day = day-told day-bits (c .before .before .before .before .before .before .before .before .before .day-fits .ensures) ∙ not-false _ (c .before .before .before .before .before .before .before .before .if2 .left)
+  day = day-told day-bits (c .before .before .before .before .before .before .before .before .before .before .day-fits .ensures) ∙ not-false _ (c .before .before .before .before .before .before .before .before .before .if2 .left)
 
   ready : LookupReady (g entry) (length (entry .args .nodes .now)) (entry .args .point) (entry .args .scale .day)
   ready =
       record {
         accepted = entry .pre .0 .accepted;
-        point = sym (c .before .before .before .before .before .before .before .before .before .before .before .before .point-fits .ensures) ∙ not-false _ (c .before .before .before .before .before .before .before .before .before .before .before .if1 .left);
+        point = sym (c .before .before .before .before .before .before .before .before .before .before .before .before .before .point-fits .ensures) ∙ not-false _ (c .before .before .before .before .before .before .before .before .before .before .before .before .if1 .left);
         day = day;
         ends = entry .pre .0 .ends;
       }
@@ -123,9 +135,9 @@ look-ranked-requires : tie.Need-look-ranked-requires
 look-ranked-requires c κs =
     let s = entry c in let a = s .args in let t = s .pre .0 .tabled in let l = a .tables .now in let e = s .pre .0 .accepted in let m = few-rows (g s) l e t in (
       rw (c .before .parameter-count .ensures)
-          (ranked-laid (g s) (a .nodes .now) (a .point) (a .scale .day) (ready c) (t .sides) (t .ranks) (framesIn l) (t .flat) (c .before .before .before .before .before .before .before .lon-from-least .ensures) (c .before .before .before .before .before .before .lat-from-least .ensures)
-          (rowsIn l) (ownersIn l) (at l countIndex) (t .rows)
-          (omega (arith, rows-length l (t .long))) (omega (arith, owners-length l (t .long))) (omega (arith, frames-length l (t .long), accepted-head (g s) e .grids))),
+          (ranked-laid (g s) (a .nodes .now) (a .point) (a .scale .day) (ready c) (t .sides) (t .ranks) (framesIn l) (t .flat) (c .before .before .before .before .before .before .before .lat-from-least .ensures) (t .room)
+          (rowsIn l) (ownersIn l) (shiftsIn l) (at l countIndex) (t .rows) (c .before .before .before .before .before .before .before .before .lon-from-least .ensures)
+          (omega (arith, rows-length l (t .long))) (omega (arith, owners-length l (t .long))) (omega (arith, shifts-length l (t .long))) (omega (arith, frames-length l (t .long), accepted-head (g s) e .grids))),
       subst (λ (z : ℤ). natAbs z ≤ factorMost) (sym (factor c))
           (factor-bound (g s .ramp) (a .scale .day) (g s .ramps) (accepted-head (g s) e .ramps) (accepted (g s) e .ramp)),
     )
@@ -133,11 +145,11 @@ look-ranked-requires c κs =
 returns-3 : tie.Need-returns-3
 returns-3 c =
     let q = c .before in let s = entry q in let a = s .args in let t = s .pre .0 .tabled in let l = a .tables .now in
-    let x = q .before .before .before .before .before .before .before .lon-from-least .result in let y = q .before .before .before .before .before .before .lat-from-least .result in
+    let x = q .before .before .before .before .before .before .before .before .lon-from-least .result in let y = q .before .before .before .before .before .before .before .lat-from-least .result in
     c .look-ranked .ensures
-    ∙ (λ i. fixRanked (rowsIn l) (ownersIn l) (framesIn l) (at l countIndex) (q .before .parameter-count .ensures i) (a .nodes .now) (toZ w64 (ofZ w64 (a .scale .factor))) x y)
-    ∙ ranked-fix (g s) (a .nodes .now) (a .point) (a .scale .day) (ready q) (t .sides) (t .ranks) (framesIn l) (t .flat) (q .before .before .before .before .before .before .before .lon-from-least .ensures) (q .before .before .before .before .before .before .lat-from-least .ensures)
-    (rowsIn l) (ownersIn l) (at l countIndex) (t .rows) (factor q)
+    ∙ (λ i. fixRanked (rowsIn l) (ownersIn l) (shiftsIn l) (framesIn l) (at l countIndex) (q .before .parameter-count .ensures i) (a .nodes .now) (toZ w64 (ofZ w64 (a .scale .factor))) x y)
+    ∙ ranked-fix (g s) (a .nodes .now) (a .point) (a .scale .day) (ready q) (t .sides) (t .ranks) (framesIn l) (t .flat) (q .before .before .before .before .before .before .before .lat-from-least .ensures) (t .room)
+    (rowsIn l) (ownersIn l) (shiftsIn l) (at l countIndex) (t .rows) (q .before .before .before .before .before .before .before .before .lon-from-least .ensures) (factor q)
     ∙ sym (looked-accepted (g s) (a .nodes .now) (a .point) (a .scale .day) (s .pre .0 .accepted) ∙ looked-on (g s) (a .nodes .now) (a .point) (a .scale .day) (ready q))
 
 pub look-ready-spec : {M : Type 1} → statement M
@@ -160,6 +172,10 @@ look-ready-spec =
     sub-look-ranked-2
     part-look-ranked-start-2
     part-look-ranked-end-2
+    mul-look-ranked-3
+    sub-look-ranked-3
+    part-look-ranked-start-3
+    part-look-ranked-end-3
     parameter-count-requires
     look-ranked-requires
     returns-3)

@@ -107,7 +107,7 @@ use Rattle.exercise.proofs.many_words.Code.Mir as code-mir
 
 -- the array that is lent
 abbrev S : RattleType
-S = Array u64 769
+S = Array u64 1601
 
 abbrev stayed : Stays (all.ended .signature .params) (all.ended .kept)
 stayed = (
@@ -186,7 +186,7 @@ zeros-is : (n : ℕ) → Is (Array u64 n) (replicate n 0) (arrayVal (replicate n
 zeros-is n = (replicate n (vint w64 0), ((refl, length-replicate n 0), zeros-each n))
 
 abbrev zeros : List ℕ
-zeros = replicate 769 0
+zeros = replicate 1601 0
 
 abbrev vals-P : Position → List Val
 vals-P = LL.vals P.the-type P′.the-laws
@@ -592,7 +592,7 @@ module _ {M : Type 1} (𝓤 : URA M) (H : Heap 𝓤) (A : Atoms 𝓤) (W : Given
           -- the tables' lifetime ends, and their local is room again
           move ! (8 ∷ []) $ lft-end ! tt $ move ! (0 ∷ 33 ∷ []) $ lent-back ! tt $
           use1 W (‵ (fat fullShare arr l₅ 0 (only (array-vals (uint-vals w64) h))))
-          (lies-out 𝓤 H A W S l₅ (array-vals (uint-vals w64)) (array-tells u64 (uint-vals w64) (uint-tells w64) 769) h) $
+          (lies-out 𝓤 H A W S l₅ (array-vals (uint-vals w64)) (array-tells u64 (uint-vals w64) (uint-tells w64) 1601) h) $
           returns ! (look ! 27 refl) $ forget ! 27 refl $ forget ! 21 refl $ forget ! 22 refl $ forget ! 23 refl $ forget ! 24 refl $ forget ! 0 refl $
           forget ! 25 refl $ forget ! 26 refl $ forget ! 11 refl $ forget ! 12 refl $ forget ! 14 refl $
           move ! (27 ∷ 34 ∷ 21 ∷ 35 ∷ 22 ∷ 36 ∷ 23 ∷ 37 ∷ 24 ∷ 38 ∷ 0 ∷ 39 ∷ 25 ∷ 40 ∷ 26 ∷ 41 ∷ 11 ∷ 42 ∷ 12 ∷ 43 ∷ 13 ∷ 44 ∷ 28 ∷ 45 ∷ 29 ∷ 46 ∷ 30 ∷ 47 ∷ 31 ∷ 48 ∷ 32 ∷ 49 ∷ 14 ∷ 50 ∷ 15 ∷ 51 ∷ 16 ∷ 52 ∷ 17 ∷ 53 ∷ 18 ∷ 54 ∷ 19 ∷ 55 ∷ 20 ∷ 56 ∷ []) $
@@ -643,8 +643,8 @@ module _ {M : Type 1} (𝓤 : URA M) (H : Heap 𝓤) (A : Atoms 𝓤) (W : Given
       pass1 ! (init ! 42 refl (tt, tt)) $ pass1 ! (init ! 40 refl (tt, (tt, (record { fits = roomN .0 }, tt)))) $
       pass1 ! (init ! 38 refl (tt, (tt, (record { fits = room .0 }, tt)))) $ pass1 ! (init ! 36 refl (tt, (tt, (record { fits = room′ .0 }, tt)))) $ pass0 ! $
       -- the array of the tables, lent for good to the call that fills it
-      assigns ! (rep ! 769 (lit ! tt)) (from ! (stop !)) (init ! 34 refl (array-lawful 𝓤 H A W u64 (uint-lawful 𝓤 H A W w64) 769 .typed zeros _ (zeros-is 769) .0)) $
-      move ! (34 ∷ []) $ use1 W (‵ (partAt S fullShare zeros l₅ 0)) (lies-in 𝓤 H A W S l₅ (array-makes 𝓤 H A W u64 (uint-makes 𝓤 H A W w64) 769) zeros _ (zeros-is 769)) $
+      assigns ! (rep ! 1601 (lit ! tt)) (from ! (stop !)) (init ! 34 refl (array-lawful 𝓤 H A W u64 (uint-lawful 𝓤 H A W w64) 1601 .typed zeros _ (zeros-is 1601) .0)) $
+      move ! (34 ∷ []) $ use1 W (‵ (partAt S fullShare zeros l₅ 0)) (lies-in 𝓤 H A W S l₅ (array-makes 𝓤 H A W u64 (uint-makes 𝓤 H A W w64) 1601) zeros _ (zeros-is 1601)) $
       lft-new ! tt (λ β. move ! (1 ∷ []) $
       use1 W (later (some (λ (γ₁ : GName). ‵ (OwnM β l₅ γ₁) ⊛ ‵ (flent (β ∷ []) (Body (inMem S) l₅ 0 γ₁))))) (lends-ref 𝓤 H A W S (named 1) (β ∷ []) zeros l₅ 0) $
       await ! tt $ pick ! (λ γ₁. split ! $

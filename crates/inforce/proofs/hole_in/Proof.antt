@@ -2,8 +2,9 @@
 use mathlib.Core.Path.{_≡_, _∙_, ap, sym, subst}
 use Rattle.group.specs.declared.Group.{Group}
 use Rattle.abi.specs.Abi.{groupOfWords}
-use Rattle.inforce.specs.Flat.{FlatSound, flatHole}
+use Rattle.inforce.specs.Flat.{FlatSound, Admitted, flatHole}
 use Rattle.inforce.specs.Hole.{holeIn, acceptedHole}
+use Rattle.inforce.proofs.AreaLaws.{area-admitted}
 use Rattle.inforce.proofs.GroupLaws.{group-flat, group-hole, narrow-hole}
 use Rattle.inforce.proofs.StageLaws.{ready-judged}
 use borrow.Author.Needs.{needs}
@@ -23,7 +24,10 @@ g s = groupOfWords (s .args .words .now)
 hole-flat-requires : tie.Need-hole-flat-requires
 hole-flat-requires c κs =
     let s = c .before .before .before .before in let a = s .args in
-    subst (FlatSound (a .sides .now) (a .ranks .now)) (sym (c .before .grid-count .ensures)) (group-flat (g s) (ready-judged (s .pre) .0) (a .sides .now) (a .ranks .now) (s .pre .sided) (s .pre .room))
+    let j = ready-judged (s .pre) in (
+      subst (FlatSound (a .sides .now) (a .ranks .now)) (sym (c .before .grid-count .ensures)) (group-flat (g s) (j .0) (a .sides .now) (a .ranks .now) (s .pre .sided) (s .pre .room)),
+      subst Admitted (sym (c .area-from-least .ensures)) (area-admitted (a .area) (j .1)),
+    )
 
 -- the hole of the area, its coordinate as distances
 spot : (c : tie.After-hole-flat) → let s = c .before .before .before .before .before in c .hole-flat .result ≡ holeIn (g s) (s .args .area)

@@ -3,10 +3,11 @@ use mathlib.Core.Path.{_≡_, _∙_, ap, sym, subst}
 use Rattle.group.specs.declared.Group.{Group}
 use Rattle.abi.specs.Abi.{groupOfWords}
 use Rattle.coverage.specs.Listing.{listingOf}
-use Rattle.inforce.specs.Flat.{FlatSound, flatListing}
+use Rattle.inforce.specs.Flat.{FlatSound, Admitted, flatListing}
 use Rattle.inforce.specs.InForce.{inForceIn}
 use Rattle.inforce.specs.Handed.{shownList}
 use Rattle.inforce.proofs.ShownLaws.{shown-whole}
+use Rattle.inforce.proofs.AreaLaws.{area-admitted}
 use Rattle.inforce.proofs.GroupLaws.{group-flat, group-listed, narrow-list}
 use Rattle.inforce.proofs.StageLaws.{ready-judged}
 use borrow.Author.Needs.{needs}
@@ -26,7 +27,10 @@ g s = groupOfWords (s .args .words .now)
 list-flat-requires : tie.Need-list-flat-requires
 list-flat-requires c κs =
     let s = c .before .before .before .before in let a = s .args in
-    subst (FlatSound (a .sides .now) (a .ranks .now)) (sym (c .before .grid-count .ensures)) (group-flat (g s) (ready-judged (s .pre) .0) (a .sides .now) (a .ranks .now) (s .pre .sided) (s .pre .room))
+    let j = ready-judged (s .pre) in (
+      subst (FlatSound (a .sides .now) (a .ranks .now)) (sym (c .before .grid-count .ensures)) (group-flat (g s) (j .0) (a .sides .now) (a .ranks .now) (s .pre .sided) (s .pre .room)),
+      subst Admitted (sym (c .area-from-least .ensures)) (area-admitted (a .area) (j .1)),
+    )
 
 -- the list of the area, its coordinates as distances
 listing : (c : tie.After-list-flat) → let s = c .before .before .before .before .before in

@@ -97,13 +97,18 @@ returns-3 c =
     let q = c .before .before .before .before .before .before .before .before .before .before .before .before .before .before .before .before .before in
     (edge-here (g q) (entry q .args .from) (count q) (parameters q) (q .scan-grids .ensures .0) (c .before .before .before .before .before .before .before .if1 .left) (q .scan-grids .ensures .1) (c .before .before .before .before .first-clash .ensures) (c .before .before .before .if2 .left) (c .before .if3 .taken), λ e. absurd (no-acceptance _ e))
 
+rank-rule-requires : tie.Need-rank-rule-requires
+rank-rule-requires c κs =
+    let q = c .before .before .before .before .before .before .before .before .before .before .before .before .before .before .before .before .before in
+    omega (arith, count q, entry q .pre .0 .grids, entry q .pre .2 .room .sides-room, q .scan-grids .kept .1 .1 .1 .1 .1 .0)
+
 first-clash-requires-2 : tie.Need-first-clash-requires-2
 first-clash-requires-2 c κs =
-    let q = c .before .before .before .before .before .before .before .before .before .before .before .before .before .before .before .before .before .before in let k = q .scan-grids .kept in
+    let q = c .before .before .before .before .before .before .before .before .before .before .before .before .before .before .before .before .before .before .before .before in let k = q .scan-grids .kept in
     (omega (arith, count q, entry q .pre .0 .grids, entry q .pre .2 .room .sides-room, k .1 .1 .1 .1 .1 .0), omega (arith, count q, entry q .pre .0 .grids, entry q .pre .2 .room .ranks-room, k .1 .1 .1 .1 .1 .1 .0))
 
-add-t39 : tie.Need-add-t39
-add-t39 c = search needs
+add-t41 : tie.Need-add-t41
+add-t41 c = search needs
 
 same-length-10 : tie.Need-same-length-10
 same-length-10 c = search needs
@@ -116,8 +121,8 @@ same-length-12 c = search needs
 
 returns-4 : tie.Need-returns-4
 returns-4 c =
-    let q = c .before .before .before .before .before .before .before .before .before .before .before .before .before .before .before .before .before .before .before .before in
-    (rank-here (g q) (entry q .args .from) (count q) (parameters q) (q .scan-grids .ensures .0) (c .before .before .before .before .before .before .before .before .before .before .if1 .left) (q .scan-grids .ensures .1) (c .before .before .before .before .before .before .before .first-clash .ensures) (c .before .before .before .before .before .before .if2 .left) (c .before .before .before .before .if3 .left) (c .before .first-clash2 .ensures) (c .if4 .taken), λ e. absurd (no-acceptance _ e))
+    let q = c .before .before .before .before .before .before .before .before .before .before .before .before .before .before .before .before .before .before .before .before .before .before in
+    (rank-here (g q) (entry q .args .from) (count q) (parameters q) (q .scan-grids .ensures .0) (c .before .before .before .before .before .before .before .before .before .before .before .before .if1 .left) (q .scan-grids .ensures .1) (c .before .before .before .before .before .before .before .before .before .first-clash .ensures) (c .before .before .before .before .before .before .before .before .if2 .left) (c .before .before .before .before .before .before .if3 .left) (c .before .before .before .before .rank-rule .ensures) (c .before .first-clash2 .ensures) (c .if4 .taken), λ e. absurd (no-acceptance _ e))
 
 same-length-13 : tie.Need-same-length-13
 same-length-13 c = search needs
@@ -130,9 +135,9 @@ same-length-15 c = search needs
 
 returns-5 : tie.Need-returns-5
 returns-5 c =
-    let q = c .before .before .before .before .before .before .before .before .before .before .before .before .before .before .before .before .before .before .before .before in (
-      all-past (g q) (entry q .args .from) (count q) (parameters q) (q .scan-grids .ensures .0) (c .before .before .before .before .before .before .before .before .before .before .if1 .left) (q .scan-grids .ensures .1) (c .before .before .before .before .before .before .before .first-clash .ensures) (c .before .before .before .before .before .before .if2 .left) (c .before .before .before .before .if3 .left) (c .before .first-clash2 .ensures) (c .if4 .left),
-      λ e. grids-flat (g q) (entry q .args .from) (count q) (parameters q) (q .scan-grids .ensures .0) (c .before .before .before .before .before .before .before .before .before .before .if1 .left) (q .scan-grids .ensures .1),
+    let q = c .before .before .before .before .before .before .before .before .before .before .before .before .before .before .before .before .before .before .before .before .before .before in (
+      all-past (g q) (entry q .args .from) (count q) (parameters q) (q .scan-grids .ensures .0) (c .before .before .before .before .before .before .before .before .before .before .before .before .if1 .left) (q .scan-grids .ensures .1) (c .before .before .before .before .before .before .before .before .before .first-clash .ensures) (c .before .before .before .before .before .before .before .before .if2 .left) (c .before .before .before .before .before .before .if3 .left) (c .before .before .before .before .rank-rule .ensures) (c .before .first-clash2 .ensures) (c .if4 .left),
+      λ e. grids-flat (g q) (entry q .args .from) (count q) (parameters q) (q .scan-grids .ensures .0) (c .before .before .before .before .before .before .before .before .before .before .before .before .if1 .left) (q .scan-grids .ensures .1),
     )
 
 pub judge-grids-spec : {M : Type 1} → statement M
@@ -162,8 +167,9 @@ judge-grids-spec =
     same-length-8
     same-length-9
     returns-3
+    rank-rule-requires
     first-clash-requires-2
-    add-t39
+    add-t41
     same-length-10
     same-length-11
     same-length-12

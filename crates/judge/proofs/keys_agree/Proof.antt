@@ -147,11 +147,86 @@ mul-result-16 c = search needs
 shared-slice-read-result-16 : tie.Need-shared-slice-read-result-16
 shared-slice-read-result-16 c = search needs
 
+enum-told-3 : tie.Need-enum-told-3
+enum-told-3 c = search needs
+
+mul-lons-meet : tie.Need-mul-lons-meet
+mul-lons-meet c = search needs
+
+shared-slice-read-lons-meet : tie.Need-shared-slice-read-lons-meet
+shared-slice-read-lons-meet c = search needs
+
+add-lons-meet : tie.Need-add-lons-meet
+add-lons-meet c = search needs
+
+mul-lons-meet-2 : tie.Need-mul-lons-meet-2
+mul-lons-meet-2 c = search needs
+
+shared-slice-read-lons-meet-2 : tie.Need-shared-slice-read-lons-meet-2
+shared-slice-read-lons-meet-2 c = search needs
+
+mul-lons-meet-3 : tie.Need-mul-lons-meet-3
+mul-lons-meet-3 c = search needs
+
+shared-slice-read-lons-meet-3 : tie.Need-shared-slice-read-lons-meet-3
+shared-slice-read-lons-meet-3 c = search needs
+
+add-lons-meet-2 : tie.Need-add-lons-meet-2
+add-lons-meet-2 c = search needs
+
+mul-lons-meet-4 : tie.Need-mul-lons-meet-4
+mul-lons-meet-4 c = search needs
+
+shared-slice-read-lons-meet-4 : tie.Need-shared-slice-read-lons-meet-4
+shared-slice-read-lons-meet-4 c = search needs
+
+lons-meet-requires : tie.Need-lons-meet-requires
+lons-meet-requires c κs = search needs
+
+add-result-13 : tie.Need-add-result-13
+add-result-13 c = search needs
+
+mul-result-17 : tie.Need-mul-result-17
+mul-result-17 c = search needs
+
+shared-slice-read-result-17 : tie.Need-shared-slice-read-result-17
+shared-slice-read-result-17 c = search needs
+
+add-result-14 : tie.Need-add-result-14
+add-result-14 c = search needs
+
+mul-result-18 : tie.Need-mul-result-18
+mul-result-18 c = search needs
+
+shared-slice-read-result-18 : tie.Need-shared-slice-read-result-18
+shared-slice-read-result-18 c = search needs
+
+add-result-15 : tie.Need-add-result-15
+add-result-15 c = search needs
+
+mul-result-19 : tie.Need-mul-result-19
+mul-result-19 c = search needs
+
+shared-slice-read-result-19 : tie.Need-shared-slice-read-result-19
+shared-slice-read-result-19 c = search needs
+
+add-result-16 : tie.Need-add-result-16
+add-result-16 c = search needs
+
+mul-result-20 : tie.Need-mul-result-20
+mul-result-20 c = search needs
+
+shared-slice-read-result-20 : tie.Need-shared-slice-read-result-20
+shared-slice-read-result-20 c = search needs
+
 returns : tie.Need-returns
 returns c = rw (c .before .before .before .before .before .before .before .before .enum-told .given .1)
 
 returns-2 : tie.Need-returns-2
 returns-2 c = rw (c .before .before .before .before .before .before .before .before .enum-told2 .given .1)
+
+returns-3 : tie.Need-returns-3
+returns-3 c = rw (c .before .before .before .before .before .before .before .before .before .enum-told3 .given .1, c .before .before .before .before .lons-meet .ensures)
 
 pub keys-agree-spec : {M : Type 1} → statement M
 keys-agree-spec =
@@ -205,5 +280,30 @@ keys-agree-spec =
     add-result-12
     mul-result-16
     shared-slice-read-result-16
+    enum-told-3
+    mul-lons-meet
+    shared-slice-read-lons-meet
+    add-lons-meet
+    mul-lons-meet-2
+    shared-slice-read-lons-meet-2
+    mul-lons-meet-3
+    shared-slice-read-lons-meet-3
+    add-lons-meet-2
+    mul-lons-meet-4
+    shared-slice-read-lons-meet-4
+    lons-meet-requires
+    add-result-13
+    mul-result-17
+    shared-slice-read-result-17
+    add-result-14
+    mul-result-18
+    shared-slice-read-result-18
+    add-result-15
+    mul-result-19
+    shared-slice-read-result-19
+    add-result-16
+    mul-result-20
+    shared-slice-read-result-20
     returns
-    returns-2)
+    returns-2
+    returns-3)

@@ -15,18 +15,17 @@ use Rattle.group.specs.declared.Group.{Group}
 use Rattle.group.specs.Numbers.{dayFits, factorMost}
 use Rattle.abi.specs.Abi.{groupOfWords}
 use Rattle.judge.proofs.Accepted.{accepted, accepted-head}
-use Rattle.flat.specs.Frames.{frameAt}
 use Rattle.day.specs.Day.{factorOf}
 use Rattle.day.proofs.DayLaws.{factor-bound}
-use Rattle.lookup.specs.Lookup.{fixAt, LookupReady}
-use Rattle.lookup.specs.Flat.{offsetIn, LaidRows}
+use Rattle.lookup.specs.Lookup.{LookupReady}
+use Rattle.choice.specs.declared.Held.{Held}
+use Rattle.lookup.specs.Flat.{fixHeld, HeldChosen, LaidRows}
 use Rattle.lookup.proofs.StageLaws.{day-told, looked-accepted, looked-6, looked-9, looked-on}
 use Rattle.lookup.proofs.BridgeLaws.{ranked-laid, ranked-fix}
-use Rattle.lookup.proofs.ChosenLaws.{rows-chosen}
 use Rattle.exercise.specs.declared.Scale.{Scale}
-use Rattle.exercise.specs.Tables.{Tabled, countIndex, rowsIn, ownersIn, framesIn}
+use Rattle.exercise.specs.Tables.{Tabled, countIndex, rowsIn, ownersIn, shiftsIn, framesIn}
 use Rattle.exercise.proofs.ScaleLaws.{scale-in}
-use Rattle.exercise.proofs.TableLaws.{rows-length, owners-length, frames-length, few-rows}
+use Rattle.exercise.proofs.TableLaws.{rows-length, owners-length, shifts-length, frames-length, few-rows}
 use borrow.Author.Needs.{needs}
 use Rattle.logs.proofs.look_at.Statement.{statement}
 use Rattle.logs.proofs.look_at.Tie as tie
@@ -70,8 +69,8 @@ lon-from-least-requires c κs = search needs
 lat-from-least-requires : tie.Need-lat-from-least-requires
 lat-from-least-requires c κs = search needs
 
-shared-slice-read-rows : tie.Need-shared-slice-read-rows
-shared-slice-read-rows c = let s = c .before .before .before .before .before .before .before .before .before in omega (arith, t s .long)
+shared-slice-read-count : tie.Need-shared-slice-read-count
+shared-slice-read-count c = let s = c .before .before .before .before .before .before .before .before .before in omega (arith, t s .long)
 
 slice-aggregate-first-holder : tie.Need-slice-aggregate-first-holder
 slice-aggregate-first-holder c = let s = c .before .before .before .before .before .before .before .before .before .before in sym (rows-length (l s) (t s .long))
@@ -88,52 +87,60 @@ part-first-holder-start c = search needs
 part-first-holder-end : tie.Need-part-first-holder-end
 part-first-holder-end c = search needs
 
+mul-first-holder-2 : tie.Need-mul-first-holder-2
+mul-first-holder-2 c = search needs
+
+sub-first-holder-2 : tie.Need-sub-first-holder-2
+sub-first-holder-2 c = search needs
+
+part-first-holder-start-2 : tie.Need-part-first-holder-start-2
+part-first-holder-start-2 c = search needs
+
+part-first-holder-end-2 : tie.Need-part-first-holder-end-2
+part-first-holder-end-2 c = search needs
+
 first-holder-requires : tie.Need-first-holder-requires
 first-holder-requires c κs =
-    let s = c .before .before .before .before .before .before .before .before .before .before .before in let m = few-rows (g s) (l s) (s .pre .call .accepted) (t s) in
-    (omega (arith, rows-length (l s) (t s .long)), omega (arith, owners-length (l s) (t s .long)))
+    let s = c .before .before .before .before .before .before .before .before .before .before .before .before in let m = few-rows (g s) (l s) (s .pre .call .accepted) (t s) in
+    (omega (arith, rows-length (l s) (t s .long)), omega (arith, owners-length (l s) (t s .long)), omega (arith, shifts-length (l s) (t s .long)))
 
 parameter-count-requires : tie.Need-parameter-count-requires
 parameter-count-requires c κs = search needs
 
-mul-fix-chosen : tie.Need-mul-fix-chosen
-mul-fix-chosen c = search needs
+mul-fix-held : tie.Need-mul-fix-held
+mul-fix-held c = search needs
 
-sub-fix-chosen : tie.Need-sub-fix-chosen
-sub-fix-chosen c = search needs
+sub-fix-held : tie.Need-sub-fix-held
+sub-fix-held c = search needs
 
-part-fix-chosen-start : tie.Need-part-fix-chosen-start
-part-fix-chosen-start c = search needs
+part-fix-held-start : tie.Need-part-fix-held-start
+part-fix-held-start c = search needs
 
-part-fix-chosen-end : tie.Need-part-fix-chosen-end
-part-fix-chosen-end c = search needs
+part-fix-held-end : tie.Need-part-fix-held-end
+part-fix-held-end c = search needs
 
--- before the fix in the chosen grid
+-- before the fix in what holds the point
 module _ (c : tie.After-struct-told2) where
   abbrev entry : tie.Start
-  entry = c .before .before .before .before .before .before .before .before .before .before .before .before .before .before .before
+  entry = c .before .before .before .before .before .before .before .before .before .before .before .before .before .before .before .before
 
   abbrev x : ℕ
-  x = c .before .before .before .before .before .before .before .before .lon-from-least .result
+  x = c .before .before .before .before .before .before .before .before .before .lon-from-least .result
 
   abbrev y : ℕ
-  y = c .before .before .before .before .before .before .before .lat-from-least .result
+  y = c .before .before .before .before .before .before .before .before .lat-from-least .result
 
   day-bits : SFits w64 (entry .args .scale .day)
-  day-bits = record { sfits = c .before .before .before .before .before .before .before .before .before .before .before .struct-told .given .0 .1 }
+  day-bits = record { sfits = c .before .before .before .before .before .before .before .before .before .before .before .before .struct-told .given .0 .1 }
 
   day : dayFits (entry .args .scale .day) ≡ true
-  day =
-      day-told day-bits (c .before .before .before .before .before .before .before .before .before .before .day-fits .ensures)
-      ∙ not-false _ (c .before .before .before .before .before .before .before .before .before .if2 .left)
+  day = day-told day-bits (c .before .before .before .before .before .before .before .before .before .before .before .day-fits .ensures) ∙ not-false _ (c .before .before .before .before .before .before .before .before .before .before .if2 .left)
 
   ready : LookupReady (g entry) (length (entry .args .nodes .now)) (entry .args .point) (entry .args .scale .day)
   ready =
       record {
         accepted = entry .pre .call .accepted;
-        point =
-            sym (c .before .before .before .before .before .before .before .before .before .before .before .before .before .point-fits .ensures)
-            ∙ not-false _ (c .before .before .before .before .before .before .before .before .before .before .before .before .if1 .left);
+        point = sym (c .before .before .before .before .before .before .before .before .before .before .before .before .before .before .point-fits .ensures) ∙ not-false _ (c .before .before .before .before .before .before .before .before .before .before .before .before .before .if1 .left);
         day = day;
         ends = entry .pre .call .ends;
       }
@@ -143,20 +150,21 @@ module _ (c : tie.After-struct-told2) where
       toZ-ofZ w64 (entry .args .scale .factor) (record { sfits = c .struct-told2 .given .1 .0 .1 })
       ∙ ap (λ (s : Scale). s .factor) (entry .pre .scale ∙ scale-in (g entry) (entry .args .scale .day) day)
 
-  laid : LaidRows (rowsIn (l entry)) (ownersIn (l entry)) (framesIn (l entry)) (at (l entry) countIndex) (g entry .parameters) (length (entry .args .nodes .now)) x y
+  laid : LaidRows (rowsIn (l entry)) (ownersIn (l entry)) (shiftsIn (l entry)) (framesIn (l entry)) (at (l entry) countIndex) (g entry .parameters)
+      (length (entry .args .nodes .now)) x y
   laid =
       let s = entry in let a = s .args in let m = few-rows (g s) (l s) (s .pre .call .accepted) (t s) in
       ranked-laid (g s) (a .nodes .now) (a .point) (a .scale .day) ready (t s .sides) (t s .ranks) (framesIn (l s)) (t s .flat)
-      (c .before .before .before .before .before .before .before .before .lon-from-least .ensures) (c .before .before .before .before .before .before .before .lat-from-least .ensures)
-      (rowsIn (l s)) (ownersIn (l s)) (at (l s) countIndex) (t s .rows)
-      (omega (arith, rows-length (l s) (t s .long))) (omega (arith, owners-length (l s) (t s .long)))
+      (c .before .before .before .before .before .before .before .before .lat-from-least .ensures) (t s .room)
+      (rowsIn (l s)) (ownersIn (l s)) (shiftsIn (l s)) (at (l s) countIndex) (t s .rows) (c .before .before .before .before .before .before .before .before .before .lon-from-least .ensures)
+      (omega (arith, rows-length (l s) (t s .long))) (omega (arith, owners-length (l s) (t s .long))) (omega (arith, shifts-length (l s) (t s .long)))
       (omega (arith, frames-length (l s) (t s .long), accepted-head (g s) (s .pre .call .accepted) .grids))
 
-fix-chosen-requires : tie.Need-fix-chosen-requires
-fix-chosen-requires c κs =
+fix-held-requires : tie.Need-fix-held-requires
+fix-held-requires c κs =
     let s = entry c in let a = s .args in let e = s .pre .call .accepted in (
       rw (c .before .before .parameter-count .ensures)
-          (rows-chosen (rowsIn (l s)) (ownersIn (l s)) (framesIn (l s)) (at (l s) countIndex) (g s .parameters) (length (a .nodes .now)) (x c) (y c) (laid c) _ (c .before .before .before .first-holder .ensures)),
+          (subst (λ (q : Held). HeldChosen (framesIn (l s)) q (g s .parameters) (length (a .nodes .now)) (x c) (y c)) (sym (c .before .before .before .first-holder .ensures)) (laid c .ready)),
       subst (λ (z : ℤ). natAbs z ≤ factorMost) (sym (factor c))
           (factor-bound (g s .ramp) (a .scale .day) (g s .ramps) (accepted-head (g s) e .ramps) (accepted (g s) e .ramp)),
     )
@@ -164,11 +172,11 @@ fix-chosen-requires c κs =
 returns-3 : tie.Need-returns-3
 returns-3 c =
     let q = c .before in let s = entry q in let a = s .args in
-    c .fix-chosen .ensures
-    ∙ (λ i. fixAt (q .before .before .before .first-holder .ensures i) (λ k. offsetIn (frameAt (framesIn (l s)) k) (q .before .before .parameter-count .ensures i) (x q) (y q)) (a .nodes .now) (toZ w64 (ofZ w64 (a .scale .factor))))
+    c .fix-held .ensures
+    ∙ (λ i. fixHeld (framesIn (l s)) (q .before .before .before .first-holder .ensures i) (q .before .before .parameter-count .ensures i) (a .nodes .now) (toZ w64 (ofZ w64 (a .scale .factor))) (x q) (y q))
     ∙ ranked-fix (g s) (a .nodes .now) (a .point) (a .scale .day) (ready q) (t s .sides) (t s .ranks) (framesIn (l s)) (t s .flat)
-    (q .before .before .before .before .before .before .before .before .lon-from-least .ensures) (q .before .before .before .before .before .before .before .lat-from-least .ensures)
-    (rowsIn (l s)) (ownersIn (l s)) (at (l s) countIndex) (t s .rows) (factor q)
+    (q .before .before .before .before .before .before .before .before .lat-from-least .ensures) (t s .room)
+    (rowsIn (l s)) (ownersIn (l s)) (shiftsIn (l s)) (at (l s) countIndex) (t s .rows) (q .before .before .before .before .before .before .before .before .before .lon-from-least .ensures) (factor q)
     ∙ sym (looked-accepted (g s) (a .nodes .now) (a .point) (a .scale .day) (s .pre .call .accepted) ∙ looked-on (g s) (a .nodes .now) (a .point) (a .scale .day) (ready q))
 
 pub look-at-spec : {M : Type 1} → statement M
@@ -181,17 +189,21 @@ look-at-spec =
     returns-2
     lon-from-least-requires
     lat-from-least-requires
-    shared-slice-read-rows
+    shared-slice-read-count
     slice-aggregate-first-holder
     mul-first-holder
     sub-first-holder
     part-first-holder-start
     part-first-holder-end
+    mul-first-holder-2
+    sub-first-holder-2
+    part-first-holder-start-2
+    part-first-holder-end-2
     first-holder-requires
     parameter-count-requires
-    mul-fix-chosen
-    sub-fix-chosen
-    part-fix-chosen-start
-    part-fix-chosen-end
-    fix-chosen-requires
+    mul-fix-held
+    sub-fix-held
+    part-fix-held-start
+    part-fix-held-end
+    fix-held-requires
     returns-3)

@@ -1,5 +1,5 @@
 -- `look_in` meets its contract: the flat lists say what the record says.
-use Prim.Native.Nat.{_*_, _≤_}
+use Prim.Native.Nat.{ℕ, _*_, _≤_}
 use mathlib.Core.Path.{_≡_, sym, ap, _∙_, subst}
 use native.Mathlib.Omega.{arith}
 use lib.IntN.{ℤ, natAbs}
@@ -8,10 +8,10 @@ use mir.Syntax.{w64}
 use mir.Val.{toZ, ofZ}
 use mir.ValLaws.{toZ-ofZ}
 use Rattle.group.specs.declared.Group.{Group}
-use Rattle.group.specs.Numbers.{dayFits, factorMost}
+use Rattle.group.specs.Numbers.{lonTurn, dayFits, factorMost}
 use Rattle.abi.specs.Abi.{groupOfWords}
 use Rattle.numbers.specs.Lists.{at}
-use Rattle.choice.specs.Rect.{rectHolds}
+use Rattle.choice.specs.Rect.{turnHolds}
 use Rattle.choice.specs.Choice.{chosen}
 use Rattle.flat.specs.Frames.{frameAt}
 use Rattle.judge.proofs.Accepted.{accepted, accepted-head}
@@ -20,7 +20,7 @@ use Rattle.day.specs.Flat.{factorIn}
 use Rattle.day.proofs.DayLaws.{factor-bound}
 use Rattle.lookup.specs.Lookup.{fixAt}
 use Rattle.lookup.specs.Flat.{offsetIn, rampRows, RampsFit}
-use Rattle.lookup.proofs.BridgeLaws.{told-chosen, told-fix}
+use Rattle.lookup.proofs.BridgeLaws.{turn-room, told-most, told-chosen, told-fix}
 use Rattle.lookup.proofs.RampLaws.{rows-fit, rows-factor}
 use borrow.Author.Needs.{needs}
 use Rattle.lookup.proofs.look_in.Statement.{statement}
@@ -47,14 +47,24 @@ chosen-flat-requires : tie.Need-chosen-flat-requires
 chosen-flat-requires c κs =
     let s = c .before .before .before .before .before .before in let n = accepted-head (g s) (s .pre .0 .accepted) .grids in let e = c .grid-count .ensures in
     let r = s .pre .1 .room .room in
-    record { few = omega (arith, n, e); sides-room = omega (arith, n, e, r .sides-room); ranks-room = omega (arith, n, e, r .ranks-room) }
+    let w = turn-room (g s) (s .args .nodes .now) (s .args .point) (s .args .day) (s .pre .0) (c .before .before .lon-from-least .ensures) in
+    (record { few = omega (arith, n, e); sides-room = omega (arith, n, e, r .sides-room); ranks-room = omega (arith, n, e, r .ranks-room) }, w .0, w .1)
+
+used-at-requires : tie.Need-used-at-requires
+used-at-requires c κs =
+    let s = c .before .before .before .before .before .before .before in let n = accepted-head (g s) (s .pre .0 .accepted) .grids in
+    let w = turn-room (g s) (s .args .nodes .now) (s .args .point) (s .args .day) (s .pre .0) (c .before .before .before .lon-from-least .ensures) in
+    let m =
+    told-most (g s) (s .args .nodes .now) (s .args .point) (s .args .day) (s .pre .0) (s .args .sides .now) (s .args .ranks .now) (s .args .frames .now) (s .pre .1 .flat) (c .before .before .lat-from-least .ensures) (c .before .before .before .lon-from-least .ensures) (c .chosen-flat .result)
+    (c .chosen-flat .ensures ∙ ap (chosen (λ k. turnHolds lonTurn (s .args .sides .now) k (c .before .before .before .lon-from-least .result) (c .before .before .lat-from-least .result)) (at (s .args .ranks .now))) (c .before .grid-count .ensures)) in
+    (omega (arith, n, m, s .pre .1 .room .room .sides-room), w .0, w .1)
 
 ramp-count-requires : tie.Need-ramp-count-requires
 ramp-count-requires c κs = search needs
 
 factor-on-requires : tie.Need-factor-on-requires
 factor-on-requires c κs =
-    let s = c .before .before .before .before .before .before .before .before .before in let a = s .pre .0 .accepted in let e = c .ramp-count .ensures in (
+    let s = c .before .before .before .before .before .before .before .before .before .before in let a = s .pre .0 .accepted in let e = c .ramp-count .ensures in (
       (search needs),
       omega (arith, accepted-head (g s) a .ramps, e),
       subst (RampsFit (s .args .words .now)) (sym e) (rows-fit (s .args .words .now) a),
@@ -67,7 +77,7 @@ parameter-count-requires c κs = search needs
 -- behind the factor
 module _ (c : tie.After-factor-on) where
   abbrev entry : tie.Start
-  entry = c .before .before .before .before .before .before .before .before .before .before
+  entry = c .before .before .before .before .before .before .before .before .before .before .before
 
   factor : toZ w64 (ofZ w64 (c .factor-on .result)) ≡ factorOf (g entry .ramp) (g entry .ramps) (entry .args .day)
   factor =
@@ -75,29 +85,35 @@ module _ (c : tie.After-factor-on) where
       ∙ (λ i. factorIn (rampRows (entry .args .words .now)) (c .before .ramp-count .ensures i) (toZ-ofZ w64 (entry .args .day) (entry .fits .day) i))
       ∙ rows-factor (entry .args .words .now) (entry .pre .0 .accepted) (entry .args .day)
 
-  choice : c .before .before .before .chosen-flat .result
-      ≡ chosen (λ k. rectHolds (entry .args .sides .now) k (c .before .before .before .before .before .before .lon-from-least .result) (c .before .before .before .before .before .lat-from-least .result)) (at (entry .args .ranks .now)) (g entry .grids)
+  abbrev x : ℕ
+  x = c .before .before .before .before .before .before .before .lon-from-least .result
+
+  abbrev y : ℕ
+  y = c .before .before .before .before .before .before .lat-from-least .result
+
+  abbrev number : ℕ
+  number = c .before .before .before .before .chosen-flat .result
+
+  choice : number ≡ chosen (λ k. turnHolds lonTurn (entry .args .sides .now) k x y) (at (entry .args .ranks .now)) (g entry .grids)
   choice =
-      c .before .before .before .chosen-flat .ensures
-      ∙ ap (chosen (λ k. rectHolds (entry .args .sides .now) k (c .before .before .before .before .before .before .lon-from-least .result) (c .before .before .before .before .before .lat-from-least .result)) (at (entry .args .ranks .now)))
-      (c .before .before .before .before .grid-count .ensures)
+      c .before .before .before .before .chosen-flat .ensures
+      ∙ ap (chosen (λ k. turnHolds lonTurn (entry .args .sides .now) k x y) (at (entry .args .ranks .now))) (c .before .before .before .before .before .grid-count .ensures)
 
 fix-chosen-requires : tie.Need-fix-chosen-requires
 fix-chosen-requires c κs =
     let q = c .before in let s = entry q in let a = s .pre .0 .accepted in (
       rw (c .parameter-count .ensures)
-          (told-chosen (g s) (s .args .nodes .now) (s .args .point) (s .args .day) (s .pre .0) _ _ _ (s .pre .1 .flat) (q .before .before .before .before .before .before .lon-from-least .ensures) (q .before .before .before .before .before .lat-from-least .ensures) _ (choice q) (few s)),
+          (told-chosen (g s) (s .args .nodes .now) (s .args .point) (s .args .day) (s .pre .0) (s .args .sides .now) (s .args .ranks .now) (s .args .frames .now) (s .pre .1 .flat) (q .before .before .before .before .before .before .lat-from-least .ensures) (q .before .before .before .before .before .before .before .lon-from-least .ensures) (number q) (q .before .before .before .used-at .result) (choice q) (q .before .before .before .used-at .ensures) (few s)),
       subst (λ (z : ℤ). natAbs z ≤ factorMost) (sym (factor q))
           (factor-bound (g s .ramp) (s .args .day) (g s .ramps) (accepted-head (g s) a .ramps) (accepted (g s) a .ramp)),
     )
 
 returns : tie.Need-returns
 returns c =
-    let p = c .before in let q = p .before in let s = entry q in
-    let x = q .before .before .before .before .before .before .lon-from-least .result in let y = q .before .before .before .before .before .lat-from-least .result in
+    let p = c .before in let q = p .before in let s = entry q in let at = q .before .before .before .used-at .result in
     c .fix-chosen .ensures
-    ∙ (λ i. fixAt (q .before .before .before .chosen-flat .result) (λ k. offsetIn (frameAt (s .args .frames .now) k) (p .parameter-count .ensures i) x y) (s .args .nodes .now) (toZ w64 (ofZ w64 (q .factor-on .result))))
-    ∙ told-fix (g s) (s .args .nodes .now) (s .args .point) (s .args .day) (s .pre .0) _ _ _ (s .pre .1 .flat) (q .before .before .before .before .before .before .lon-from-least .ensures) (q .before .before .before .before .before .lat-from-least .ensures) _ (choice q) (factor q)
+    ∙ (λ i. fixAt (number q) (λ k. offsetIn (frameAt (s .args .frames .now) k) (p .parameter-count .ensures i) at (y q)) (s .args .nodes .now) (toZ w64 (ofZ w64 (q .factor-on .result))))
+    ∙ told-fix (g s) (s .args .nodes .now) (s .args .point) (s .args .day) (s .pre .0) (s .args .sides .now) (s .args .ranks .now) (s .args .frames .now) (s .pre .1 .flat) (q .before .before .before .before .before .before .lat-from-least .ensures) (q .before .before .before .before .before .before .before .lon-from-least .ensures) (number q) at (choice q) (q .before .before .before .used-at .ensures) (factor q)
 
 pub look-in-spec : {M : Type 1} → statement M
 look-in-spec =
@@ -107,6 +123,7 @@ look-in-spec =
     lat-from-least-requires
     grid-count-requires
     chosen-flat-requires
+    used-at-requires
     ramp-count-requires
     factor-on-requires
     parameter-count-requires

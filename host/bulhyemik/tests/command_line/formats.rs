@@ -7,7 +7,7 @@ const TWO: &str = "group\tport\tarc-second\t1\t2\t0\t2\n\
     grid\tbasin\t0\t0\t10\t-10\t2\t2\t1\t0\ngrid\tOuter_2\t-36000\t0\t1000\t1000\t9\t9\t20\t100\n";
 
 const NO_GRID: &str = "no grid holds the point";
-const WRONG_AREA: &str = "the area has a side outside the limits, west above east or south above north";
+const WRONG_AREA: &str = "south is 1, above north, which is 0";
 
 /// A folder with a header of two parameters and the nodes of its first grid, in half arc-seconds.
 fn folder(name: &str) -> Folder {
@@ -261,7 +261,7 @@ fn refusals_that_are_no_points() {
         ("hole limit.txt 0 0 0 0", 2, 1, limit),
         ("grids limit.txt", 2, 1, limit),
         ("grids -", 1, 1, "the header is empty"),
-        ("inforce two.txt 1 0 0 0", 10, 0, WRONG_AREA),
+        ("inforce two.txt 0 0 1 0", 10, 0, WRONG_AREA),
         ("hole two.txt 0 0 1 0", 10, 0, WRONG_AREA),
     ] {
         let line = json(&format!("{{'refused':{number},'place':{place},'words':'{words}'}}"));

@@ -108,11 +108,11 @@ fn refusals_have_status_1_and_words() {
         ("format limit.txt", refused(2, 1, "line 1: Q is 21, its limit is 0 to 20")),
         (
             "lookup dock.txt dock.nodes 99999999999999999999 0 0",
-            refused_at(6, 0, [i64::MAX, 0, 0], "the point is outside longitude ±1296000000 or latitude ±324000000"),
+            refused_at(6, 0, [i64::MAX, 0, 0], "the point is outside longitude ±648000000 or latitude ±324000000"),
         ),
         (
             "lookup dock.txt dock.nodes 0 -324000001 0",
-            refused_at(6, 0, [0, -324_000_001, 0], "the point is outside longitude ±1296000000 or latitude ±324000000"),
+            refused_at(6, 0, [0, -324_000_001, 0], "the point is outside longitude ±648000000 or latitude ±324000000"),
         ),
         ("lookup dock.txt dock.nodes 0 0 1000001", refused_at(9, 0, [0, 0, 1_000_001], "the day is outside ±1000000")),
         (
@@ -129,14 +129,8 @@ fn refusals_have_status_1_and_words() {
             "lookup dock.txt far.nodes 0 0 0",
             refused_at(11, 0, [0, 0, 0], "a node that the point needs is beyond ±4000000 steps"),
         ),
-        (
-            "inforce dock.txt 1 0 0 0",
-            refused(10, 0, "the area has a side outside the limits, west above east or south above north"),
-        ),
-        (
-            "hole dock.txt 1 0 0 0",
-            refused(10, 0, "the area has a side outside the limits, west above east or south above north"),
-        ),
+        ("inforce dock.txt 0 0 1 0", refused(10, 0, "south is 1, above north, which is 0")),
+        ("hole dock.txt 0 0 0 324000001", refused(10, 0, "a side is outside latitude ±324000000")),
         ("hole limit.txt 1 0 0 0", refused(2, 1, "line 1: Q is 21, its limit is 0 to 20")),
         ("judge limit.txt dock.nodes -", refused(2, 1, "line 1: Q is 21, its limit is 0 to 20")),
         ("judge dock.txt short.nodes -", refused(13, 1, "the node list ends before the nodes of grid 1 do")),

@@ -1,6 +1,6 @@
-//! What is said of a header that is refused by 1 or 2: the words tell what stands on the line; number and place are the library's.
+//! What is said of a header that is refused by 1, 2, 4 or 5: the words tell what stands in it; number and place are the library's.
 
-use crate::program::{Folder, HEADER, refused};
+use crate::program::{Folder, HEADER, accepted, refused};
 
 /// The header with one part replaced must be refused so.
 fn refuses(folder: &Folder, part: &str, by: &str, number: u64, place: u64, words: &str) {
@@ -75,4 +75,81 @@ fn refusal_2_names_the_number_and_its_limit() {
     ] {
         refuses(&folder, part, by, 2, place, words);
     }
+}
+
+#[test]
+fn refusal_4_says_how_far_the_grid_reaches() {
+    let folder = Folder::new("hints-4");
+    for (part, by, words) in [
+        (
+            "basin\t0",
+            "basin\t1295999990",
+            "reaches from longitude 1295999990 to 1296000010, beyond ±1296000000; check LON, DLON and NI",
+        ),
+        (
+            "basin\t0\t0",
+            "basin\t0\t323999995",
+            "reaches from latitude 323999995 to 324000005, beyond ±324000000; check LAT, DLAT and NJ",
+        ),
+        (
+            "3\t2\t1\t0",
+            "3\t2\t1\t16777215",
+            "needs 16777221 values in the node list, which has at most 16777216; check START, NI and NJ",
+        ),
+    ] {
+        refuses(&folder, part, by, 4, 1, &format!("grid 1 (basin) {words}"));
+    }
+}
+
+#[test]
+fn refusal_4_says_how_a_grid_that_is_too_wide_is_cut() {
+    let folder = Folder::new("hints-wide");
+    for (by, width, most) in [
+        ("-700000000\t0\t1000000\t10\t1401", 1_400_000_000, 1297),
+        ("648000001\t0\t-999999\t10\t1298", 1_296_998_703, 1297),
+        ("-648000000\t0\t100001\t10\t12961", 1_296_012_960, 12960),
+    ] {
+        let words = format!(
+            "grid 1 (basin) is {width} wide, more than a whole turn, 1296000000; \
+             cut it: with this DLON NI is at most {most}"
+        );
+        refuses(&folder, "0\t0\t10\t10\t3", by, 4, 1, &words);
+    }
+}
+
+/// Two grids of rank 7 from these longitudes on, each 20 wide, at the same latitudes.
+fn two_grids(west: i64, east: i64) -> String {
+    format!(
+        "group\ttwo\tmetre\t0\t1\t0\t3\ngrid\tnone\t0\t300\t10\t10\t2\t2\t7\t0\n\
+        grid\twest\t{west}\t0\t10\t10\t3\t2\t7\t0\ngrid\teast\t{east}\t10\t10\t10\t3\t2\t7\t0\n"
+    )
+}
+
+#[test]
+fn refusal_5_names_both_grids() {
+    let folder = Folder::new("hints-5");
+    let words = "grid 3 (east) meets grid 2 (west), and both have rank 7; give one of them another";
+    for east in [0, 20, -20] {
+        assert_eq!(folder.run_with(&["check", "-"], two_grids(0, east).as_bytes()), refused(5, 3, words), "{east}");
+    }
+    assert_eq!(folder.run_with(&["check", "-"], two_grids(0, 21).as_bytes()), accepted("accepted\n"));
+}
+
+#[test]
+fn refusal_5_says_so_where_grids_meet_across_the_meridian() {
+    let folder = Folder::new("hints-across");
+    let checked = |west: i64, east: i64| folder.run_with(&["check", "-"], two_grids(west, east).as_bytes());
+    for (west, east, raised) in [
+        (-648_000_000, 647_999_980, "-1296000000"),
+        (647_999_980, -648_000_000, "+1296000000"),
+        (0, 1_295_999_980, "-1296000000"),
+        (1_295_999_980, -1_296_000_000, "+2592000000"),
+    ] {
+        let words = format!(
+            "grid 3 (east) meets grid 2 (west) across the 180° meridian (its longitudes {raised}), \
+             and both have rank 7; give one of them another"
+        );
+        assert_eq!(checked(west, east), refused(5, 3, &words), "{west} {east}");
+    }
+    assert_eq!(checked(-648_000_000, 647_999_979), accepted("accepted\n"));
 }

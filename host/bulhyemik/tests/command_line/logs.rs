@@ -1,29 +1,13 @@
 //! `judge`: logs that pass, the first bad line of those that don't, and what is said of it.
 
-use crate::program::{Folder, accepted, failed, words};
+use crate::program::{Folder, accepted, example, failed, with_example, words};
 use interface::{Calls, Group, LOG_LINE_BYTES, Position, Timed};
 use reference::Reference;
-use std::fs;
 
 const GOOD: &str = "fix\t5\t5\t200\tbasin\t55\n";
 
 const WHOLE: &str = "a whole number, as 12, 0 or -5, without plus or leading zero";
 const NAME: &str = "1 to 24 of A to Z, a to z, 0 to 9, _ and -";
-
-/// A file of the examples.
-fn example(name: &str) -> Vec<u8> {
-    let path = format!("{}/../../examples/{name}", env!("CARGO_MANIFEST_DIR"));
-    fs::read(path).expect("the examples have it")
-}
-
-/// A folder with the header, the nodes and the points of an example.
-fn with_example(folder: &str, name: &str) -> Folder {
-    let folder = Folder::new(folder);
-    for kind in ["txt", "nodes", "points"] {
-        folder.put(kind, &example(&format!("{name}.{kind}")));
-    }
-    folder
-}
 
 /// A log of the dock with this line, between two good ones, must fail there.
 fn fails(folder: &Folder, line: &str, kind: &str, words: &str) {
@@ -46,21 +30,21 @@ fn a_log_passes_from_a_file_and_from_standard_input() {
 
 #[test]
 fn what_lookup_prints_of_accepted_points_passes() {
-    for (name, count) in [("harbour", 11), ("canyon", 5)] {
+    for (name, count) in [("harbour", 11), ("canyon", 5), ("pacific", 6)] {
         let folder = with_example(&format!("logs-{name}"), name);
         let line = "\"$PROGRAM\" lookup txt nodes < points 2> words | grep ^fix | \"$PROGRAM\" judge txt nodes -";
         assert_eq!(folder.shell(line), accepted(&format!("passed\t{count}\n")), "{name}");
         // the line of a refused point is none of a log
         let line = "\"$PROGRAM\" lookup txt nodes < points 2> words | \"$PROGRAM\" judge txt nodes -";
         let seen = "begins with 'refused', but must begin with 'fix'";
-        let first = if name == "harbour" { 11 } else { 6 };
+        let first = if name == "harbour" { 11 } else { count + 1 };
         assert_eq!(folder.shell(line), failed(first, "form", &format!("line {first} {seen}")), "{name}");
     }
 }
 
 #[test]
 fn what_lookup_prints_is_what_the_writer_writes() {
-    for name in ["harbour", "canyon"] {
+    for name in ["harbour", "canyon", "pacific"] {
         let folder = with_example(&format!("logs-written-{name}"), name);
         let (mut group, mut place) = (Group::default(), 0);
         assert_eq!(Reference.read_header(&folder.get("txt"), &mut group, &mut place), 0);
@@ -145,12 +129,17 @@ fn what_the_lookup_says_stands_beside_what_the_log_says() {
     let folder = Folder::new("logs-lookup");
     let digits = "9".repeat(1_000);
     let shown = format!("{}..", "9".repeat(60));
-    let outside = "line 2: the lookup is refused: the point is outside longitude ±1296000000 or latitude ±324000000";
+    let outside = "line 2: the lookup is refused: the point is outside longitude ±648000000 or latitude ±324000000";
     let day = "line 2: the lookup is refused: the day is outside ±1000000";
     for (line, kind, words) in [
         ("fix\t21\t10\t0\tbasin\t0\n", "lookup refused", "line 2: the lookup is refused: no grid holds the point"),
         ("fix\t0\t-324000001\t0\tbasin\t0\n", "lookup refused", outside),
         (&format!("fix\t-{digits}\t0\t0\tbasin\t0\n"), "lookup refused", outside),
+        (
+            "fix\t-648000001\t0\t0\tbasin\t0\n",
+            "lookup refused",
+            &format!("{outside}; for longitude -648000001 write 647999999"),
+        ),
         ("fix\t0\t0\t1000001\tbasin\t0\n", "lookup refused", day),
         (&format!("fix\t0\t0\t{digits}\tbasin\t0\n"), "lookup refused", day),
         (

@@ -6,6 +6,7 @@ mod good_input;
 mod help;
 mod hints;
 mod logs;
+mod meridian;
 mod points;
 mod program;
 mod rules;

@@ -131,5 +131,5 @@ fn a_reader_that_went_away_ends_it_quietly() {
     let folder = Folder::new("gone");
     let line = "(yes \"$(printf '5\\t5\\t200')\" | \"$PROGRAM\" lookup dock.txt dock.nodes; echo $? >&2) | head -1";
     let answer = folder.shell(line);
-    assert_eq!((answer.out.as_str(), answer.err.as_str()), ("fix\t5\t5\t200\tbasin\t55\n", "2\n"));
+    assert_eq!((answer.out.as_str(), answer.err.as_str()), ("fix\t5\t5\t200\tbasin\t55\n", "141\n"));
 }

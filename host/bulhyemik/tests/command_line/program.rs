@@ -108,6 +108,21 @@ impl Folder {
     }
 }
 
+/// A file of the examples.
+pub fn example(name: &str) -> Vec<u8> {
+    let path = format!("{}/../../examples/{name}", env!("CARGO_MANIFEST_DIR"));
+    fs::read(path).expect("the examples have it")
+}
+
+/// A folder with the header, the nodes and the points of an example.
+pub fn with_example(folder: &str, name: &str) -> Folder {
+    let folder = Folder::new(folder);
+    for kind in ["txt", "nodes", "points"] {
+        folder.put(kind, &example(&format!("{name}.{kind}")));
+    }
+    folder
+}
+
 /// The bytes of 32-bit words.
 pub fn words(all: &[[u8; 4]]) -> Vec<u8> {
     all.concat()

@@ -2,6 +2,7 @@
 
 use crate::program::{Folder, accepted, as_a_plain_user, stopped, words};
 use std::fs;
+use std::io::pipe;
 use std::os::unix::fs::{PermissionsExt, symlink};
 use std::os::unix::process::{CommandExt, ExitStatusExt};
 use std::process::{Command, Stdio};
@@ -113,6 +114,26 @@ fn standard_output_that_cannot_be_written() {
     ] {
         let answer = folder.shell(&format!("\"$PROGRAM\" {arguments} > /dev/full"));
         assert_eq!(answer, stopped(full), "{arguments}");
+    }
+}
+
+#[test]
+fn standard_output_that_nobody_reads_ends_it_quietly() {
+    let folder = Folder::new("unread");
+    for arguments in [
+        "--help",
+        "check dock.txt",
+        "check /dev/null",
+        "grids --json dock.txt",
+        "lookup dock.txt dock.nodes 5 5 200",
+        "lookup dock.txt dock.nodes 99 99 0",
+        "judge dock.txt dock.nodes dock.txt",
+    ] {
+        let (reader, writer) = pipe().expect("there is a pipe");
+        drop(reader);
+        let mut command = folder.command(&arguments.split(' ').collect::<Vec<_>>());
+        let ended = command.stdout(writer).output().expect("the program ends");
+        assert_eq!((ended.status.code(), ended.stderr), (Some(141), vec![]), "{arguments}");
     }
 }
 

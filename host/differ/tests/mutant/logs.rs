@@ -1,5 +1,6 @@
 //! Faults of the judge and of the writer of logs.
 
+use super::meridian::{longitude_used, turned_back};
 use interface::{Calls, Fault, Fix, Group, LOG_LINE_BYTES, Name, Position, Timed};
 use reference::Reference;
 
@@ -153,6 +154,21 @@ pub fn numbers_wrap_at_64_bits(group: &Group, nodes: &[i32], log: &[u8], fault: 
             if let Some(number) = number.filter(|number| k > 0 && number.to_string().as_bytes() == *field) {
                 *field = (number as i64).to_string().into_bytes();
             }
+        }
+    })
+}
+
+pub fn longitude_beyond_the_meridian_passes(
+    group: &Group,
+    nodes: &[i32],
+    log: &[u8],
+    fault: &mut Fault,
+    place: &mut u64,
+) -> u64 {
+    by_fields((group, nodes, log), fault, place, |fields| {
+        let Some(field) = fields.get_mut(1) else { return };
+        if let Some(lon) = str::from_utf8(field).ok().and_then(|text| turned_back(text.parse().ok()?)) {
+            *field = lon.to_string().into_bytes();
         }
     })
 }
@@ -475,6 +491,26 @@ pub fn number_for_the_name(
             let mut fields = fields(&line);
             let found = looked_up(group, nodes, &fields).map_or(0, |(_, fix)| fix.grid);
             fields[4] = found.to_string().into_bytes();
+            instead(&line_of(&fields, &line), out, count, place)
+        }
+        _ => Reference.write_log_line(group, nodes, at, out, count, place),
+    }
+}
+
+pub fn line_has_the_longitude_used(
+    group: &Group,
+    nodes: &[i32],
+    at: Position,
+    out: &mut [u8],
+    count: &mut u64,
+    place: &mut u64,
+) -> u64 {
+    match whole(group, nodes, at) {
+        (0, line) => {
+            let mut fields = fields(&line);
+            let found = looked_up(group, nodes, &fields).map_or(0, |(_, fix)| fix.grid as usize);
+            let used = longitude_used(&group.grid[found - 1], at.lon);
+            fields[1] = used.unwrap_or(at.lon).to_string().into_bytes();
             instead(&line_of(&fields, &line), out, count, place)
         }
         _ => Reference.write_log_line(group, nodes, at, out, count, place),

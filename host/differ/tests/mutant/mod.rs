@@ -1,12 +1,14 @@
 //! The second program with one fault: what a differential test must find.
 
 mod logs;
+mod meridian;
 
 use interface::{
     Answer, Area, Calls, Fault, Fix, Found, Grid, Group, InForce, MARK, MOST_PARAMETERS, Part, Position, Screen, Timed,
     Uncovered,
 };
 use logs::*;
+use meridian::*;
 use reference::Reference;
 
 /// `Mutant`, a back end by a function for each call, and `SOUND`, whose functions are the second program's calls.
@@ -62,35 +64,45 @@ mutant! {
 
 /// `MUTANTS`: each fault by its name, the call that it bends, and the back end that has it.
 macro_rules! mutants {
-    ($($call:ident: $($fault:ident),*;)*) => {
+    ($($call:ident: $($fault:expr),*;)*) => {
         pub const MUTANTS: &[(&str, &str, Mutant)] =
             &[$($((stringify!($fault), stringify!($call), Mutant { $call: $fault, ..SOUND }),)*)*];
     };
 }
 
 mutants! {
-    judge: clash_names_the_earlier_grid, far_edge_is_not_judged, name_is_that_of_the_grid_beside;
+    judge: clash_names_the_earlier_grid, far_edge_is_not_judged, name_is_that_of_the_grid_beside, a_whole_turn_is_too_wide,
+        one_more_than_a_turn_is_accepted, any_width_is_accepted, clash_as_written, clash_one_turn_apart_at_most,
+        clash_beside_the_meridian_only;
     read_header: only_the_first_grid_line_is_read, refused_header_zeroes_the_group;
     write_header: one_byte_behind_the_text;
     field: past_the_last_field_is_zero;
     lookup: lookup_always_refuses, lookup_always_answers_zero, halves_away_from_zero,
-        worse_grid_where_the_best_lacks_data, grid_and_first_result_swapped;
+        worse_grid_where_the_best_lacks_data, grid_and_first_result_swapped, lookup_by::<AsWritten>,
+        lookup_by::<OnlyATurnMore>, lookup_by::<OnlyATurnLess>, lookup_by::<TurnedFirst>, lookup_by::<CellAsGiven>,
+        lookup_by::<EndsShort>, lookup_by::<BeginsLate>, points_go_a_whole_turn, first_longitude_is_the_last;
     lookup_many: first_days_factor_for_all, last_point_is_left_out, results_although_13_refuses,
         too_few_nodes_refuse_each_point, results_may_be_too_many, length_is_judged_behind_the_nodes,
-        refused_point_keeps_its_results;
-    grids_in_force: empty_list, full_list, corner_of_the_grid_for_its_first_coordinate;
+        refused_point_keeps_its_results, last_of_many_is_not_turned;
+    grids_in_force: empty_list, full_list, corner_of_the_grid_for_its_first_coordinate, in_force_by::<AsWritten>,
+        in_force_by::<OnlyATurnMore>, in_force_by::<OnlyATurnLess>, in_force_by::<EndsShort>, in_force_by::<BeginsLate>,
+        areas_of_a_list_go_a_whole_turn, entry_at_the_first_longitude_is_at_the_last,
+        entries_are_turned;
     hole: westmost_before_southmost, east_edge_is_no_cover, last_coordinate_is_not_tried, area_is_not_judged,
         worst_grid_is_no_cover, only_the_first_row_is_walked, gap_of_one_is_passed_over, coordinate_beside_none,
-        coordinate_beside_a_refusal;
+        coordinate_beside_a_refusal, hole_by::<AsWritten>, hole_by::<OnlyATurnMore>, hole_by::<OnlyATurnLess>,
+        hole_by::<EndsShort>, hole_by::<BeginsLate>, areas_of_a_hole_go_a_whole_turn,
+        hole_is_turned;
     judge_log: every_log_passes, only_the_first_line_is_judged, last_bad_line_is_told, lines_count_from_zero,
         line_feed_may_lack, bytes_behind_the_last_line_pass, carriage_return_passes, empty_line_passes,
         leading_zeros_pass, minus_zero_passes, plus_passes, numbers_wrap_at_64_bits, values_behind_np_pass,
         missing_value_is_zero, last_value_is_not_compared, grid_is_a_number, beginning_of_a_name_is_enough,
         name_of_25_bytes_is_of_the_form, any_byte_is_of_a_name, lookup_before_form, beyond_a_limit_is_of_no_form, unknown_name_is_of_no_form,
-        unknown_name_before_the_lookup, shift_before_grid, too_few_nodes_are_a_bad_line, fault_beside_a_refusal;
+        unknown_name_before_the_lookup, shift_before_grid, too_few_nodes_are_a_bad_line, fault_beside_a_refusal,
+        longitude_beyond_the_meridian_passes;
     write_log_line: line_without_its_feed, room_for_the_line_is_too_short, room_for_all_but_the_feed_is_enough,
         count_without_the_feed, zero_behind_the_line, line_although_12_refuses, count_beside_12, room_before_the_lookup,
-        values_of_missing_parameters, number_for_the_name;
+        values_of_missing_parameters, number_for_the_name, line_has_the_longitude_used;
     load_nodes: last_node_is_not_written, zero_flag_catches_both_zeros, negative_quantum_is_zero;
     screen_answer: missing_shift_is_minus_zero, number_outside_the_table_is_handed_on, place_of_the_lookup_is_lost;
     screen_record: degrees_after_a_refusal, negative_parameters_are_three;
