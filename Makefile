@@ -1,5 +1,5 @@
-# make          build/bulhyemik (the command line) and its man pages, build/replay, build/bench, build/differ, build/libbulhyemik.a and
-#               the shared library build/libbulhyemik.so.MAJOR; for bench alone build/libtimed.a
+# make          build/bulhyemik (the command line) and its man pages, build/replay, build/bench, build/differ, build/world,
+#               build/libbulhyemik.a and the shared library build/libbulhyemik.so.MAJOR; for bench alone build/libtimed.a
 # make library  build/libbulhyemik.a alone
 # make install [PREFIX=/usr/local] [LIBDIR=lib] [DESTDIR=]
 #               the program, the C header, both libraries, files for pkg-config and bash, man pages, the papers for users; LIBDIR is
@@ -64,7 +64,7 @@ $(shared): build/libbulhyemik.a install/exports Makefile
 # cargo itself knows what has changed
 programs: library build/libtimed.a | tools
 	@cd host && cargo build --quiet --release --offline --features library
-	@for program in bulhyemik replay bench differ; do \
+	@for program in bulhyemik replay bench differ world; do \
 		cmp -s build/cargo/release/$$program build/$$program || cp build/cargo/release/$$program build/ || exit 1; \
 	done
 

@@ -1,27 +1,39 @@
 #!/bin/sh
-# Shows the command line at work on the three examples: sh demo.sh PROGRAM
+# Shows the command line at work on the four examples: sh demo.sh PROGRAM
 #
 # Says what is asked, shows the command and prints its answer. The commands run on copies in a temporary folder; typed
-# in this folder they answer the same. The status is 0 only if all of the output is that of demo.expected.
+# in this folder they answer the same. The nodes of the world are made there by the program `world`, which has to stand
+# beside the command line, as make puts it. The status is 0 only if all of the output is that of demo.expected.
 
-if [ $# -ne 1 ] || [ ! -f "$1" ] || [ ! -x "$1" ]; then
-    echo "usage: sh demo.sh PROGRAM, the path of the command line bulhyemik" >&2
+usage() {
+    echo "usage: sh demo.sh PROGRAM, the path of the command line bulhyemik, with the program world beside it" >&2
     exit 2
-fi
+}
+
+[ $# -eq 1 ] || usage
 case $1 in
     /*) program=$1 ;;
     *) program=$PWD/$1 ;;
 esac
+maker=$(dirname "$program")/world
+for each in "$program" "$maker"; do
+    [ -f "$each" ] && [ -x "$each" ] || usage
+done
 
 work=${TMPDIR:-/tmp}/bulhyemik-demo.$$
 (umask 077 && mkdir "$work") || exit 2
 trap 'rm -rf "$work"' EXIT
 trap 'exit 2' HUP INT TERM
-cp "$(dirname "$0")"/canyon.* "$(dirname "$0")"/harbour[.-]* "$(dirname "$0")"/pacific.* "$(dirname "$0")/demo.expected" "$work" || exit 2
+from=$(dirname "$0")
+cp "$from"/canyon.* "$from"/harbour[.-]* "$from"/pacific.* "$from"/world.* "$from/demo.expected" "$work" || exit 2
 cd "$work" || exit 2
 
 bulhyemik() {
     "$program" "$@"
+}
+
+world() {
+    "$maker"
 }
 
 # ask WORDS COMMAND: what the command prints, then what it says on standard error; a status other than 0 is told.
@@ -39,7 +51,7 @@ demo() {
         'bulhyemik check canyon.txt'
     ask 'Which grids are they, and where do they lie?' \
         'bulhyemik grids canyon.txt'
-    ask 'Is the node file long enough? For each grid: its values, and how many of them are no data or beyond the limit.' \
+    ask 'Is the node file long enough? For each grid: its values, and how many of them are no data.' \
         'bulhyemik check canyon.txt canyon.nodes'
     ask 'Is the header written back byte for byte? (cmp prints nothing if so.)' \
         'bulhyemik format canyon.txt >written && cmp written canyon.txt'
@@ -115,6 +127,25 @@ demo() {
         'bulhyemik hole pacific.txt -648000000 648000000 -61200000 -61200000'
     ask 'What if both had rank 1? As written they lie far apart.' \
         "sed '/sea/s/2\\(.52\\)\$/1\\1/' pacific.txt | bulhyemik check -"
+
+    printf '\n%s\n' 'World: heights of a made-up geoid in metres, one grid of one degree round the whole earth.'
+    ask 'Its 65,341 nodes are made by a formula. Are they those of the header, and does each have a value?' \
+        'world >world.nodes && bulhyemik check world.txt world.nodes'
+    ask 'Where does it lie? Just a turn wide: its first and its last column are the same meridian.' \
+        'bulhyemik grids world.txt'
+    ask 'Is there a place on the earth that it does not hold?' \
+        'bulhyemik hole world.txt -648000000 648000000 -324000000 324000000'
+    ask 'Half a degree to both sides of the 180 degree meridian, on it, both poles, a node, the canyon, and beyond the north pole.' \
+        'bulhyemik lookup world.txt world.nodes <world.points'
+    ask 'The lowest node and the canyon in degrees and metres. A step is 2 to the power -20 metre, about a micrometre.' \
+        'tail -3 world.points | head -2 | bulhyemik screen world.txt world.nodes'
+    ask '10,000 positions round the whole earth, half a degree north of the equator: does their log pass?' \
+        "awk 'BEGIN { for (k = 0; k < 10000; k++) print 129600 * k - 648000000 \"\\t1800000\\t0\" }' >track
+  bulhyemik lookup world.txt world.nodes <track | bulhyemik judge world.txt world.nodes -"
+    ask 'What does a float of 100 metres load as?' \
+        "printf '\\000\\000\\310\\102' >hundred && bulhyemik load hundred loaded 20 && od -A n -t d4 loaded"
+    ask 'And one of -2048 metres? In steps that is the number of the no-data mark, which only no data becomes.' \
+        "printf '\\000\\000\\000\\305' >deep && bulhyemik load deep loaded 20"
 }
 
 demo >transcript

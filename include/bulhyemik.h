@@ -7,11 +7,12 @@
  *   steps: one step is 2 to the power -Q of the group's unit. Days are plain numbers. Ramp factors are millionths.
  *
  * Limits
- *   longitude of points and areas +-648,000,000          latitude +-324,000,000   node value +-4,000,000, or the no-data mark
+ *   longitude of points and areas +-648,000,000          latitude +-324,000,000
  *   longitude of a grid's edges +-1,296,000,000          width of a grid at most 1,296,000,000, a whole turn
  *   day, A, B +-1,000,000   S0, S1 +-10,000,000          NI, NJ 2 to 16,384      rank 1 to 1,000
- *   DLON, DLAT 1 to 1,000,000 in size, not 0             ramps 0 to 8            grids 1 to 64
+ *   DLON, DLAT 1 to 36,000,000 in size, not 0            ramps 0 to 8            grids 1 to 64
  *   START 0 to 16,777,215   Q 0 to 20   NP 1 to 3        name 1 to 24 bytes of A to Z, a to z, 0 to 9, `_`, `-`
+ *   node value +-2,147,483,647, or the no-data mark      from which follow results of a lookup of at most +-171,798,691,760
  *
  * What every function has in common
  * - It returns the number of the refusal, BULHYEMIK_ACCEPTED (0) if the call is accepted, and writes the refusal's place to
@@ -27,8 +28,8 @@
  * - It keeps no memory, allocates none and has no state; calls may run at once on different threads. It needs at most 96 KiB
  *   of stack.
  * - bulhyemik_screen_answer and bulhyemik_screen_record want the processor to round to nearest, as it does unless fesetround
- *   was called: otherwise degrees, and shifts of results beyond 2 to the power 53, can differ in the last bit. No other call
- *   minds the rounding mode, and none minds flush-to-zero.
+ *   was called: otherwise degrees, and shifts of results beyond 2 to the power 53, which no lookup has, can differ in the last
+ *   bit. No other call minds the rounding mode, and none minds flush-to-zero.
  *
  * docs/RULES.md says how a header text is written, how each answer is worked out, and when each refusal comes.
  *
@@ -49,7 +50,7 @@ extern "C" {
 
 /* The version of this page: major * 1,000,000 + minor * 1,000 + patch; bulhyemik_version answers the library's. An added call
  * raises the minor number; a changed struct, limit or meaning raises the major one. */
-#define BULHYEMIK_VERSION 2000000
+#define BULHYEMIK_VERSION 3000000
 
 /* The library takes the bytes of a name eight at a time, the first as the lowest of a number. */
 #if defined(__BYTE_ORDER__) && defined(__ORDER_LITTLE_ENDIAN__)
@@ -71,7 +72,7 @@ enum bulhyemik_refusal {
     BULHYEMIK_NO_DATA = 8,     /* a used corner is the no-data mark, any parameter; 0 */
     BULHYEMIK_BAD_DAY = 9,     /* day outside the limit; 0 */
     BULHYEMIK_BAD_AREA = 10,   /* area: a side outside the limits, west above east or south above north; 0 */
-    BULHYEMIK_BAD_NODE = 11,   /* node or float beyond 4,000,000 steps; loading: first position, from 1; else 0 */
+    BULHYEMIK_BAD_NODE = 11,   /* loading: a float is infinite or rounds beyond +-2,147,483,647 steps; first position, from 1 */
     BULHYEMIK_BAD_LENGTH = 12, /* lent output too short (writing) or of another length (loading, many points); 0 */
     BULHYEMIK_FEW_NODES = 13   /* node list ends before some grid's range does; lowest such grid */
 };
@@ -93,11 +94,11 @@ enum bulhyemik_size {
     BULHYEMIK_MOST_RAMPS = 8,       /* ramps of a group, used or not */
     BULHYEMIK_MOST_GRIDS = 64,      /* grids of a group, used or not */
     BULHYEMIK_MOST_PARAMETERS = 3,  /* results of a lookup, used or not */
-    BULHYEMIK_HEADER_BYTES = 16384, /* holds every header of this and later versions (proved today: at most 6,604 bytes) */
-    BULHYEMIK_LOG_LINE_BYTES = 128  /* holds every log line that this and later versions write (proved today: at most 93 bytes) */
+    BULHYEMIK_HEADER_BYTES = 16384, /* holds every header of this and later versions (proved today: at most 6,732 bytes) */
+    BULHYEMIK_LOG_LINE_BYTES = 128  /* holds every log line of this and later versions (proved today: at most 102 bytes) */
 };
 
-/* The no-data mark of a node list. */
+/* The no-data mark of a node list; every other number is a value. */
 #define BULHYEMIK_MARK INT32_MIN
 
 /* A ramp of the day factor: `s0` at and before day `a`, `s1` at and after day `b`, in a straight line between them; on a day
@@ -138,7 +139,7 @@ typedef struct {
 /* What a lookup finds. */
 typedef struct {
     int64_t grid;                              /* number of the chosen grid, from 1 */
-    int64_t result[BULHYEMIK_MOST_PARAMETERS]; /* in steps; a missing parameter is 0 */
+    int64_t result[BULHYEMIK_MOST_PARAMETERS]; /* in steps, at most +-171,798,691,760; a missing parameter is 0 */
 } bulhyemik_fix;
 
 /* A point on a day: one of many that are looked up at once, or that of a log's line. */
@@ -149,7 +150,7 @@ typedef struct {
 
 /* The answer to one point of many: what bulhyemik_lookup returns, its place, and what it finds. */
 typedef struct {
-    uint64_t number;   /* the point's own refusal, 6, 7, 8, 9 or 11, or 0 */
+    uint64_t number;   /* the point's own refusal, 6, 7, 8 or 9, or 0 */
     uint64_t place;    /* 0, since none of these names one */
     bulhyemik_fix fix; /* zeros beside a refusal */
 } bulhyemik_answer;
@@ -342,10 +343,11 @@ void bulhyemik_field(const uint8_t *line, size_t line_len, uint64_t number, bulh
  * degrees holds the points from 179 to 180 degrees and those from -180 to -179.
  *
  * Units and limits: `lon` (+-648,000,000) and `lat` (+-324,000,000) are in mas, `day` is +-1,000,000; nodes and results are in
- * steps. A node list may be longer than every grid's range.
+ * steps. Every node that is not the no-data mark is a value; a result is at most +-171,798,691,760, the greatest value times the
+ * greatest factor of a day, 80, and a double holds it exactly. A node list may be longer than every grid's range.
  * Refusals, in this order: 2, 3, 4, 5 as of bulhyemik_judge; 6, then 9, at 0 if point or day is outside its limit; 13 at the
- * lowest grid whose range ends behind the node list; 7 at 0 if no grid holds the point; 8, then 11, at 0 if any parameter of a
- * used corner is the no-data mark, or is beyond +-4,000,000.
+ * lowest grid whose range ends behind the node list; 7 at 0 if no grid holds the point; 8 at 0 if any parameter of a used corner
+ * is the no-data mark.
  * Lent memory: `*group` and `nodes` are read; `*fix` is filled whole, with zeros after a refusal.
  *
  *     bulhyemik_fix fix;
@@ -361,7 +363,7 @@ uint64_t bulhyemik_lookup(const bulhyemik_group *group, const int32_t *nodes, si
  *
  * Units and limits: as of bulhyemik_lookup; there may be any number of points.
  * Refusals, in this order: 2, 3, 4, 5 as of bulhyemik_judge; 12 at 0 if results_len is not points_len; 13 at the lowest grid
- * whose range ends behind the node list. A point that is refused, by 6, 9, 7, 8 or 11 in this order, does not refuse the call.
+ * whose range ends behind the node list. A point that is refused, by 6, 9, 7 or 8 in this order, does not refuse the call.
  * Lent memory: `*group`, `nodes` and `points` are read; all of `results` is filled where the call is accepted, with zeros beside
  * the number of a refused point, and none of it after a refusal of the call.
  *
@@ -437,7 +439,7 @@ uint64_t bulhyemik_judge_log(const bulhyemik_group *group, const int32_t *nodes,
  * bulhyemik_judge_log, as does a log of such lines.
  *
  * Units and limits: as of bulhyemik_lookup; `*count` is in bytes, and no closing zero is written.
- * Refusals, in this order: 2, 3, 4, 5, 6, 9, 13, 7, 8, 11 as of bulhyemik_lookup; 12 at 0 if `out` is too short, which never
+ * Refusals, in this order: 2, 3, 4, 5, 6, 9, 13, 7, 8 as of bulhyemik_lookup; 12 at 0 if `out` is too short, which never
  * happens where out_len is BULHYEMIK_LOG_LINE_BYTES.
  * Lent memory: `*group`, `nodes` and `*position` are read; the first `*count` bytes of `out` become the line, the rest stays;
  * after a refusal all of it stays and `*count` is 0.
@@ -455,9 +457,10 @@ uint64_t bulhyemik_write_log_line(const bulhyemik_group *group, const int32_t *n
 /* Loads floats in units as nodes in steps: each float times 2 to the power `quantum`, to the nearest, ties to even. NaN, and
  * floats of the same bits as `flag`, become the no-data mark; with NaN for `flag` these are the NaN alone.
  *
- * Units and limits: floats are in the group's unit, nodes in steps; `quantum` is Q, 0 to 20.
+ * Units and limits: floats are in the group's unit, nodes in steps, +-2,147,483,647; `quantum` is Q, 0 to 20.
  * Refusals, in this order: 2 at 0 if `quantum` is outside its limit; 12 at 0 if nodes_len is not floats_len; 11 at the position,
- * from 1, of the first float that is infinite or rounds beyond +-4,000,000 and does not become the mark.
+ * from 1, of the first float that is infinite or rounds beyond +-2,147,483,647 and does not become the mark. So is one that
+ * rounds to -2,147,483,648: no number becomes the mark by its size.
  * Lent memory: `floats` is read; all of `nodes` is filled where the call is accepted, none of it after a refusal.
  *
  *     static const float floats[3] = {0.5f, 1.5f, -9999.0f};

@@ -30,7 +30,7 @@ from pathlib import Path
 
 # The library's version that brought the limits and the youngest calls of this module: an older one lacks them, a later
 # one has them, until the major number changes.
-NEEDED = 2000000
+NEEDED = 3000000
 
 (ACCEPTED, BAD_FORM, BAD_NUMBER, SAME_NAME, BAD_EXTENT, SAME_RANK, BAD_POINT, NO_GRID, NO_DATA, BAD_DAY, BAD_AREA,
  BAD_NODE, BAD_LENGTH, FEW_NODES) = range(14)
@@ -45,7 +45,7 @@ REASONS = {
     NO_DATA: "a used corner is the no-data mark",
     BAD_DAY: "day outside the limit",
     BAD_AREA: "a side outside the limits, west above east or south above north",
-    BAD_NODE: "node or float beyond 4,000,000 steps",
+    BAD_NODE: "a float is infinite or rounds beyond 2,147,483,647 steps",
     BAD_LENGTH: "lent output of another length",
     FEW_NODES: "node list ends before the grid's range does",
 }

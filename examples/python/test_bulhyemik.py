@@ -154,14 +154,14 @@ class Interface(Case):
             spec.loader.exec_module(second)
 
     def test_library_of_another_version(self):
-        for version in (0, 1004000, 1999999, 3000000, 3004000):
+        for version in (0, 1004000, 2000000, 2999999, 4000000, 4004000):
             with self.assertRaisesRegex(ImportError, f"version {version}.*BULHYEMIK_SHARED_LIBRARY"):
                 self.load(lambda path: mock.Mock(bulhyemik_version=mock.Mock(return_value=version)))
-        for version in (2000000, 2000005, 2001000, 2999999):
+        for version in (3000000, 3000005, 3001000, 3999999):
             self.load(lambda path: mock.Mock(bulhyemik_version=mock.Mock(return_value=version)))
 
     def test_library_that_is_none(self):
-        for named in ("/nowhere/libbulhyemik.so.2", __file__, str(HERE)):
+        for named in ("/nowhere/libbulhyemik.so.3", __file__, str(HERE)):
             with mock.patch.dict("os.environ", BULHYEMIK_SHARED_LIBRARY=named):
                 with self.assertRaisesRegex(ImportError, "name its file in BULHYEMIK_SHARED_LIBRARY"):
                     self.load(ctypes.CDLL)
@@ -189,7 +189,7 @@ class Groups(Case):
                  for number in range(1, 65)]
         ramps = ["ramp\t-1000000\t-10000000\t1000000\t10000000\n"] * 8
         full = "".join([f"group\t{name}\tarc-second\t20\t3\t8\t64\n", *ramps, *grids])
-        examples = [(EXAMPLES / f"{each}.txt").read_bytes() for each in ("canyon", "harbour", "pacific")]
+        examples = [(EXAMPLES / f"{each}.txt").read_bytes() for each in ("canyon", "harbour", "pacific", "world")]
         for text in (DOCK, full.encode(), *examples):
             self.assertEqual(text, Group(text).text())
         self.assertEqual((name, 8, 64), (Group(full).name, len(Group(full).ramps), len(Group(full).grids)))
@@ -311,6 +311,18 @@ class Lookups(Case):
                          [single(pacific, point) for point in points_of("pacific")])
         self.assertEqual(-179.5, pacific.screen(-646200000, -60300000, 0).longitude)
 
+    def test_greatest_values(self):
+        dock = Model(Group(DOCK), [2147483647, -2147483647, 0, -2147483647, 2147483647, 0])
+        for point, result in [((0, 0), 2147483647), ((10, 0), -2147483647), ((5, 0), 0), ((1, 0), 1717986918),
+                              ((5, 5), 0), ((1, 1), 1374389534)]:
+            self.assertEqual((result,), dock.lookup(*point, 200).results)
+        ramps = "ramp\t0\t10000000\t0\t10000000\n" * 8
+        wide = "grid\twide\t-648000000\t-324000000\t36000000\t36000000\t37\t19\t1\t0\n"
+        for value in (2147483647, -2147483647):
+            model = Model(Group(f"group\tg\tmetre\t20\t1\t8\t1\n{ramps}{wide}"), [value] * 703)
+            shown = model.screen(-647999999, 17999999, 0)
+            self.assertEqual(((80 * value,), (80 * value / 2**20,)), (shown.fix.results, shown.shifts))
+
     def test_screen(self):
         self.assertEqual((5 / 3600000, 5 / 3600000, Fix(1, "basin", (55,)), (55 / 8192,)), self.dock.screen(5, 5, 200))
         shown = example("canyon").screen(27720000, 143880000, 0)
@@ -319,13 +331,13 @@ class Lookups(Case):
 
     def test_refused_and_wrong(self):
         few = Model(Group(DOCK), DOCK_NODES[:5])
-        far = Model(Group(DOCK), [4000001, MARK, 0, 0, 0, 0])
+        marked = Model(Group(DOCK), [0, MARK, 0, 0, 0, 0])
         for model, number, place, point in [
             (self.dock, 6, 0, (648000001, 0, 0)), (self.dock, 6, 0, (0, -324000001, HUGE)),
             (self.dock, 6, 0, (HUGE, 0, 0)), (self.dock, 6, 0, (0, -HUGE, 0)), (self.dock, 6, 0, (2**64, 0, 0)),
             (self.dock, 9, 0, (0, 0, 1000001)), (self.dock, 9, 0, (0, 0, -2**64)), (self.dock, 7, 0, (21, 10, 0)),
             (few, 13, 1, (0, 0, 0)), (few, 6, 0, (HUGE, 0, 0)), (Model(Group(DOCK), []), 13, 1, (0, 0, 0)),
-            (far, 11, 0, (0, 0, 0)), (far, 8, 0, (1, 0, 0)),
+            (marked, 8, 0, (1, 0, 0)),
         ]:
             for call in (model.lookup, model.screen):
                 self.assertRefused(number, place, call, *point)
@@ -401,6 +413,8 @@ class Nodes(Case):
         self.assertEqual(array("i", [0, 2, MARK]), load_nodes([0.5, 1.5, -9999.0], 0, -9999.0))
         self.assertEqual(array("i", [MARK, 8192, 0, 0]), load_nodes((math.nan, 1, 0.0, -0.0), 13))
         self.assertEqual(array("i"), load_nodes([], 0))
+        self.assertEqual(array("i", [104857600, 0]), load_nodes([100.0, 2.0**-21], 20))
+        self.assertEqual(array("i", [2147483520, -2147483520]), load_nodes([2147483520.0, -2147483520.0], 0))
         raw = (EXAMPLES / "canyon.floats").read_bytes()
         for floats in (raw, bytearray(raw), array("f", raw), memoryview(raw).cast("f"), list(array("f", raw)),
                        (ctypes.c_float * 54).from_buffer_copy(raw)):
@@ -411,6 +425,9 @@ class Nodes(Case):
         self.assertRefused(2, 0, load_nodes, [0.5], -HUGE)
         self.assertRefused(11, 2, load_nodes, [0.5, math.inf], 0)
         self.assertRefused(11, 3, load_nodes, [0, 0, 1e300, 0], 0)
+        self.assertRefused(11, 2, load_nodes, [0, 2147483648.0], 0)
+        self.assertRefused(11, 1, load_nodes, [-2048.0], 20)  # its steps are the mark's number
+        self.assertEqual(array("i", [2**31 - 128, 128 - 2**31]), load_nodes([2.0**31 - 128, 128 - 2.0**31], 0))
         self.assertEqual(array("i", [0, MARK]), load_nodes([0.5, math.inf], 0, math.inf))
         for floats in (None, 5, "1.5", ["1"], [None], [1j], array("d", [1.5]), array("i", [1]), object()):
             self.assertRaises(TypeError, load_nodes, floats, 0)
@@ -592,9 +609,9 @@ class Logs(Case):
     def test_the_longest_line(self):
         ramps = "ramp\t-1000000\t10000000\t1000000\t0\n" * 8
         text = f"group\tlong\tmetre\t0\t3\t8\t1\n{ramps}grid\t{'N' * 24}\t-648000000\t-324000000\t1\t1\t2\t2\t1\t0\n"
-        model = Model(Group(text), [-4000000] * 12)
+        model = Model(Group(text), [-2147483647] * 12)
         line = model.log_line(-648000000, -324000000, -1000000)
-        self.assertEqual((93, None), (len(line), model.judge_log(line)))
+        self.assertEqual((102, None), (len(line), model.judge_log(line)))
 
     def test_what_is_written_passes(self):
         for model, seed in ((self.harbour, 5), (example("canyon"), 6)):
@@ -635,10 +652,10 @@ class Logs(Case):
         few = Model(Group(DOCK), DOCK_NODES[:5])
         for log in (b"", self.GOOD, b"\n"):
             self.assertRefused(13, 1, few.judge_log, log)
-        far = Model(Group(DOCK), [4000001, MARK, 0, 0, 0, 0])
+        marked = Model(Group(DOCK), [0, MARK, 0, 0, 0, 0])
         for model, number, place, point in [
             (self.dock, 6, 0, (HUGE, 0, 0)), (self.dock, 6, 0, (0, -324000001, HUGE)), (self.dock, 9, 0, (0, 0, -HUGE)),
-            (few, 13, 1, (21, 0, 0)), (self.dock, 7, 0, (21, 10, 0)), (far, 8, 0, (1, 0, 0)), (far, 11, 0, (0, 0, 0)),
+            (few, 13, 1, (21, 0, 0)), (self.dock, 7, 0, (21, 10, 0)), (marked, 8, 0, (1, 0, 0)),
         ]:
             self.assertRefused(number, place, model.log_line, *point)
         for log in (None, 5, 1.5, [102], object(), self.dock):

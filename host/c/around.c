@@ -24,7 +24,8 @@ static void expect(int holds, const char *what) {
     }
 }
 
-/* The greatest header: 8 ramps and 64 grids, one of them at (0, 0) with the spacing 1000. */
+/* The greatest header: 8 ramps and 64 grids, the best at (0, 0) with the spacing 1000, the last one coarse; and nodes with which
+ * sums pass one word there. */
 static char text[BULHYEMIK_HEADER_BYTES];
 static size_t text_len;
 static int32_t nodes[16384];
@@ -34,11 +35,14 @@ static void make_inputs(void) {
     char *end = text + sprintf(text, "group\tlargest\tmetre\t10\t3\t8\t64\n");
     for (k = 0; k < 8; k++)
         end += sprintf(end, "ramp\t%d\t%d\t%d\t777\n", k, -100000 * k, 200 + k);
-    for (k = 0; k < 64; k++)
-        end += sprintf(end, "grid\tgrid-%d\t%d\t%d\t1000\t1000\t%d\t7\t%d\t%d\n", k, k, k, 5 + k % 7, k + 1, k * 200);
+    for (k = 0; k < 64; k++) {
+        int spacing = k < 63 ? 1000 : 36000000;
+        end += sprintf(end, "grid\tgrid-%d\t%d\t%d\t%d\t%d\t%d\t7\t%d\t%d\n", k, k, k, spacing, spacing, 5 + k % 7, k + 1,
+                       k * 200);
+    }
     text_len = (size_t)(end - text);
     for (k = 0; k < 16384; k++)
-        nodes[k] = k * 7919 % 8000001 - 4000000;
+        nodes[k] = (int32_t)(k * (int64_t)1640531527 % 4294967295 - 2147483647);
 }
 
 /* All that the calls answer for one input. */

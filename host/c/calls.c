@@ -223,7 +223,7 @@ static void lookup(void) {
     lookup_refused(&group, nodes, 6, inside, BULHYEMIK_NO_DATA, 0);
     EXPECT(bulhyemik_lookup(&group, nodes, 6, 0, 5, 200, &fix, &place) == BULHYEMIK_ACCEPTED && fix.result[0] == 50);
     nodes[1] = 4000001;
-    lookup_refused(&group, nodes, 6, inside, BULHYEMIK_BAD_NODE, 0);
+    EXPECT(bulhyemik_lookup(&group, nodes, 6, 1, 5, 200, &fix, &place) == BULHYEMIK_ACCEPTED && fix.result[0] == 200051);
     group.grid[0].rank = 0;
     lookup_refused(&group, NODES, 6, inside, BULHYEMIK_BAD_NUMBER, 3);
 }
@@ -495,7 +495,7 @@ static void line_refused(const bulhyemik_group *group, const int32_t *nodes, siz
 /* The line of a point in a group of the greatest numbers is the longest of all. */
 static void longest_line(void) {
     static const char line[] =
-        "fix\t-648000000\t-324000000\t-1000000\tABCDEFGHIJKLMNOPQRSTUVWX\t-320000000\t-320000000\t-320000000\n";
+        "fix\t-648000000\t-324000000\t-1000000\tABCDEFGHIJKLMNOPQRSTUVWX\t-171798691760\t-171798691760\t-171798691760\n";
     static int32_t nodes[12];
     bulhyemik_group group = dock();
     bulhyemik_position at = position(-648000000, -324000000, -1000000);
@@ -511,13 +511,13 @@ static void longest_line(void) {
     put_grid(&group.grid[0], "ABCDEFGHIJKLMNOPQRSTUVWX", at.lon, 2, 1);
     group.grid[0].lat = at.lat;
     for (k = 0; k < 12; k++)
-        nodes[k] = -4000000;
+        nodes[k] = -2147483647;
     memset(out, 0xa5, sizeof out);
-    EXPECT(bulhyemik_write_log_line(&group, nodes, 12, &at, out, 92, &count, &place) == BULHYEMIK_BAD_LENGTH);
+    EXPECT(bulhyemik_write_log_line(&group, nodes, 12, &at, out, 101, &count, &place) == BULHYEMIK_BAD_LENGTH);
     EXPECT(count == 0 && place == 0 && all(out, sizeof out, 0xa5));
-    EXPECT(bulhyemik_write_log_line(&group, nodes, 12, &at, out, 93, &count, &place) == BULHYEMIK_ACCEPTED);
-    EXPECT(count == 93 && place == 0 && strlen(line) == 93 && memcmp(out, line, 93) == 0);
-    EXPECT(all(out + 93, sizeof out - 93, 0xa5));
+    EXPECT(bulhyemik_write_log_line(&group, nodes, 12, &at, out, 102, &count, &place) == BULHYEMIK_ACCEPTED);
+    EXPECT(count == 102 && place == 0 && strlen(line) == 102 && memcmp(out, line, 102) == 0);
+    EXPECT(all(out + 102, sizeof out - 102, 0xa5));
 }
 
 static void write_log_line(void) {
@@ -539,8 +539,6 @@ static void write_log_line(void) {
     line_refused(&group, NULL, 0, &inside, BULHYEMIK_FEW_NODES, 1);
     line_refused(&group, NODES, 6, &beside, BULHYEMIK_NO_GRID, 0);
     memcpy(nodes, NODES, sizeof nodes);
-    nodes[0] = 4000001;
-    line_refused(&group, nodes, 6, &inside, BULHYEMIK_BAD_NODE, 0);
     nodes[1] = BULHYEMIK_MARK;
     line_refused(&group, nodes, 6, &inside, BULHYEMIK_NO_DATA, 0);
     EXPECT(bulhyemik_write_log_line(&group, NODES, 6, &inside, NULL, 0, &count, &place) == BULHYEMIK_BAD_LENGTH && count == 0);
@@ -620,8 +618,52 @@ static void judge_turned(void) {
     EXPECT(bulhyemik_judge(&group, &place) == BULHYEMIK_ACCEPTED && place == 0);
 }
 
+/* The result in a cell of the greatest spacing with these corners. */
+static int64_t coarse(int64_t lon, int64_t lat, int32_t sw, int32_t se, int32_t nw, int32_t ne) {
+    bulhyemik_group group = dock();
+    bulhyemik_position at = position(lon, lat, 200);
+    bulhyemik_answer answer;
+    bulhyemik_fix fix;
+    uint64_t place = 77;
+    int32_t nodes[4];
+    nodes[0] = sw;
+    nodes[1] = se;
+    nodes[2] = nw;
+    nodes[3] = ne;
+    group.grid[0].dlon = group.grid[0].dlat = 36000000;
+    group.grid[0].ni = 2;
+    EXPECT(bulhyemik_lookup(&group, nodes, 4, lon, lat, 200, &fix, &place) == BULHYEMIK_ACCEPTED && place == 0);
+    EXPECT(bulhyemik_lookup_many(&group, nodes, 4, &at, 1, &answer, 1, &place) == BULHYEMIK_ACCEPTED && answer.number == 0);
+    EXPECT(memcmp(&answer.fix, &fix, sizeof fix) == 0);
+    return fix.result[0];
+}
+
+/* Ten degrees from node to node, and the greatest values. */
+static void coarse_grids(void) {
+    const int32_t most = 2147483647;
+    bulhyemik_group group = dock();
+    uint64_t place = 77;
+    EXPECT(coarse(18000000, 18000000, most, most, most, most) == most);
+    EXPECT(coarse(18000000, 18000000, -most, -most, -most, -most) == -most);
+    EXPECT(coarse(18000000, 18000000, most, most, most, -most) == 1073741824);
+    EXPECT(coarse(18000000, 18000000, -most, most, -most, -most) == -1073741824);
+    EXPECT(coarse(18000000, 18000000, most, most, most - 1, most - 1) == most - 1);
+    EXPECT(coarse(1, 0, most, -most, BULHYEMIK_MARK, BULHYEMIK_MARK) == 2147483528);
+    EXPECT(coarse(36000000, 36000000, -most, BULHYEMIK_MARK, -most, most) == most);
+    group.grid[0].dlon = 36000000;
+    group.grid[0].dlat = -36000000;
+    EXPECT(bulhyemik_judge(&group, &place) == BULHYEMIK_ACCEPTED && place == 0);
+    group.grid[0].dlat = -36000001;
+    EXPECT(bulhyemik_judge(&group, &place) == BULHYEMIK_BAD_NUMBER && place == 3);
+    group.grid[0].dlat = 36000000;
+    group.grid[0].dlon = 36000001;
+    EXPECT(bulhyemik_judge(&group, &place) == BULHYEMIK_BAD_NUMBER && place == 3);
+}
+
 static void load_nodes(void) {
     static const float floats[3] = {0.5f, 1.5f, -9999.0f};
+    static const float greatest[2] = {2147483520.0f, -2147483520.0f}, beyond[2] = {0.0f, 2147483648.0f};
+    static const float mark[2] = {-2147483520.0f, -2147483648.0f};
     int32_t nodes[3];
     uint64_t place = 77;
     memset(nodes, 0xa5, sizeof nodes);
@@ -629,7 +671,13 @@ static void load_nodes(void) {
     EXPECT(bulhyemik_load_nodes(floats, 3, -9999.0f, 21, nodes, 3, &place) == BULHYEMIK_BAD_NUMBER && place == 0);
     EXPECT(bulhyemik_load_nodes(floats, 3, -9999.0f, 0, nodes, 2, &place) == BULHYEMIK_BAD_LENGTH && place == 0);
     EXPECT(bulhyemik_load_nodes(floats, 3, 0.0f, 20, nodes, 3, &place) == BULHYEMIK_BAD_NODE && place == 3);
+    EXPECT(bulhyemik_load_nodes(beyond, 2, 0.0f, 0, nodes, 2, &place) == BULHYEMIK_BAD_NODE && place == 2);
+    EXPECT(bulhyemik_load_nodes(mark, 2, 0.0f, 0, nodes, 2, &place) == BULHYEMIK_BAD_NODE && place == 2);
     EXPECT(all(nodes, sizeof nodes, 0xa5));
+    EXPECT(bulhyemik_load_nodes(greatest, 2, 0.0f, 0, nodes, 2, &place) == BULHYEMIK_ACCEPTED && place == 0);
+    EXPECT(nodes[0] == 2147483520 && nodes[1] == -2147483520);
+    EXPECT(bulhyemik_load_nodes(mark, 2, -2147483648.0f, 0, nodes, 2, &place) == BULHYEMIK_ACCEPTED);
+    EXPECT(nodes[0] == -2147483520 && nodes[1] == BULHYEMIK_MARK);
     EXPECT(bulhyemik_load_nodes(floats, 3, -9999.0f, 0, nodes, 3, &place) == BULHYEMIK_ACCEPTED && place == 0);
     EXPECT(nodes[0] == 0 && nodes[1] == 2 && nodes[2] == BULHYEMIK_MARK);
     place = 77;
@@ -662,6 +710,9 @@ static void screens(void) {
     EXPECT(bulhyemik_screen_record(3600000, -1800000, 0, 3, 0, 0, &fix, &screen, &place) == BULHYEMIK_ACCEPTED);
     EXPECT(place == 0 && same(screen.longitude, 1.0) && same(screen.latitude, -0.5));
     EXPECT(same(screen.shift[0], 55.0) && same(screen.shift[1], 56.0) && same(screen.shift[2], 57.0));
+    fix.result[0] = -171798691760;
+    EXPECT(bulhyemik_screen_answer(20, 1, 0, 0, &fix, shifts, &place) == BULHYEMIK_ACCEPTED);
+    EXPECT(same(shifts[0], 80.0 / 1048576.0 - 163840.0));
     for (number = 1; number <= 13; number++)
         screen_refused(13, 1, number, 7, number, 7);
     screen_refused(13, 1, 14, 7, BULHYEMIK_BAD_NUMBER, 0);
@@ -688,6 +739,7 @@ int main(void) {
     write_log_line();
     across_the_meridian();
     judge_turned();
+    coarse_grids();
     load_nodes();
     screens();
     printf("%d checks, %d failed\n", checks, failures);

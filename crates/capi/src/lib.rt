@@ -38,7 +38,7 @@ use nodes::Loaded;
 use screen::ScreenAnswer;
 
 // The version of the interface: major * 1,000,000 + minor * 1,000 + patch.
-const VERSION: u64 = 2000000;
+const VERSION: u64 = 3000000;
 
 // The numbers of an entry of a list of grids in force, where the entries begin, and the numbers of the list.
 const ENTRY_WORDS: usize = 3;
@@ -222,7 +222,7 @@ pub extern "C" fn bulhyemik_field(line: &[u8], number: u64, part: &mut [u64; 2])
     *part = [from as u64, to as u64];
 }
 
-// Looks a point in mas up on a day: refusals 2 to 5, then 6, 9, 13, 7, 8, 11.
+// Looks a point in mas up on a day: refusals 2 to 5, then 6, 9, 13, 7, 8.
 #[no_mangle]
 pub extern "C" fn bulhyemik_lookup(
     group: &[i64; GROUP_WORDS],

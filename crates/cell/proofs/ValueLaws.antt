@@ -1,5 +1,5 @@
 -- The value of a cell: at most half a step from the exact fraction, within the range of the used corners, blind to the others.
-use Prim.Native.Nat.{ℕ, _+_, _-_, _*_, _%_, _≤_, _<_}
+use Prim.Native.Nat.{ℕ, _+_, _-_, _*_, _%_, _^_, _≤_, _<_}
 use mathlib.Core.Path.{_≡_, refl, sym, ap, _∙_, subst}
 use mathlib.Core.Bool.{Bool, true, false, _&&_, _||_}
 use mathlib.Core.Logic.{inl, inr, ⊎-elim, _↔_}
@@ -7,6 +7,8 @@ use native.Mathlib.Nat.{mul-le-mul-left, mul-comm, mul-add, add-mul, mul-zero, z
 use native.Mathlib.Omega.{arith}
 use borrow.Author.Tests.{ltb-true, ltb-false, lt-ltb, leb-false, lt-leb, not-true, not-false}
 use lib.Dec.{T, ltb}
+use mir.Syntax.{w32}
+use mir.Val.{Fits}
 use lib.IntN.{ℤ, pos, negℤ, _+ℤ_, _-ℤ_, _*ℤ_, natAbs, zero-*ℤ}
 use lib.Signed.{leZ, _≤ℤ_, ≤ℤ-refl}
 use Rattle.numbers.specs.Round.{roundZ}
@@ -21,7 +23,7 @@ use Rattle.cell.specs.declared.Corners.{Corners}
 use Rattle.cell.specs.Cell.{used, usedSome, isBeyond, weightedSum, valueOf, weightsOf}
 use Rattle.cell.specs.Sizes.{Distances, Weighed}
 use Rattle.cell.specs.Used.{Unless, EachUsed, SomeUsed, SameUsed}
-use Rattle.cell.specs.Unsigned.{blended, valueShift, shiftedMost, Shifted}
+use Rattle.cell.specs.Unsigned.{summed, blended}
 use Rattle.cell.proofs.WeightLaws.{weighed}
 
 unless-map : {w : ℕ} {P Q : Type 0} → (P → Q) → Unless w P → Unless w Q
@@ -39,11 +41,11 @@ each-map {v} f a =
 
 -- ---- a test that no used corner passes
 
-or-false-left : (a b : Bool) → (a || b) ≡ false → a ≡ false
+pub or-false-left : (a b : Bool) → (a || b) ≡ false → a ≡ false
 or-false-left true b e = e
 or-false-left false b e = refl
 
-or-false-right : (a b : Bool) → (a || b) ≡ false → b ≡ false
+pub or-false-right : (a b : Bool) → (a || b) ≡ false → b ≡ false
 or-false-right true b e = absurd (let z : _≡_ {A = ℕ} 0 1 = cc in omega arith)
 or-false-right false b e = e
 
@@ -280,57 +282,28 @@ module _ {sx sy fx fy : ℕ} (p : Distances sx sy fx fy) (v : Corners) where
 
 -- shifted by an even number, the value of the cell is the blend of the shifted corners
 module _ {w : Weights} (p : Weighed w) where
-  value-shifted : {v : Corners} {a b c d : ℕ} (k : ℕ) → k % 2 ≡ 0 → Diff (v .v00) a k → Diff (v .v10) b k → Diff (v .v01) c k → Diff (v .v11) d k
+  pub value-shifted : {v : Corners} {a b c d : ℕ} (k : ℕ) → k % 2 ≡ 0 → Diff (v .v00) a k → Diff (v .v10) b k → Diff (v .v01) c k → Diff (v .v11) d k
       → Diff (valueOf w v) (blended w a b c d) k
   unfolding valueOf blended parts
   value-shifted {v} {a} {b} {c} {d} k ev ha hb hc hd =
       round-biased {a = parts w a b c d} (w .total) k (p .positive) ev
       (diff-as (sum-parts w {v = v} ha hb hc hd) (omega (arith, parts-one w p k)))
 
-  stood : (r : ℕ) → Diff (pos r -ℤ pos valueShift) r valueShift
-  stood r = diff-as (diff-- (diff-pos r) (diff-pos valueShift)) (omega arith)
+  -- a bound on the numbers bounds their sum and their blend
+  module _ (m : ℕ) {a b c d : ℕ} (ha : a ≤ m) (hb : b ≤ m) (hc : c ≤ m) (hd : d ≤ m) where
+    pub sum-most : summed w a b c d ≤ m * w .total
+    unfolding parts
+    sum-most =
+        let m0 = mul-le-mul-left (w .w00) ha in let m1 = mul-le-mul-left (w .w10) hb in
+        let m2 = mul-le-mul-left (w .w01) hc in let m3 = mul-le-mul-left (w .w11) hd in
+        omega (arith, parts-one w p m)
 
-  -- a corner and what stands for it
-  stand-in : (n : ℕ) (z : ℤ) (r : ℕ) → Unless n (natAbs z ≤ valueMost) → Shifted z r → Unless n (z ≡ pos r -ℤ pos valueShift)
-  stand-in n z r (inl e) s = inl e
-  stand-in n z r (inr h) s = inr (diff-one (diff-of z r valueShift (s .inside h)) (stood r))
+    pub blend-most : blended w a b c d ≤ m
+    unfolding blended
+    blend-most = nearest-le m _ (w .total) (p .positive) sum-most
 
-  -- from the shifted corners, used or not
-  pub value-from : (v : Corners) (a b c d : ℕ) → EachUsed (λ z. natAbs z ≤ valueMost) w v
-      → Shifted (v .v00) a → Shifted (v .v10) b → Shifted (v .v01) c → Shifted (v .v11) d
-      → Diff (valueOf w v) (blended w a b c d) valueShift
-  value-from v a b c d h sa sb sc sd =
-      let u : Corners =
-      record {
-        v00 = pos a -ℤ pos valueShift;
-        v10 = pos b -ℤ pos valueShift;
-        v01 = pos c -ℤ pos valueShift;
-        v11 = pos d -ℤ pos valueShift;
-      } in
-      subst (λ (z : ℤ). Diff z (blended w a b c d) valueShift)
-      (sym (value-same w v u
-      (record {
-        at00 = stand-in (w .w00) (v .v00) a (h .at00) sa;
-        at10 = stand-in (w .w10) (v .v10) b (h .at10) sb;
-        at01 = stand-in (w .w01) (v .v01) c (h .at01) sc;
-        at11 = stand-in (w .w11) (v .v11) d (h .at11) sd;
-      })))
-      (value-shifted {v = u} valueShift refl (stood a) (stood b) (stood c) (stood d))
-
--- ---- what the code's sums need
-
-pub record Sums (w : Weights) (a b c d : ℕ) : Type 0 where
-  pub total : w .w00 + w .w10 + w .w01 + w .w11 ≡ w .total
-  pub most : w .w00 * a + w .w10 * b + w .w01 * c + w .w11 * d ≤ shiftedMost * w .total
-
-module _ {w : Weights} (p : Weighed w) {a b c d : ℕ} (ha : a ≤ shiftedMost) (hb : b ≤ shiftedMost) (hc : c ≤ shiftedMost) (hd : d ≤ shiftedMost) where
-  pub sums : Sums w a b c d
-  sums =
-      let t = p .sum in
-      let m0 = mul-le-mul-left (w .w00) ha in let m1 = mul-le-mul-left (w .w10) hb in
-      let m2 = mul-le-mul-left (w .w01) hc in let m3 = mul-le-mul-left (w .w11) hd in
-      record { total = t; most = omega arith }
-
-  pub blend-most : blended w a b c d ≤ shiftedMost
-  unfolding blended
-  blend-most = nearest-le shiftedMost _ (w .total) (p .positive) (sums .most)
+  -- of four numbers of half a word
+  pub blend-half-word : {a b c d : ℕ} → Fits w32 a → Fits w32 b → Fits w32 c → Fits w32 d → blended w a b c d < 2 ^ 32
+  blend-half-word {a} {b} {c} {d} x y z u =
+      let m = blend-most 4294967295 {a = a} {b = b} {c = c} {d = d} (omega (arith, x)) (omega (arith, y)) (omega (arith, z)) (omega (arith, u)) in
+      omega arith

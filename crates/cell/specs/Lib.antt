@@ -3,3 +3,4 @@ pub mod Cell
 pub mod Sizes
 pub mod Used
 pub mod Unsigned
+pub mod Order6

@@ -1,24 +1,26 @@
 // The cell of a point along an axis, and the value of a cell at a point: the weighted mean of its used corners.
 ghost use mathlib.Core.Path.{_≡_};
-ghost use mathlib.Core.Bool.{false};
-ghost use Prim.Native.Nat.{_≤_, _<_};
+ghost use mathlib.Core.Bool.{true};
+ghost use Prim.Native.Nat.{_^_, _≤_, _<_};
+ghost use lib.IntN.{pos, _+ℤ_, natAbs};
 ghost use Rattle.group.specs.Numbers.{nodesLeast, isMark};
-ghost use Rattle.cell.specs.Cell.{cellAlong, weightsOf, isBeyond, usedSome, valueOf};
+ghost use Rattle.cell.specs.Cell.{cellAlong, weightsOf, usedSome, valueOf};
 ghost use Rattle.cell.specs.Sizes.{Distances, Weighed};
-ghost use Rattle.cell.specs.Unsigned.{blended, shiftedMost, Shifted};
+ghost use Rattle.cell.specs.Unsigned.{cornerShift, nearMost, nearTotal, cornersNear, summed, blended};
 use group::MARK;
-use group::VALUE_LEAST;
-use group::VALUE_MOST;
 
-// What is added to a node value, so that none is below 0: even, so that ties stay.
-const SHIFT: u64 = VALUE_MOST as u64 + VALUE_MOST as u64 % 2;
+// What is added to any corner, so that none is below 0: even, so that ties stay.
+const SHIFT: u64 = 2147483648;
 
-// The same for every 32-bit number, and the least and the greatest node value then.
-const HALF: u64 = 2147483648;
+// How far from 0 a corner may lie for the one-word way: even too.
+const NEAR_MOST: i32 = 4194304;
 
-const LIFTED_LEAST: u64 = HALF - SHIFT;
+const NEAR_LEAST: i32 = -NEAR_MOST;
 
-const LIFTED_MOST: u64 = HALF + SHIFT;
+const NEAR_SHIFT: u64 = NEAR_MOST as u64;
+
+// The greatest total for it: one more, and a sum might not fit 64 bits.
+pub const NEAR_TOTAL: u64 = 18446744073709551615 / (2 * NEAR_SHIFT);
 
 // The cell of a point along one axis: its index, from 0, and the distance from its node of lower index.
 pub struct Along {
@@ -88,44 +90,38 @@ pub fn used_marked(w: Weights, v: Corners) -> bool
         | ((0 < w.w11) & ((MARK <= v.v11) & (v.v11 <= MARK)))
 }
 
-// Whether a used corner holds a number beyond the limit of node values.
-pub fn used_beyond(w: Weights, v: Corners) -> bool
-    ensures { λ r. ⌜ r ≡ usedSome isBeyond w v ⌝ }
+// What a corner holds, shifted.
+fn shifted(v: i32) -> u32
+    ensures { λ r. ⌜ v +ℤ pos cornerShift ≡ pos r ⌝ }
 {
-    ((0 < w.w00) & !((VALUE_LEAST <= v.v00) & (v.v00 <= VALUE_MOST)))
-        | ((0 < w.w10) & !((VALUE_LEAST <= v.v10) & (v.v10 <= VALUE_MOST)))
-        | ((0 < w.w01) & !((VALUE_LEAST <= v.v01) & (v.v01 <= VALUE_MOST)))
-        | ((0 < w.w11) & !((VALUE_LEAST <= v.v11) & (v.v11 <= VALUE_MOST)))
+    numbers::lifted(v as i64, SHIFT) as u32
 }
 
-// A node value, shifted; for a number beyond their limit any number as small.
-fn shifted(v: i32) -> u64
-    ensures { λ r. ⌜ Shifted v r ⌝ }
-{
-    let r = numbers::lifted(v as i64, HALF);
-    if (r < LIFTED_LEAST) | (LIFTED_MOST < r) {
-        return SHIFT;
-    }
-    r - LIFTED_LEAST
-}
-
-// The weighted sum of four shifted numbers over the total, rounded.
-fn blend(w: Weights, a: u64, b: u64, c: u64, d: u64) -> u64
-    requires { ⌜ Weighed w ⌝ }
-    requires { ⌜ (a ≤ shiftedMost) × (b ≤ shiftedMost) × (c ≤ shiftedMost) × (d ≤ shiftedMost) ⌝ }
+// The weighted sum of four numbers over the total, rounded, where the sum fits one word.
+fn blend_one_word(w: Weights, a: u64, b: u64, c: u64, d: u64) -> u64
+    requires { ⌜ summed w a b c d < 2 ^ 64 ⌝ }
     ensures { λ r. ⌜ r ≡ blended w a b c d ⌝ }
 {
     let sum = w.w00 * a + w.w10 * b + w.w01 * c + w.w11 * d;
     numbers::nearest_even(sum, w.total)
 }
 
-// The value of a cell whose used corners hold node values, in steps.
-pub fn value_at(w: Weights, v: Corners) -> i64
+// The weighted sum of four shifted numbers over the total, rounded, by two-word numbers.
+fn blend_two_words(w: Weights, a: u32, b: u32, c: u32, d: u32) -> u64
     requires { ⌜ Weighed w ⌝ }
-    requires { ⌜ usedSome isBeyond w v ≡ false ⌝ }
+    ensures { λ r. ⌜ (r ≡ blended w a b c d) × (r < 2 ^ 32) ⌝ }
+{
+    let sum = pair::sum_of_products(w.w00, a, w.w10, b, w.w01, c, w.w11, d);
+    let q = pair::nearest_pair(sum, w.total);
+    q.low
+}
+
+// The value of a cell whatever its total and its corners, in steps: in two words.
+pub fn value_two_words(w: Weights, v: Corners) -> i64
+    requires { ⌜ Weighed w ⌝ }
     ensures { λ r. ⌜ r ≡ valueOf w v ⌝ }
 {
-    let q = blend(
+    let q = blend_two_words(
         w,
         shifted(v.v00),
         shifted(v.v10),
@@ -133,4 +129,37 @@ pub fn value_at(w: Weights, v: Corners) -> i64
         shifted(v.v11),
     );
     numbers::lowered(q, SHIFT)
+}
+
+// Whether every corner, used or not, lies so near 0 that the one-word way can take it. None then holds the mark.
+pub fn all_near(v: Corners) -> bool
+    ensures { λ r. ⌜ r ≡ cornersNear v ⌝ }
+{
+    ((NEAR_LEAST <= v.v00) & (v.v00 <= NEAR_MOST))
+        & ((NEAR_LEAST <= v.v10) & (v.v10 <= NEAR_MOST))
+        & ((NEAR_LEAST <= v.v01) & (v.v01 <= NEAR_MOST))
+        & ((NEAR_LEAST <= v.v11) & (v.v11 <= NEAR_MOST))
+}
+
+// What a corner near 0 holds, raised so that it is not below 0.
+fn raised_near(v: i32) -> u64
+    requires { ⌜ natAbs v ≤ nearMost ⌝ }
+    ensures { λ r. ⌜ v +ℤ pos nearMost ≡ pos r ⌝ }
+{
+    numbers::lifted(v as i64, NEAR_SHIFT)
+}
+
+// The value of a cell whose total is at most NEAR_TOTAL and whose corners lie near 0, in steps: in one word.
+pub fn value_one_word(w: Weights, v: Corners) -> i64
+    requires { ⌜ Weighed w × (w .total ≤ nearTotal) × (cornersNear v ≡ true) ⌝ }
+    ensures { λ r. ⌜ r ≡ valueOf w v ⌝ }
+{
+    let q = blend_one_word(
+        w,
+        raised_near(v.v00),
+        raised_near(v.v10),
+        raised_near(v.v01),
+        raised_near(v.v11),
+    );
+    numbers::lowered(q, NEAR_SHIFT)
 }

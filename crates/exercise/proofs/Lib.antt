@@ -8,3 +8,4 @@ pub mod CallLaws
 pub mod SmallLaws
 pub mod ColumnLaws
 pub mod Order1
+pub mod Order6

@@ -2,3 +2,4 @@
 pub mod Exercise
 pub mod Tables
 pub mod Order1
+pub mod Order6

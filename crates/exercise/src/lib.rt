@@ -191,7 +191,7 @@ fn counted(verdict: Verdict, points: usize) -> usize
     }
 }
 
-// The lookup of a point on the day of a scale, by the tables of an accepted call: refusal 6, 9, 7, 8 or 11, or the fix.
+// The lookup of a point on the day of a scale, by the tables of an accepted call: refusal 6, 9, 7 or 8, or the fix.
 fn look_ready(
     words: &[i64; GROUP_WORDS],
     tables: &[u64],

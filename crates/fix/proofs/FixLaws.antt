@@ -7,27 +7,25 @@ use mathlib.Core.Logic.{_↔_}
 use borrow.Author.Tests.{ltb-true}
 use lib.Dec.{ltb}
 use lib.IntN.{ℤ, pos}
+use lib.ListN.{getD}
 use Rattle.numbers.proofs.FirstLaws.{first-same, some-by, by-some}
 use Rattle.group.specs.Numbers.{isMark}
 use Rattle.group.specs.Refusals.{refuseIf}
 use Rattle.group.proofs.RefusalLaws.{if-here, if-past}
 use Rattle.cell.specs.Cell.{isBeyond, usedSome, valueOf}
 use Rattle.cell.specs.Used.{SomeUsed}
+use Rattle.cell.specs.Order6.{inWord}
 use Rattle.cell.proofs.ValueLaws.{used-some, some-used, some-same, value-same}
+use Rattle.cell.proofs.Order6.{used-either}
 use Rattle.day.specs.Day.{resultOf}
 use Rattle.fix.specs.declared.Offset.{Offset}
 use Rattle.fix.specs.declared.Lookup.the-variants as L
-use Rattle.fix.specs.Fix.{cellOf, cornersOf, cornerSome, valueIn, resultAt, fixIn, SameNodes}
+use Rattle.fix.specs.Fix.{cellOf, cornersAt, cornersOf, cornerSome, valueIn, resultAt, fixIn, SameNodes}
 
 module _ (l : Offset) (nodes : List ℤ) (factor : ℤ) (grid : ℕ) where
   pub fix-marked : cornerSome isMark l nodes ≡ true → fixIn l nodes factor grid ≡ L.Refused (record { number = 8; place = 0 })
   unfolding fixIn
   fix-marked e = if-here L.Refused (cornerSome isMark l nodes) 8 0 _ e
-
-  pub fix-beyond : cornerSome isMark l nodes ≡ false → cornerSome isBeyond l nodes ≡ true
-      → fixIn l nodes factor grid ≡ L.Refused (record { number = 11; place = 0 })
-  unfolding fixIn
-  fix-beyond e f = if-past L.Refused (cornerSome isMark l nodes) 8 0 _ e ∙ if-here L.Refused (cornerSome isBeyond l nodes) 11 0 _ f
 
   pub fix-found : cornerSome isMark l nodes ≡ false → cornerSome isBeyond l nodes ≡ false
       → fixIn l nodes factor grid
@@ -55,6 +53,13 @@ module _ (test : ℤ → Bool) (P : ℤ → Type 0) (tests : (z : ℤ) → (test
   some-corner q h u =
       some-by (λ q. usedSome test (cellOf l .weights) (cornersOf l nodes q)) (l .np) q h
       (some-used test P tests (cellOf l .weights) (cornersOf l nodes q) u)
+
+-- ---- where every node is a 32-bit number, a used corner is beyond the limit of node values only as the mark
+
+module _ (l : Offset) (nodes : List ℤ) (words : (k : ℕ) → inWord (getD nodes k (pos 0)) ≡ true) where
+  pub corner-words : (q : ℕ) → usedSome isMark (cellOf l .weights) (cornersOf l nodes q) ≡ usedSome isBeyond (cellOf l .weights) (cornersOf l nodes q)
+  unfolding cornersOf cornersAt
+  corner-words q = used-either (cellOf l .weights) (cornersOf l nodes q) (words _) (words _) (words _) (words _)
 
 -- ---- what the used corners don't hold changes nothing
 

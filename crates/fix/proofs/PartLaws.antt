@@ -21,15 +21,17 @@ use Rattle.group.specs.Numbers.{parametersMost, valueMost, mark, isMark, factor
 use Rattle.cell.specs.Cell.{used, isBeyond, usedSome, valueOf}
 use Rattle.cell.specs.Sizes.{Weighed}
 use Rattle.cell.specs.Used.{Unless, EachUsed}
+use Rattle.cell.specs.Unsigned.{cornersNear}
 use Rattle.cell.proofs.ValueLaws.{each-map, none-beyond}
+use Rattle.cell.proofs.NearLaws.{near-values}
 use Rattle.fix.specs.declared.Offset.{Offset}
 use Rattle.fix.specs.declared.Lookup.the-variants as L
 use Rattle.fix.specs.Fix.{cellOf, cornersOf, cornerSome, valueIn, resultAt, fixIn}
 use Rattle.fix.specs.Inside.{InsideGrid}
-use Rattle.fix.specs.Parts.{faultAt, refusedIn}
+use Rattle.fix.specs.Parts.{faultAt}
 use Rattle.day.specs.Day.{resultOf}
 use Rattle.fix.proofs.OffsetLaws.{cell-weighed, part-most}
-use Rattle.fix.proofs.FixLaws.{fix-marked, fix-beyond, fix-found}
+use Rattle.fix.proofs.FixLaws.{fix-marked, fix-found}
 
 -- ---- the mark is beyond the limit of node values
 
@@ -72,8 +74,11 @@ module _ (l : Offset) (nodes : List ℤ) (p : ℕ) where
     unfolding faultAt
     tested b g i = rw (lt-ltb p (l .np) k) (sym (g ∙ same) ∙ i)
 
-    pub weighed : {t : Bool} → t ≡ usedSome isBeyond w v → t ≡ false → Weighed w × (usedSome isBeyond w v ≡ false)
-    weighed g i = (subst Weighed (sym e) (cell-weighed h), sym g ∙ i)
+    pub marked : {t : Bool} → t ≡ usedSome isMark w v → t ≡ true → usedSome isMark (cellOf l .weights) (cornersOf l nodes p) ≡ true
+    marked g i = sym (λ j. usedSome isMark (e j) (f j)) ∙ sym g ∙ i
+
+    pub weighed : Weighed w
+    weighed = subst Weighed (sym e) (cell-weighed h)
 
     value : {z : ℤ} → SFits w64 z → z ≡ valueOf w v → toZ w64 (ofZ w64 z) ≡ valueIn l nodes p
     unfolding valueIn
@@ -85,6 +90,18 @@ module _ (l : Offset) (nodes : List ℤ) (p : ℕ) where
       subst (λ (x : ℤ). natAbs x ≤ valueMost) (sym (value s j)) (part-most h nodes p (sym (g ∙ same) ∙ i)),
       subst (λ (x : ℤ). natAbs x ≤ factorMost) (sym (toZ-ofZ w64 factor m)) n,
     )
+
+    -- corners near 0 hold node values
+    module _ (n : cornersNear v ≡ true) where
+      near-none : false ≡ usedSome isBeyond w v
+      near-none = sym (used-none isBeyond w v (near-values w v n))
+
+      pub near-sound : faultAt l nodes p ≡ false
+      near-sound = tested false near-none refl
+
+      pub near-sized : (factor : ℤ) {z : ℤ} → SFits w64 factor → natAbs factor ≤ factorMost → SFits w64 z → z ≡ valueOf w v
+          → (natAbs (toZ w64 (ofZ w64 z)) ≤ valueMost) × (natAbs (toZ w64 (ofZ w64 factor)) ≤ factorMost)
+      near-sized factor m k s j = sized factor m k near-none refl s j
 
     pub result : (factor : ℤ) {z r : ℤ} → SFits w64 factor → SFits w64 z → z ≡ valueOf w v → SFits w64 r
         → r ≡ resultOf (toZ w64 (ofZ w64 z)) (toZ w64 (ofZ w64 factor)) → toZ w64 (ofZ w64 r) ≡ resultAt l nodes factor p
@@ -101,17 +118,9 @@ module _ (l : Offset) (nodes : List ℤ) (factor : ℤ) (grid : ℕ) where
   abbrev markAt : ℕ → Bool
   markAt p = usedSome isMark (cellOf l .weights) (cornersOf l nodes p)
 
-  pub fix-fault : (p : ℕ) → faultAt l nodes p ≡ true → refusedIn l nodes ≡ fixIn l nodes factor grid
-  unfolding faultAt cornerSome refusedIn
-  fix-fault p e =
-      let l' = ltb-true p (l .np) (and-left (ltb p (l .np)) (beyondAt p) e) in
-      let b : cornerSome isBeyond l nodes ≡ true = some-by beyondAt (l .np) p l' (and-right (ltb p (l .np)) (beyondAt p) e) in
-      pick (cornerSome isMark l nodes) refl b
-    where
-      pick : (t : Bool) → cornerSome isMark l nodes ≡ t → cornerSome isBeyond l nodes ≡ true
-          → L.Refused (record { number = cond t 8 11; place = 0 }) ≡ fixIn l nodes factor grid
-      pick true h b = sym (fix-marked l nodes factor grid h)
-      pick false h b = sym (fix-beyond l nodes factor grid h b)
+  pub fix-refused : (p : ℕ) → p < l .np → markAt p ≡ true → L.Refused (record { number = 8; place = 0 }) ≡ fixIn l nodes factor grid
+  unfolding cornerSome
+  fix-refused p h e = sym (fix-marked l nodes factor grid (some-by markAt (l .np) p h e))
 
   -- no parameter has a fault
   module _ (most : l .np ≤ parametersMost) (e0 : faultAt l nodes 0 ≡ false) (e1 : faultAt l nodes 1 ≡ false) (e2 : faultAt l nodes 2 ≡ false) where

@@ -1,4 +1,4 @@
-// The fix of a point in the grid chosen for it, or refusal 8 or 11.
+// The fix of a point in the grid chosen for it, or refusal 8.
 use cell::Corners;
 use cell::Weights;
 use group::Refusal;
@@ -6,10 +6,11 @@ ghost use mathlib.Core.Path.{_≡_};
 ghost use Prim.Native.Nat.{_≤_, _<_};
 ghost use lib.IntN.{natAbs};
 ghost use lib.ListN.{length};
-ghost use Rattle.group.specs.Numbers.{isMark, factorMost};
-ghost use Rattle.fix.specs.Fix.{position, cellOf, cornersOf, cornerSome, fixIn};
+ghost use Rattle.group.specs.Numbers.{factorMost};
+ghost use Rattle.fix.specs.declared.Lookup.the-variants as L;
+ghost use Rattle.fix.specs.Fix.{position, cellOf, cornersOf, fixIn};
 ghost use Rattle.fix.specs.Inside.{InsideGrid, RangeListed};
-ghost use Rattle.fix.specs.Parts.{Begun, refusedIn};
+ghost use Rattle.fix.specs.Parts.{Begun};
 
 // A point in a grid: its distances in mas from node 0 and the spacing sizes, along parallel and meridian; the counts of nodes,
 // START and the count of parameters.
@@ -88,51 +89,26 @@ fn corners_at(l: Offset, nodes: &[i32], a: u64, p: u64) -> Corners
     }
 }
 
-// Whether a used corner of the point's cell holds the mark, any parameter.
-fn some_mark(l: Offset, w: Weights, a: u64, nodes: &[i32]) -> bool
-    requires { ⌜ Begun l (length (now nodes)) w a ⌝ }
-    ensures { λ r. ⌜ r ≡ cornerSome isMark l (now (nodes .entry)) ⌝ }
+// Refusal 8.
+fn no_data() -> Lookup
+    ensures { λ r. ⌜ r ≡ L.Refused (record { number = 8; place = 0 }) ⌝ }
 {
-    let np = l.np;
-    let mut p: u64 = 0;
-    while p < np {
-        let v = corners_at(l, nodes, a, p);
-        if cell::used_marked(w, v) {
-            return true;
-        }
-        p += 1;
-    }
-    false
-}
-
-// Which refusal a used corner that holds no node value has: 8 where one is the mark, else 11.
-fn refused(l: Offset, w: Weights, a: u64, nodes: &[i32]) -> Lookup
-    requires { ⌜ Begun l (length (now nodes)) w a ⌝ }
-    ensures { λ r. ⌜ r ≡ refusedIn l (now (nodes .entry)) ⌝ }
-{
-    if some_mark(l, w, a, nodes) {
-        return Lookup::Refused(Refusal {
-            number: 8,
-            place: 0,
-        });
-    }
     Lookup::Refused(Refusal {
-        number: 11,
+        number: 8,
         place: 0,
     })
 }
 
-// The fix of a point with the weights w of its cell's corners, whose node of lower indices stands at a. One parameter at a time, with
-// no loop and no call that is shared, so that each is compiled in its place.
-fn fix_from(l: Offset, w: Weights, a: u64, nodes: &[i32], factor: i64, grid: u64) -> Lookup
+// The fix of a point with the weights w of its cell's corners, whose node of lower indices stands at a, whatever these hold: in two words.
+fn fix_far(l: Offset, w: Weights, a: u64, nodes: &[i32], factor: i64, grid: u64) -> Lookup
     requires { ⌜ Begun l (length (now nodes)) w a × (0 < l .np) × (natAbs factor ≤ factorMost) ⌝ }
     ensures { λ r. ⌜ r ≡ fixIn l (now (nodes .entry)) factor grid ⌝ }
 {
     let u = corners_at(l, nodes, a, 0);
-    if cell::used_beyond(w, u) {
-        return refused(l, w, a, nodes);
+    if cell::used_marked(w, u) {
+        return no_data();
     }
-    let first = day::result_of(cell::value_at(w, u), factor);
+    let first = day::result_of(cell::value_two_words(w, u), factor);
     if l.np <= 1 {
         return Lookup::Fix(Fix {
             grid: grid,
@@ -142,10 +118,10 @@ fn fix_from(l: Offset, w: Weights, a: u64, nodes: &[i32], factor: i64, grid: u64
         });
     }
     let v = corners_at(l, nodes, a, 1);
-    if cell::used_beyond(w, v) {
-        return refused(l, w, a, nodes);
+    if cell::used_marked(w, v) {
+        return no_data();
     }
-    let second = day::result_of(cell::value_at(w, v), factor);
+    let second = day::result_of(cell::value_two_words(w, v), factor);
     if l.np <= 2 {
         return Lookup::Fix(Fix {
             grid: grid,
@@ -155,10 +131,65 @@ fn fix_from(l: Offset, w: Weights, a: u64, nodes: &[i32], factor: i64, grid: u64
         });
     }
     let t = corners_at(l, nodes, a, 2);
-    if cell::used_beyond(w, t) {
-        return refused(l, w, a, nodes);
+    if cell::used_marked(w, t) {
+        return no_data();
     }
-    let third = day::result_of(cell::value_at(w, t), factor);
+    let third = day::result_of(cell::value_two_words(w, t), factor);
+    Lookup::Fix(Fix {
+        grid: grid,
+        first: first,
+        second: second,
+        third: third,
+    })
+}
+
+// The fix of a point with the weights w of its cell's corners, whose node of lower indices stands at a: in one word as long as the total
+// and the corners of each parameter allow it, else by `fix_far`. One parameter at a time, with no loop and no call that is shared, so that each is
+// compiled in its place; `fix_far` is lent copies, so that what they are copied from stays in registers.
+fn fix_from(l: Offset, w: Weights, a: u64, nodes: &[i32], factor: i64, grid: u64) -> Lookup
+    requires { ⌜ Begun l (length (now nodes)) w a × (0 < l .np) × (natAbs factor ≤ factorMost) ⌝ }
+    ensures { λ r. ⌜ r ≡ fixIn l (now (nodes .entry)) factor grid ⌝ }
+{
+    let u = corners_at(l, nodes, a, 0);
+    if (cell::NEAR_TOTAL < w.total) | !cell::all_near(u) {
+        let m = l;
+        let x = w;
+        let n = nodes;
+        return fix_far(m, x, a, n, factor, grid);
+    }
+    let first = day::result_of(cell::value_one_word(w, u), factor);
+    if l.np <= 1 {
+        return Lookup::Fix(Fix {
+            grid: grid,
+            first: first,
+            second: 0,
+            third: 0,
+        });
+    }
+    let v = corners_at(l, nodes, a, 1);
+    if !cell::all_near(v) {
+        let m = l;
+        let x = w;
+        let n = nodes;
+        return fix_far(m, x, a, n, factor, grid);
+    }
+    let second = day::result_of(cell::value_one_word(w, v), factor);
+    if l.np <= 2 {
+        return Lookup::Fix(Fix {
+            grid: grid,
+            first: first,
+            second: second,
+            third: 0,
+        });
+    }
+    let t = corners_at(l, nodes, a, 2);
+    if !cell::all_near(t) {
+        let m = l;
+        let x = w;
+        let n = nodes;
+        return fix_far(m, x, a, n, factor, grid);
+    }
+    let third = day::result_of(cell::value_one_word(w, t), factor);
     Lookup::Fix(Fix {
         grid: grid,
         first: first,
@@ -168,7 +199,7 @@ fn fix_from(l: Offset, w: Weights, a: u64, nodes: &[i32], factor: i64, grid: u64
 }
 
 // The fix of a point in the grid of a number, from 1, with the day factor in millionths: refusal 8 where a used corner is the
-// mark, else 11 where one is beyond the limit of node values, else the results. Each corner is read once; the mark is beyond that limit too.
+// mark, else the results. No 32-bit number but the mark is beyond the limit of node values, so 11 never comes.
 pub fn fix_in(l: Offset, nodes: &[i32], factor: i64, grid: u64) -> Lookup
     requires { ⌜ InsideGrid l × RangeListed l (length (now nodes)) × (natAbs factor ≤ factorMost) ⌝ }
     ensures { λ r. ⌜ r ≡ fixIn l (now (nodes .entry)) factor grid ⌝ }

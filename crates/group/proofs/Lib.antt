@@ -3,3 +3,4 @@ pub mod LimitLaws
 pub mod BlankLaws
 pub mod RefusalLaws
 pub mod LayoutLaws
+pub mod Order6

@@ -4,3 +4,4 @@ pub mod Record
 pub mod Limits
 pub mod Refusals
 pub mod Blank
+pub mod Order6

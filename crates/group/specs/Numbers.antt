@@ -68,7 +68,7 @@ gridsMost = 64
 
 -- the size of a spacing
 abbrev pub spacingMost : ℕ
-spacingMost = 1000000
+spacingMost = 36000000
 
 -- nodes along an axis
 abbrev pub nodesLeast : ℕ
@@ -91,7 +91,7 @@ listMost = suc startMost
 -- ---- what a node holds, in steps
 
 abbrev pub valueMost : ℕ
-valueMost = 4000000
+valueMost = 2147483647
 
 -- the no-data mark
 abbrev pub mark : ℤ

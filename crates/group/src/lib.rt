@@ -52,7 +52,7 @@ pub const RAMPS_MOST: usize = 8;
 pub const GRIDS_MOST: usize = 64;
 
 // The size of a spacing, in mas.
-pub const SPACING_MOST: i64 = 1000000;
+pub const SPACING_MOST: i64 = 36000000;
 
 pub const SPACING_LEAST: i64 = -SPACING_MOST;
 
@@ -69,9 +69,7 @@ pub const START_MOST: u64 = 16777215;
 pub const LIST_MOST: u64 = START_MOST + 1;
 
 // What a node holds, in steps: a value, or the no-data mark.
-pub const VALUE_MOST: i32 = 4000000;
-
-pub const VALUE_LEAST: i32 = -VALUE_MOST;
+pub const VALUE_MOST: i32 = 2147483647;
 
 pub const MARK: i32 = -2147483648;
 

@@ -1,4 +1,4 @@
--- How long the text of an accepted group can be: at most 6604 bytes.
+-- How long the text of an accepted group can be: at most 6732 bytes.
 use Prim.Native.Nat.{ℕ, suc, _+_, _*_, _<_, _≤_}
 use mathlib.Core.Path.{_≡_, sym, subst}
 use mathlib.Core.Bool.{true}
@@ -72,7 +72,7 @@ ramp-length r e =
     let q = line-length rampKeyword (map intText (rampInts r)) in
     omega arith
 
-grid-length : (g : Grid) → gridFits g ≡ true → length (gridText g) < 97
+grid-length : (g : Grid) → gridFits g ≡ true → length (gridText g) < 99
 grid-length g e =
     let l = grid-numbers g e in
     let s = origin-sizes (g .lon .0) (g .lat .0) (g .dlon) (g .dlat) (l .0) in
@@ -81,8 +81,8 @@ grid-length g e =
     let u₀ = u .0 .0 in let u₁ = u .1 .0 in let u₂ = u .2 .0 in let u₃ = u .3 .0 in
     let a = intText-length 9 (g .lon .0) (omega arith) in
     let b = intText-length 8 (g .lat .0) (omega arith) in
-    let c = intText-length 6 (g .dlon) (omega arith) in
-    let d = intText-length 6 (g .dlat) (omega arith) in
+    let c = intText-length 7 (g .dlon) (omega arith) in
+    let d = intText-length 7 (g .dlat) (omega arith) in
     let a′ = posText-length 4 (g .ni) (omega arith) in
     let b′ = posText-length 4 (g .nj) (omega arith) in
     let c′ = posText-length 3 (g .rank) (omega arith) in
@@ -117,12 +117,12 @@ module _ (g : Group) (e : judged g ≡ Accepted) where
   pub grids-wide : Wide (g .grid) (g .grids)
   grids-wide = record { most = accepted-head g e .grids; names = λ k l. name-len (gridAt g k .name) (grid-name (gridAt g k) (accepted g e .grid k l)) .1 }
 
-  pub length-most : length (headerText g) ≤ 6604
+  pub length-most : length (headerText g) ≤ 6732
   unfolding headerText
   length-most =
       let h = head-length (headOfGroup g) (head-parts .0) (head-parts .1) in
       let r = taken-length rampText blankRamp 43 (g .ramps) (g .ramp) (λ k l. ramp-length (rampAt g k) (accepted g e .ramp k l)) in
-      let d = taken-length gridText noGrid 97 (g .grids) (g .grid) (λ k l. grid-length (gridAt g k) (accepted g e .grid k l)) in
+      let d = taken-length gridText noGrid 99 (g .grids) (g .grid) (λ k l. grid-length (gridAt g k) (accepted g e .grid k l)) in
       let m = accepted-head g e .ramps in let n = accepted-head g e .grids in
       let x = length-take (g .ramps) (g .ramp) in
       let y = length-take (g .grids) (g .grid) in

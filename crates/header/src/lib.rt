@@ -311,7 +311,7 @@ fn write_judged(verdict: Verdict, group: Group, out: &mut [u8]) -> Written
     if let Verdict::Refused(refusal) = verdict {
         return Written::Refused(refusal);
     }
-    let mut bytes = [0u8; 6604];
+    let mut bytes = [0u8; 6732];
     let n = put_group(group, &mut bytes);
     if out.len() < n {
         return Written::Refused(Refusal {
@@ -331,7 +331,7 @@ pub fn write_words(words: &[i64; GROUP_WORDS], out: &mut [u8]) -> Written
     write_judged(judge::judge_words(words), abi::group_of_words(words), out)
 }
 
-// Writes a group as header text and answers the count of bytes, at most 6604; what stands behind them stays. A group that isn't
+// Writes a group as header text and answers the count of bytes, at most 6732; what stands behind them stays. A group that isn't
 // accepted is refused by 2 to 5, then an output that is too short by 12; nothing is written then.
 pub fn write_header(group: Group, out: &mut [u8]) -> Written
     ensures answer { λ r. ⌜ r ≡ written group (length (now (out .entry))) ⌝ }

@@ -1,4 +1,4 @@
--- What an accepted lookup of a position says of the sizes of its numbers, and how long its line can then be: at most 93 bytes.
+-- What an accepted lookup of a position says of the sizes of its numbers, and how long its line can then be: at most 102 bytes.
 use Prim.Native.Nat.{ℕ, zero, suc, _*_, _-_, _≤_}
 use mathlib.Core.Path.{_≡_, sym, subst}
 use mathlib.Core.List.{List, [], _∷_, map}
@@ -58,15 +58,15 @@ name-most g p f w =
     let d = gridAt g (f .grid - 1) in
     name-len (d .name) (grid-name d (accepted g (w .accepted) .grid (f .grid - 1) (omega arith))) .1
 
--- n numbers of at most nine digits, each with its tab
-numbers-length : (r : ℕ → ℤ) → ((q : ℕ) → natAbs (r q) ≤ resultMost) → (n : ℕ) → lengths (map intText (listOf r n)) ≤ n * 11
+-- n numbers of at most twelve digits, each with its tab
+numbers-length : (r : ℕ → ℤ) → ((q : ℕ) → natAbs (r q) ≤ resultMost) → (n : ℕ) → lengths (map intText (listOf r n)) ≤ n * 14
 unfolding listOf
 numbers-length r h zero = omega arith
 numbers-length r h (suc n) =
     let s = h 0 in
-    let a = intText-length 8 (r 0) (omega arith) in
+    let a = intText-length 11 (r 0) (omega arith) in
     let b = numbers-length (λ q. r (suc q)) (λ q. h (suc q)) n in
-    omega (arith, suc-mul n 11)
+    omega (arith, suc-mul n 14)
 
 pub text-most : (g : Group) (p : Position) (f : Fix) → FixFound g p f → length (lineText g p f) ≤ lineMost
 unfolding lineText

@@ -12,3 +12,4 @@ pub mod KindLaws
 pub mod FaultLaws
 pub mod OwnLaws
 pub mod Order4
+pub mod Order6

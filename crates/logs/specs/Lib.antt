@@ -4,3 +4,4 @@ pub mod Log
 pub mod Writing
 pub mod Reading
 pub mod Order4
+pub mod Order6

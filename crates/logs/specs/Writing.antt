@@ -30,7 +30,7 @@ lineText g p f = entryText (entryFound g p f) ++ (10 ∷ [])
 
 -- it has at most so many bytes
 abbrev pub lineMost : ℕ
-lineMost = 93
+lineMost = 102
 
 -- the bytes of a lookup's line, none beside a refusal
 abbrev pub foundText : Group → Position → Lookup → List ℕ

@@ -74,7 +74,7 @@ const PLACE: usize = 3;
 const SHIFTS: usize = group::PARAMETERS_MOST as usize;
 
 // The most bytes of a written line.
-const LINE_MOST: usize = 93;
+const LINE_MOST: usize = 102;
 
 // Reads as many fields of a cut line as there is room for, from field `first` on, as numbers: whether each is one.
 fn read_numbers(line: &[u8], cuts: &[usize; CUTS], first: usize, numbers: &mut [i64]) -> bool
@@ -168,7 +168,7 @@ fn kind_of(words: &[i64; GROUP_WORDS], found: Lookup, name: &[u8], shifts: &[i64
     0
 }
 
-// The lookup of a point on the day of a scale, by the tables of an accepted call: refusal 6, 9, 7, 8 or 11, or the fix.
+// The lookup of a point on the day of a scale, by the tables of an accepted call: refusal 6, 9, 7 or 8, or the fix.
 fn look_at(
     words: &[i64; GROUP_WORDS],
     tables: &[u64],
@@ -369,7 +369,7 @@ pub fn line_words(
     }
 }
 
-// Writes the one line of a position, `fix` LON LAT DAY GRID V1 .. VNP with its line feed, and answers the count of bytes, at most 93;
+// Writes the one line of a position, `fix` LON LAT DAY GRID V1 .. VNP with its line feed, and answers the count of bytes, at most 102;
 // what stands behind them stays. Refused as the lookup is, then by 12 if the output is too short; nothing is written then. Under the
 // same group and nodes the line passes `judge_log`.
 pub fn write_log_line(group: Group, nodes: &[i32], position: Position, out: &mut [u8]) -> Written

@@ -14,3 +14,4 @@ pub mod SameLaws
 pub mod Demand2
 pub mod Order5
 pub mod AnswerLaws
+pub mod Order6

@@ -4,3 +4,4 @@ pub mod Answer
 pub mod Flat
 pub mod Demand2
 pub mod Order5
+pub mod Order6

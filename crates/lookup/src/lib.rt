@@ -163,7 +163,7 @@ pub fn fix_held(
 }
 
 // The lookup of one point (x, y), given as distances in mas from the zeros of longitude and latitude, in an accepted group of which
-// the flat lists are made once, for many points: refusal 7, 8 or 11, or the fix. The rectangles stand in the order of their owners'
+// the flat lists are made once, for many points: refusal 7 or 8, or the fix. The rectangles stand in the order of their owners'
 // ranks, best first: the owner of the first that holds the point is chosen; a grid may own several, one for each turn.
 pub fn look_ranked(
     rows: &[u64],
@@ -228,7 +228,7 @@ pub fn factor_on(numbers: &[i64], ramps: u64, day: i64) -> i64
 }
 
 // The lookup in an accepted group, whose flat lists are these, of a point and a day within the limits, with every node range within the
-// list: refusal 7, 8 or 11, or the fix.
+// list: refusal 7 or 8, or the fix.
 fn look_in(
     words: &[i64; GROUP_WORDS],
     sides: &[u64],
@@ -267,7 +267,7 @@ pub fn judge_nodes(words: &[i64; GROUP_WORDS], frames: &[u64], nodes: usize) -> 
     Verdict::Accepted
 }
 
-// The lookup in an accepted group, whose flat lists are these: refusal 6, 9, 13, 7, 8 or 11, or the fix.
+// The lookup in an accepted group, whose flat lists are these: refusal 6, 9, 13, 7 or 8, or the fix.
 fn look_accepted(
     words: &[i64; GROUP_WORDS],
     sides: &[u64],
@@ -315,8 +315,8 @@ pub fn look_words(words: &[i64; GROUP_WORDS], nodes: &[i32], point: Point, day: 
 
 // What a group says of a point on a day: the number of the chosen grid and its results in steps, or the first refusal of 2 to 5
 // (the group), 6 (the point is outside the limits), 9 (the day is), 13 (the node list ends before some grid's range does), 7 (no
-// grid holds the point), 8 (a used corner is the mark) and 11 (one is beyond ±VALUE_MOST). With document 01's grid `basin`, no ramps
-// and the nodes 0 10 20 / 100 110 120, the point (5, 5) on any day answers grid 1 and 55, 0, 0.
+// grid holds the point) and 8 (a used corner is the mark). With document 01's grid `basin`, no ramps and the nodes
+// 0 10 20 / 100 110 120, the point (5, 5) on any day answers grid 1 and 55, 0, 0.
 pub fn lookup(group: Group, nodes: &[i32], point: Point, day: i64) -> Lookup
     ensures { λ r. ⌜ r ≡ looked group (now (nodes .entry)) point day ⌝ }
 {

@@ -10,3 +10,4 @@ pub mod Plain
 pub mod Blocks
 pub mod TableLaws
 pub mod Demand2
+pub mod Order6

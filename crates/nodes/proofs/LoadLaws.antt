@@ -75,21 +75,27 @@ pub record Case : Type 0 where
 abbrev case : ℕ → ℕ → ℕ → Loaded → ℤ → Case
 case q f b r z = record { quantum = q; flag = f; bits = b; answer = r; node = z }
 
--- a NaN as the flag; 0.5, 1.5, -1.5, -0; 4,000,000, 4,000,000.5, 4,000,000.75; infinity, a NaN, the least float; a flag -0 and +0, a flag infinity
+-- a NaN as the flag; 0.5, 1.5, -1.5, -0, 4,000,000.5; 2,147,483,520, below zero too, and the next floats, ±2,147,483,648; the same over 2^20; infinity, a
+-- NaN, the least float; a flag -0 and +0, a flag infinity, a flag -2,147,483,648
 pub table : List Case
 table = case 0 0x7fc0_0000 0x3f00_0000 Done (pos 0)
     ∷ case 0 0x7fc0_0000 0x3fc0_0000 Done (pos 2)
     ∷ case 0 0x7fc0_0000 0xbfc0_0000 Done (negsuc 1)
     ∷ case 0 0x7fc0_0000 0x8000_0000 Done (pos 0)
-    ∷ case 0 0x7fc0_0000 0x4a74_2400 Done (pos 4000000)
     ∷ case 0 0x7fc0_0000 0x4a74_2402 Done (pos 4000000)
-    ∷ case 0 0x7fc0_0000 0x4a74_2403 (Refused (refusal 11 1)) (pos 7)
+    ∷ case 0 0x7fc0_0000 0x4eff_ffff Done (pos 2147483520)
+    ∷ case 0 0x7fc0_0000 0xceff_ffff Done (negsuc 2147483519)
+    ∷ case 0 0x7fc0_0000 0x4f00_0000 (Refused (refusal 11 1)) (pos 7)
+    ∷ case 0 0x7fc0_0000 0xcf00_0000 (Refused (refusal 11 1)) (pos 7)
+    ∷ case 20 0x7fc0_0000 0x44ff_ffff Done (pos 2147483520)
+    ∷ case 20 0x7fc0_0000 0xc500_0000 (Refused (refusal 11 1)) (pos 7)
     ∷ case 20 0x7fc0_0000 0x7f80_0000 (Refused (refusal 11 1)) (pos 7)
     ∷ case 20 0x7fc0_0000 0x7fc0_0001 Done mark
     ∷ case 20 0x7fc0_0000 0x0000_0001 Done (pos 0)
     ∷ case 3 0x8000_0000 0x0000_0000 Done (pos 0)
     ∷ case 3 0x8000_0000 0x8000_0000 Done mark
     ∷ case 3 0x7f80_0000 0x7f80_0000 Done mark
+    ∷ case 0 0xcf00_0000 0xcf00_0000 Done mark
     ∷ case 21 0x7fc0_0000 0x3f00_0000 (Refused (refusal 2 0)) (pos 7)
     ∷ []
 

@@ -3,9 +3,9 @@ use mathlib.Core.Path.{_≡_, refl, sym, ap, _∙_, subst}
 use mathlib.Core.Bool.{Bool, true, false, not, cond, _&&_, _||_}
 use mathlib.Core.Logic.{_⊎_, inl, inr}
 use Prim.Native.Nat.{ℕ, suc, _+_, _-_, _*_, _/_, _%_, _^_, _≤_, _<_}
-use native.Mathlib.Nat.{mul-assoc, mul-comm, mul-left-comm, mul-le-mul-right, le-of-mul-le-mul-right, le-trans, le-of-eq, suc-mul}
+use native.Mathlib.Nat.{mul-assoc, mul-comm, mul-left-comm, mul-le-mul-right, le-of-mul-le-mul-right, le-trans, le-of-eq}
 use native.Mathlib.Omega.{arith}
-use lib.Dec.{ltb, leb}
+use lib.Dec.{ltb, leb, lit≤}
 use lib.IntN.{ℤ, natAbs}
 use lib.Pow.{pow-pos, pow-add}
 use lib.Ieee.{Float, nan, inf, fin, binary32, up, down, isNan, fits, ofFields, ofBits, odd, le, lt, eq, ne, neg}
@@ -13,9 +13,8 @@ use lib.Ieee.Exact.{HasValue, odd-sign}
 use lib.Ieee.Fits.{down-pos}
 use lib.Ieee.Order.{transfer}
 use borrow.Author.Tests.{ltb-true, eqb-true, ne-eqb, lt-leb, le-leb}
-use Rattle.numbers.specs.Round.{nearest}
 use Rattle.numbers.proofs.Bools.{and-left, and-right, or-none, true-false, untrue}
-use Rattle.numbers.proofs.Nearest.{nearest-near, three-ways}
+use Rattle.numbers.proofs.Nearest.{nearest-le}
 use Rattle.numbers.proofs.OrderLaws.{within-test}
 use Rattle.group.specs.Numbers.{quantumMost, valueMost}
 use Rattle.nodes.specs.Load.{infinite, marks, steps, refusedFloat}
@@ -24,41 +23,30 @@ use Rattle.nodes.proofs.Signed.{size-rounded}
 use Rattle.nodes.proofs.Marks.{ne-nan}
 use Rattle.nodes.proofs.LoadLaws.{marks-only}
 
--- what is at most half a step above an even number rounds to no more
-nearest-half : (b n d : ℕ) → 0 < d → b % 2 ≡ 0 → 2 * n ≤ 2 * (b * d) + d → nearest n d ≤ b
-nearest-half b n d h e l =
-    let a = nearest-near n d h in
-    let x = a .above in
-    let s = suc-mul b d in
-    three-ways (nearest n d) (suc b) (λ p. omega arith)
-    (λ p.
-    let m : nearest n d * d ≡ suc b * d = ap (λ (k : ℕ). k * d) p in
-    let y = a .even-above (omega arith) in
-    absurd (omega arith))
-    (λ p. let m : suc (suc b) * d ≤ nearest n d * d = mul-le-mul-right d p in let t = suc-mul (suc b) d in absurd (omega arith))
-
--- the greatest float that is loaded, as a fraction: 4,000,000.5 / 2^q
-greatest-value : (q : ℕ) → q ≤ quantumMost → HasValue (greatest q) false (16000002 * 2 ^ (147 - q)) (2 ^ 149)
+-- the greatest float that is loaded, as a fraction: 2,147,483,520 / 2^q
+greatest-value : (q : ℕ) → q ≤ quantumMost → HasValue (greatest q) false (16777215 * 2 ^ (156 - q)) (2 ^ 149)
 unfolding greatest ofBits
 greatest-value q h =
     let b = greatestBits - q * 8388608 in
-    let x : b % 2147483648 / 8388608 ≡ suc (147 - q) = omega arith in
-    let t : b % 8388608 ≡ 7611394 = omega arith in
+    let x : b % 2147483648 / 8388608 ≡ suc (156 - q) = omega arith in
+    let t : b % 8388608 ≡ 8388607 = omega arith in
     let s : leb 2147483648 b ≡ false = lt-leb 2147483648 b (omega arith) in
-    subst (λ (r : Float). HasValue r false (16000002 * 2 ^ (147 - q)) (2 ^ 149))
+    subst (λ (r : Float). HasValue r false (16777215 * 2 ^ (156 - q)) (2 ^ 149))
     (sym (ap (λ (k : Bool). ofFields binary32 k (b % 2147483648 / 8388608) (b % 8388608)) s
     ∙ ap (λ (k : ℕ). ofFields binary32 false k (b % 8388608)) x
-    ∙ ap (ofFields binary32 false (suc (147 - q))) t))
-    (some (147 - q) (omega arith))
+    ∙ ap (ofFields binary32 false (suc (156 - q))) t))
+    (some (156 - q) (omega arith))
   where
-    some : (k : ℕ) → k < 254 → HasValue (ofFields binary32 false (suc k) 7611394) false (16000002 * 2 ^ k) (2 ^ 149)
-    some k l = subst (λ (b : Bool). HasValue (cond b nan (odd 24 false 16000002 k 149)) false (16000002 * 2 ^ k) (2 ^ 149)) (sym (ne-eqb (suc k) 255 (λ e. omega arith))) (odd-sign 24 false 16000002 k 149)
+    some : (k : ℕ) → k < 254 → HasValue (ofFields binary32 false (suc k) 8388607) false (16777215 * 2 ^ k) (2 ^ 149)
+    some k l = subst (λ (b : Bool). HasValue (cond b nan (odd 24 false 16777215 k 149)) false (16777215 * 2 ^ k) (2 ^ 149)) (sym (ne-eqb (suc k) 255 (λ e. omega arith))) (odd-sign 24 false 16777215 k 149)
 
--- the same half, before division
-greatest-half : (q : ℕ) → q ≤ quantumMost → 2 * (16000002 * 2 ^ (147 - q) * 2 ^ q) ≡ (2 * valueMost + 1) * 2 ^ 149
-greatest-half q h =
-    let e : 147 - q + q ≡ 147 = omega arith in
-    ap (λ (k : ℕ). 2 * k) (mul-assoc 16000002 (2 ^ (147 - q)) (2 ^ q) ∙ ap (λ (k : ℕ). 16000002 * k) (sym (pow-add 2 (147 - q) q) ∙ ap (λ (k : ℕ). 2 ^ k) e))
+-- its steps are within the limit
+greatest-within : (q : ℕ) → q ≤ quantumMost → 16777215 * 2 ^ (156 - q) * 2 ^ q ≤ valueMost * 2 ^ 149
+greatest-within q h =
+    let e : 156 - q + q ≡ 156 = omega arith in
+    le-trans
+    (le-of-eq (mul-assoc 16777215 (2 ^ (156 - q)) (2 ^ q) ∙ ap (λ (k : ℕ). 16777215 * k) (sym (pow-add 2 (156 - q) q) ∙ ap (λ (k : ℕ). 2 ^ k) e)))
+    (lit≤ tt)
 
 or-le : (a b : ℕ) (t : Bool) → (t ≡ true → a ≤ b) → (ltb a b || t) ≡ true → a ≤ b
 or-le a b t f h = go (ltb a b) refl h
@@ -73,21 +61,23 @@ pub record Bounded (q : ℕ) (x : Float) : Type 0 where
   pub finite : infinite x ≡ false
   pub size : natAbs (steps q x) ≤ valueMost
 
--- a fraction that is no more than another one, times t and p
-scale : (t p m c a d k : ℕ) → 0 < c → m * c ≤ a * d → t * (a * p) ≡ k * c → t * (m * p) ≤ k * d
-scale t p m c a d k h l e =
-    let x : t * (m * p) * c ≡ m * c * (t * p) = simp (mul-assoc, mul-comm, mul-left-comm) in
-    let y : k * d * c ≡ a * d * (t * p) = simp (mul-assoc, mul-comm, mul-left-comm) (simp (mul-assoc, mul-comm) at (sym (ap (λ (z : ℕ). z * d) e))) in
-    le-of-mul-le-mul-right (le-trans (le-of-eq x) (le-trans (mul-le-mul-right (t * p) l) (le-of-eq (sym y)))) h
+-- a fraction that is no more than another one, times p
+scale : (p m c a d k : ℕ) → 0 < c → m * c ≤ a * d → a * p ≤ k * c → m * p ≤ k * d
+scale p m c a d k h l e =
+    let x : m * p * c ≡ m * c * p = simp (mul-assoc, mul-comm, mul-left-comm) in
+    let y : a * d * p ≡ a * p * d = simp (mul-assoc, mul-comm, mul-left-comm) in
+    let z : k * c * d ≡ k * d * c = simp (mul-assoc, mul-comm, mul-left-comm) in
+    le-of-mul-le-mul-right
+    (le-trans (le-of-eq x) (le-trans (mul-le-mul-right p l) (le-trans (le-of-eq y) (le-trans (mul-le-mul-right d e) (le-of-eq z))))) h
 
-module _ (q a c : ℕ) (h : 0 < c) (k : 2 * (a * 2 ^ q) ≡ (2 * valueMost + 1) * c) where
+module _ (q a c : ℕ) (h : 0 < c) (k : a * 2 ^ q ≤ valueMost * c) where
   -- a size that is no more than that of hi
   no-more : (s : Bool) (m n : ℕ) (e d : ℤ) → n * up d * c ≡ a * down d → m * up e * down d ≤ n * up d * down e → natAbs (steps q (fin s m e)) ≤ valueMost
   unfolding steps
   no-more s m n e d v l =
       let t : m * up e * c ≤ a * down e = transfer (m * up e) a (down e) c (m * up e) (n * up d) (down e) (down d) (down-pos e) (down-pos d) refl (sym v) l in
-      let r : 2 * (m * up e * 2 ^ q) ≤ (2 * valueMost + 1) * down e = scale 2 (2 ^ q) (m * up e) c a (down e) (2 * valueMost + 1) h t k in
-      subst (λ (z : ℕ). z ≤ valueMost) (sym (size-rounded s (m * up e * 2 ^ q) (down e))) (nearest-half valueMost (m * up e * 2 ^ q) (down e) (down-pos e) refl (omega arith))
+      let r : m * up e * 2 ^ q ≤ valueMost * down e = scale (2 ^ q) (m * up e) c a (down e) valueMost h t k in
+      subst (λ (z : ℕ). z ≤ valueMost) (sym (size-rounded s (m * up e * 2 ^ q) (down e))) (nearest-le valueMost (m * up e * 2 ^ q) (down e) (down-pos e) r)
 
   under : (hi x : Float) → HasValue hi false a c → (le (neg hi) x && le x hi) ≡ true → Bounded q x
   unfolding le lt eq neg isNan
@@ -111,7 +101,7 @@ module _ (q a c : ℕ) (h : 0 < c) (k : 2 * (a * 2 ^ q) ≡ (2 * valueMost + 1) 
 pub plain-bounded : (q : ℕ) (flag x : Float) → q ≤ quantumMost → plainFloat (greatest q) flag x ≡ true → Bounded q x
 unfolding plainFloat
 plain-bounded q flag x h p =
-    under q (16000002 * 2 ^ (147 - q)) (2 ^ 149) (pow-pos 149) (greatest-half q h) (greatest q) x (greatest-value q h) (and-left _ (ne x flag) p)
+    under q (16777215 * 2 ^ (156 - q)) (2 ^ 149) (pow-pos 149) (greatest-within q h) (greatest q) x (greatest-value q h) (and-left _ (ne x flag) p)
 
 -- a plain float is not refused, marked or not
 pub plain-passes : (q : ℕ) (flag x : Float) → q ≤ quantumMost → plainFloat (greatest q) flag x ≡ true → refusedFloat q flag x ≡ false

@@ -3,3 +3,4 @@ pub mod Load
 pub mod Size
 pub mod Plain
 pub mod Demand2
+pub mod Order6

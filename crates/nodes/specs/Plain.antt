@@ -8,9 +8,9 @@ use lib.ListN.{length, take, getD}
 use lib.Ieee.{Float, nan, binary32, ofBits, le, ne, neg}
 use Rattle.nodes.specs.Load.{refusedFloat, nodeOf}
 
--- the bits of the greatest float that is no more than the limit of node values when rounded: 4,000,000.5
+-- the bits of the greatest float that is no more than the limit of node values when rounded: 2,147,483,520
 abbrev pub greatestBits : ℕ
-greatestBits = 1249125378
+greatestBits = 1325400063
 
 -- that float over 2 to the power q: the greatest that is loaded
 unfoldable pub greatest : ℕ → Float

@@ -21,8 +21,8 @@ const SIZE_MOST: u64 = 2147483648;
 // The bit of a float's sign.
 const SIGN: u64 = 2147483648;
 
-// The bits of the greatest float that is no more than LIMIT when rounded: 4,000,000.5.
-const GREATEST: u32 = 1249125378;
+// The bits of the greatest float that is no more than LIMIT when rounded: 2,147,483,520.
+const GREATEST: u32 = 1325400063;
 
 // Floats that are looked at before it is asked whether one of them isn't plain.
 const BLOCK: usize = 64;

@@ -1,2 +1,2 @@
--- The laws of the least of three lengths.
-pub mod ShortestLaws
+-- The laws of lists that are rounded one by one.
+pub mod RoundedLaws

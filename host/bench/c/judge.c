@@ -53,8 +53,8 @@ int plain_ramp_within(const bulhyemik_ramp *r)
 
 int plain_grid_within(const bulhyemik_grid *g)
 {
-    return within(g->lon, TURN) && within(g->lat, LATITUDE) && within(g->dlon, 1000000) && g->dlon != 0 &&
-           within(g->dlat, 1000000) && g->dlat != 0 && between(g->ni, 2, 16384) && between(g->nj, 2, 16384) &&
+    return within(g->lon, TURN) && within(g->lat, LATITUDE) && within(g->dlon, SPACING) && g->dlon != 0 &&
+           within(g->dlat, SPACING) && g->dlat != 0 && between(g->ni, 2, 16384) && between(g->nj, 2, 16384) &&
            between(g->rank, 1, 1000) && between(g->start, 0, NODE_LIST - 1);
 }
 

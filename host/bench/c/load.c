@@ -13,6 +13,14 @@ static uint32_t bits(float x)
     return b;
 }
 
+/* The low word of a double's bits. */
+static uint32_t low_word(double x)
+{
+    uint64_t b;
+    memcpy(&b, &x, sizeof b);
+    return (uint32_t)b;
+}
+
 /* Whether a float of these bits is neither NaN nor the flag, and above the limit in size. Sizes of floats rise as their bits. */
 static int beyond(uint32_t b, uint32_t flag, uint32_t limit)
 {
@@ -39,8 +47,8 @@ static size_t first_beyond(const float *floats, size_t count, uint32_t flag, uin
 uint64_t plain_load_nodes(const float *floats, size_t floats_len, float flag, int64_t quantum,
                           int32_t *nodes, size_t nodes_len, uint64_t *place)
 {
-    /* Between 2^23 and 2^24 floats are whole numbers, so that adding this one rounds. */
-    const float whole = 12582912.0f;
+    /* Between 2^52 and 2^53 doubles are whole numbers, so that adding this one rounds. */
+    const double whole = 6755399441055744.0;
     uint32_t flagged = bits(flag);
     float steps;
     size_t k;
@@ -49,12 +57,12 @@ uint64_t plain_load_nodes(const float *floats, size_t floats_len, float flag, in
     if (floats_len != nodes_len)
         return refused(12, 0, place);
     steps = (float)(1 << quantum);
-    /* what rounds to 4,000,000 is at most 4,000,000.5, a tie; both this and its quotient are floats */
-    k = first_beyond(floats, floats_len, flagged, bits(4000000.5f / steps));
+    /* the greatest float below 2^31; above it none rounds to a node value. Its quotient is a float too */
+    k = first_beyond(floats, floats_len, flagged, bits(2147483520.0f / steps));
     if (k != 0)
         return refused(11, (int64_t)k, place);
     for (k = 0; k < floats_len; k++) {
-        uint32_t b = bits(floats[k]), node = bits(floats[k] * steps + whole) - bits(whole);
+        uint32_t b = bits(floats[k]), node = low_word((double)floats[k] * steps + whole);
         uint32_t marked = -(uint32_t)(((b & 0x7fffffff) > 0x7f800000) | (b == flagged));
         nodes[k] = (int32_t)((node & ~marked) | ((uint32_t)BULHYEMIK_MARK & marked));
     }

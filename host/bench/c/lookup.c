@@ -10,6 +10,24 @@ static int64_t nearest(int64_t n, int64_t d)
     return q + (2 * r + (q & 1) > d);
 }
 
+/* C99 has no number of 128 bits, gcc and clang have. */
+__extension__ typedef __int128 wide;
+
+/* The same of a sum that may not fit 64 bits; the quotient does, and so does the remainder, which the low words have. */
+static int64_t nearest_wide(wide n, int64_t d)
+{
+    int64_t q = (int64_t)(n / d), r = (int64_t)((uint64_t)n - (uint64_t)q * (uint64_t)d);
+    if (r < 0) {
+        q--;
+        r += d;
+    }
+    return q + (2 * r + (q & 1) > d);
+}
+
+/* With weights that add to at most this, every weighted sum of node values fits 64 bits. Fine grids are known by this one number,
+ * without a look at the corners; on others the sum has 128 bits, whatever the corners hold. */
+#define ONE_WORD ((int64_t)1 << 32)
+
 /* The sum of the ramps' factors on a day. */
 static int64_t factor(const bulhyemik_group *group, int64_t day)
 {
@@ -38,7 +56,7 @@ static int64_t cell(int64_t from, int64_t size, int64_t count, int64_t at, int64
     return index;
 }
 
-/* The results in a grid that holds the point, with the day's factor: 0, 8 or 11. */
+/* The results in a grid that holds the point, with the day's factor: 0 or 8. */
 static uint64_t results_in(const bulhyemik_grid *g, int64_t np, const int32_t *nodes, int64_t lon, int64_t lat, int64_t times,
                            int64_t *result)
 {
@@ -46,8 +64,9 @@ static uint64_t results_in(const bulhyemik_grid *g, int64_t np, const int32_t *n
     int64_t i = cell(g->lon, sx, g->ni, lon, &fx), j = cell(g->lat, sy, g->nj, lat, &fy), row = g->ni * np, c, p;
     const int32_t *first = nodes + g->start + (j * g->ni + i) * np;
     const int32_t *corner[4];
-    int64_t weight[4], sum[BULHYEMIK_MOST_PARAMETERS] = {0, 0, 0};
-    int mark = 0, beyond = 0;
+    int64_t weight[4], total = sx * sy, sum[BULHYEMIK_MOST_PARAMETERS] = {0, 0, 0};
+    wide wide_sum[BULHYEMIK_MOST_PARAMETERS] = {0, 0, 0};
+    int mark = 0;
     corner[0] = first, weight[0] = (sx - fx) * (sy - fy);
     corner[1] = first + np, weight[1] = fx * (sy - fy);
     corner[2] = first + row, weight[2] = (sx - fx) * fy;
@@ -57,18 +76,19 @@ static uint64_t results_in(const bulhyemik_grid *g, int64_t np, const int32_t *n
             continue;
         for (p = 0; p < np; p++) {
             int32_t value = corner[c][p];
-            if (value == BULHYEMIK_MARK)
-                mark = 1;
-            else if (!within(value, 4000000))
-                beyond = 1;
-            else
+            mark |= value == BULHYEMIK_MARK;
+            if (total <= ONE_WORD)
                 sum[p] += weight[c] * value;
+            else
+                wide_sum[p] += (wide)weight[c] * value;
         }
     }
-    if (mark || beyond)
-        return mark ? 8 : 11;
-    for (p = 0; p < np; p++)
-        result[p] = nearest(nearest(sum[p], sx * sy) * times, 1000000);
+    if (mark)
+        return 8;
+    for (p = 0; p < np; p++) {
+        int64_t value = total <= ONE_WORD ? nearest(sum[p], total) : nearest_wide(wide_sum[p], total);
+        result[p] = nearest(value * times, 1000000);
+    }
     return 0;
 }
 
@@ -117,8 +137,8 @@ static int64_t first_holder(const plain_lookups *ready, int64_t *lon, int64_t la
     return -1;
 }
 
-/* The results in the grid that was chosen for the point, at the grid's longitude, with the day's factor: 0, 7, 8 or 11, beside
- * which the fix is zeros. */
+/* The results in the grid that was chosen for the point, at the grid's longitude, with the day's factor: 0, 7 or 8, beside which
+ * the fix is zeros. */
 static uint64_t found(const bulhyemik_group *group, int64_t chosen, const int32_t *nodes, int64_t lon, int64_t lat,
                       int64_t times, bulhyemik_fix *fix)
 {

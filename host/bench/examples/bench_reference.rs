@@ -1,7 +1,9 @@
 //! `bench` of the second program against plain C and plain Rust: shows that the benchmark itself works.
 
+use bench::round::Round;
 use std::process::ExitCode;
 
 fn main() -> ExitCode {
-    bench::main(&reference::Reference, reference::round_each)
+    let round = Round { one_word: reference::round_each, two_words: reference::round_pairs };
+    bench::main(&reference::Reference, round)
 }

@@ -50,9 +50,18 @@ pub fn across(mut group: Group) -> Group {
     group
 }
 
+/// A group with every distance so many times as long.
+pub fn widened(mut group: Group, times: i64) -> Group {
+    for grid in &mut group.grid {
+        let distances = [&mut grid.lon, &mut grid.lat, &mut grid.dlon, &mut grid.dlat];
+        distances.into_iter().for_each(|distance| *distance *= times);
+    }
+    group
+}
+
 /// A group across the meridian with a grid that goes around the earth from its east side to its west side, so that an area of
 /// every longitude has no other holes than the group's bounds have. Of 64 grids it takes the place of the last. It is as short as
-/// spacings allow, and may end a few milliarcseconds within the bounds.
+/// spacings of a million allow, and may end a few milliarcseconds within the bounds.
 pub fn closed(mut group: Group) -> Group {
     if group.grids as usize == MOST_GRIDS {
         group.grids -= 1;

@@ -1,8 +1,11 @@
 //! The rows of the table: which work is done on which inputs.
 
-use crate::quotients::{Quotient, ramp_factor, result, value};
+use crate::quotients::{Quotient, ramp_factor, result, value, wide_value};
 use crate::work::{Row, Work};
-use crate::works::{Exercise, Hole, InForceEverywhere, Judge, JudgeLog, Load, Lookups, Read, Rounding, Write, nodes};
+use crate::works::{
+    Exercise, Hole, InForceEverywhere, Judge, JudgeLog, Load, Lookups, Read, Rounding, WideRounding, Write,
+    great_nodes, nodes,
+};
 use crate::{layouts, logs};
 use differ::Random;
 use interface::{Area, Grid, Group, HEADER_BYTES, MOST_RAMPS, Name, Position, Ramp, Timed};
@@ -41,6 +44,19 @@ fn one_grid() -> Group {
     record
 }
 
+/// The whole earth by degrees, else as the one grid.
+fn world() -> Group {
+    let mut record = one_grid();
+    let (lon, lat, spacing) = (-LONGITUDE, -LONGITUDE / 2, 3_600_000);
+    record.grid[0] = Grid { lon, lat, dlon: spacing, dlat: spacing, ni: 361, nj: 181, ..record.grid[0] };
+    record
+}
+
+/// The squares in squares, so wide that the greatest has a spacing of nine degrees.
+fn wide_nested() -> Group {
+    layouts::widened(layouts::nested(), 50_000)
+}
+
 /// A track of steps of this width to the east and less to the north, begun again at the edge of a square of 1,000 steps.
 fn track(count: i64, step: i64) -> Vec<Position> {
     let at = |k| Position { lon: k * step % (1_000 * step), lat: k * (step * 5 / 8) % (1_000 * step), day: k / 5 };
@@ -61,13 +77,20 @@ fn with_ramps(group: Group, ramps: bool) -> Group {
 #[derive(Clone, Copy)]
 struct Waters {
     group: fn() -> Group,
+    nodes: fn(&Group) -> Vec<i32>,
     west_and_south: i64,
     width: i64,
     step: i64,
 }
 
-const ONE_GRID: Waters = Waters { group: one_grid, west_and_south: 0, width: 3_596_400, step: 97 };
-const NESTED: Waters = Waters { group: layouts::nested, west_and_south: -630, width: 1_280, step: 1 };
+const ONE_GRID: Waters = Waters { group: one_grid, nodes, west_and_south: 0, width: 3_596_400, step: 97 };
+const NESTED: Waters = Waters { group: layouts::nested, nodes, west_and_south: -630, width: 1_280, step: 1 };
+
+/// Coarse waters, in which most sums pass one word.
+const WORLD: Waters =
+    Waters { group: world, nodes: great_nodes, west_and_south: -324_000_000, width: 648_000_000, step: 97_001 };
+const WIDE_NESTED: Waters =
+    Waters { group: wide_nested, nodes: great_nodes, west_and_south: -31_500_000, width: 64_000_000, step: 50_021 };
 
 /// Neighbouring points of one day.
 fn neighbours(waters: Waters, count: i64) -> Vec<Position> {
@@ -163,9 +186,22 @@ fn hole_across((name, layout): Layout) -> Row {
     })
 }
 
+/// Points looked up one by one in the grids of some waters.
+fn lookups(name: &str, repeats: u32, waters: Waters, points: impl Fn() -> Vec<Position> + 'static) -> Row {
+    row(name, repeats, move || {
+        let group = (waters.group)();
+        let nodes = (waters.nodes)(&group);
+        Lookups::new(group, nodes, points())
+    })
+}
+
 /// Points of some waters looked up by one call.
 fn exercise(name: &str, count: i64, waters: Waters, points: fn(Waters, i64) -> Vec<Position>, ramps: bool) -> Row {
-    row(name, 5, move || Exercise::new(with_ramps((waters.group)(), ramps), points(waters, count)))
+    row(name, 5, move || {
+        let group = with_ramps((waters.group)(), ramps);
+        let nodes = (waters.nodes)(&group);
+        Exercise::new(group, nodes, points(waters, count))
+    })
 }
 
 /// The same without ramps, with the middle of the waters on the meridian.
@@ -177,7 +213,8 @@ fn exercise_across(name: &str, count: i64, waters: Waters, points: fn(Waters, i6
         for at in &mut points {
             at.lon += if at.lon + by > LONGITUDE { by - TURN } else { by };
         }
-        Exercise::new(layouts::across(group), points)
+        let nodes = (waters.nodes)(&group);
+        Exercise::new(layouts::across(group), nodes, points)
     })
 }
 
@@ -185,7 +222,7 @@ fn exercise_across(name: &str, count: i64, waters: Waters, points: fn(Waters, i6
 fn log(name: &str, count: i64, waters: Waters, points: fn(Waters, i64) -> Vec<Position>) -> Row {
     row(name, 1, move || {
         let group = with_ramps((waters.group)(), true);
-        let nodes = nodes(&group);
+        let nodes = (waters.nodes)(&group);
         let log = logs::log(&group, &nodes, &points(waters, count));
         JudgeLog::new(group, nodes, log)
     })
@@ -205,15 +242,25 @@ fn rounding(name: &str, count: i64, quotient: fn(&Group, &[i32], &Position) -> Q
     })
 }
 
+/// The rounding alone of the value of each lookup of random points in the world's coarse grid.
+fn wide_rounding(name: &str, count: i64) -> Row {
+    row(name, 20, move || {
+        let group = (WORLD.group)();
+        let nodes = (WORLD.nodes)(&group);
+        WideRounding::new(scattered(WORLD, count).iter().map(|at| wide_value(&group, &nodes, at)))
+    })
+}
+
 /// Every row, in the order of the table.
 pub fn all(sizes: Sizes) -> Vec<Row> {
     let Sizes { points, .. } = sizes;
     let mut rows = vec![
         row("judge of 64 grids", 100, || Judge::new(layouts::nested())),
-        row("one lookup, 1 grid", 500, || Lookups::new(one_grid(), track(1, 3_000))),
-        row("one lookup, 64 grids", 100, || Lookups::new(layouts::nested(), track(1, 1))),
-        row("10,000 lookups on a track, 1 grid", 1, move || Lookups::new(one_grid(), track(points, 3_000))),
-        row("10,000 lookups on a track, 64 grids", 1, move || Lookups::new(layouts::nested(), track(points, 1))),
+        lookups("one lookup, 1 grid", 500, ONE_GRID, move || track(1, 3_000)),
+        lookups("one lookup, 64 grids", 100, NESTED, move || track(1, 1)),
+        lookups("one lookup, coarse, 1 grid", 500, WORLD, move || scattered(WORLD, 1)),
+        lookups("10,000 lookups on a track, 1 grid", 1, ONE_GRID, move || track(points, 3_000)),
+        lookups("10,000 lookups on a track, 64 grids", 1, NESTED, move || track(points, 1)),
         exercise("10,000 points at once, a track, 1 grid", points, ONE_GRID, neighbours, false),
         exercise("10,000 points at once, a track, 1 grid, 8 ramps", points, ONE_GRID, neighbours, true),
         exercise("10,000 points at once, random, 1 grid", points, ONE_GRID, scattered, false),
@@ -222,6 +269,10 @@ pub fn all(sizes: Sizes) -> Vec<Row> {
         exercise("10,000 points at once, a track, 64 grids, 8 ramps", points, NESTED, neighbours, true),
         exercise("10,000 points at once, random, 64 grids", points, NESTED, scattered, false),
         exercise("10,000 points at once, random, 64 grids, 8 ramps", points, NESTED, scattered, true),
+        exercise("10,000 points at once, coarse, a track, 1 grid", points, WORLD, neighbours, false),
+        exercise("10,000 points at once, coarse, random, 1 grid", points, WORLD, scattered, false),
+        exercise("10,000 points at once, coarse, a track, 64 grids", points, WIDE_NESTED, neighbours, false),
+        exercise("10,000 points at once, coarse, random, 64 grids", points, WIDE_NESTED, scattered, false),
         exercise_across("10,000 points at once across the meridian, a track, 1 grid", points, ONE_GRID, neighbours),
         exercise_across("10,000 points at once across the meridian, random, 1 grid", points, ONE_GRID, scattered),
         exercise_across("10,000 points at once across the meridian, a track, 64 grids", points, NESTED, neighbours),
@@ -229,6 +280,7 @@ pub fn all(sizes: Sizes) -> Vec<Row> {
         rounding("the rounding alone, 10,000 values", points, value),
         rounding("the rounding alone, 10,000 ramp factors", points, ramp_factor),
         rounding("the rounding alone, 10,000 results", points, result),
+        wide_rounding("the rounding alone, 10,000 two-word values", points),
     ];
     rows.extend(LAYOUTS.map(in_force));
     rows.push(in_force(ANNEALED));
@@ -268,12 +320,15 @@ pub fn named(rows: &[Row], words: &[&str]) -> Result<Vec<usize>, String> {
 
 #[cfg(test)]
 mod tests {
-    use super::{Sizes, WHOLE, all, named};
+    use super::{Sizes, WHOLE, WIDE_NESTED, WORLD, all, named};
     use crate::measure::answers;
+    use crate::round::Round;
     use crate::{back_end, layouts};
     use interface::{Answer, Area, Fault, Group, Timed, Uncovered};
     use plain::LONGITUDE;
-    use reference::{Reference, round_each};
+    use reference::{Reference, round_each, round_pairs};
+
+    const ROUND: Round = Round { one_word: round_each, two_words: round_pairs };
 
     const SMALL: Sizes =
         Sizes { points: 30, digits: 1_000, floats: 1_000, log_lines: 500, log_digits: 1_000, log_tabs: 1_000 };
@@ -281,7 +336,7 @@ mod tests {
     /// Every work once, on small inputs: the plain versions answer as the second program does, and so that the work is done whole.
     #[test]
     fn every_back_end_answers_alike() {
-        let back_ends = back_end::all(&Reference, round_each);
+        let back_ends = back_end::all(&Reference, ROUND);
         for row in all(SMALL) {
             let answers = answers(&row.make, &back_ends);
             for (answer, back_end) in answers.iter().zip(&back_ends) {
@@ -305,10 +360,22 @@ mod tests {
         }
     }
 
+    /// In every grid of coarse waters the weights' sum times a node of mean size passes one word.
+    #[test]
+    fn coarse_waters_are_beyond_one_word() {
+        for waters in [WORLD, WIDE_NESTED] {
+            let group = (waters.group)();
+            let sizes: Vec<i128> = (waters.nodes)(&group).iter().map(|&node| i128::from(node).abs()).collect();
+            let mean = sizes.iter().sum::<i128>() / sizes.len() as i128;
+            let totals = group.grid[..group.grids as usize].iter().map(|grid| i128::from(grid.dlon * grid.dlat));
+            assert!(totals.into_iter().all(|total| total * mean > 1 << 63), "{:?}", group.name);
+        }
+    }
+
     /// What is rounded alone is what lookups round: the first result of each point, without ramps the value, is found again.
     #[test]
     fn the_roundings_alone_are_those_of_lookups() {
-        let (rows, back_ends) = (all(SMALL), back_end::all(&Reference, round_each));
+        let (rows, back_ends) = (all(SMALL), back_end::all(&Reference, ROUND));
         let answer = |name: &str| {
             let row = rows.iter().find(|row| row.name == name).expect("it is a row");
             answers(&row.make, &back_ends).remove(0)
@@ -316,6 +383,7 @@ mod tests {
         for (lookups, roundings, raised) in [
             ("10,000 points at once, random, 1 grid", "the rounding alone, 10,000 values", 4_000_000),
             ("10,000 points at once, random, 1 grid, 8 ramps", "the rounding alone, 10,000 results", 320_000_000),
+            ("10,000 points at once, coarse, random, 1 grid", "the rounding alone, 10,000 two-word values", 1 << 31),
         ] {
             let points = answer(lookups);
             let found = points[1..].chunks(size_of::<Answer>() / size_of::<i64>()).map(|point| point[3] + raised);
@@ -361,7 +429,8 @@ mod tests {
             named(&rows, words).expect("each is in a name").into_iter().map(|k| rows[k].name.as_str()).collect()
         };
         assert_eq!(chosen(&[]).len(), rows.len());
-        assert_eq!(chosen(&["one lookup"]), ["one lookup, 1 grid", "one lookup, 64 grids"]);
+        let lookups = ["one lookup, 1 grid", "one lookup, 64 grids", "one lookup, coarse, 1 grid"];
+        assert_eq!(chosen(&["one lookup"]), lookups);
         assert_eq!(chosen(&["e, stairs", "judge"]), ["judge of 64 grids", "grids in force, stairs", "hole, stairs"]);
         let layouts = chosen(&["grids in force", "force, stairs"]);
         assert!(layouts.len() > 1 && layouts.iter().all(|name| name.starts_with("grids in force")));

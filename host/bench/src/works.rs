@@ -1,7 +1,7 @@
 //! The kinds of work: a call, its inputs, and the memory that it is lent.
 
 use crate::back_end::BackEnd;
-use crate::quotients::Quotient;
+use crate::quotients::{Quotient, WideQuotient};
 use crate::work::Work;
 use interface::lent::Words;
 use interface::{Answer, Area, Fault, Fix, Group, HEADER_BYTES, InForce, Position, Uncovered};
@@ -29,10 +29,20 @@ impl Work for Judge {
     }
 }
 
-/// Nodes for all grids of a group.
-pub fn nodes(group: &Group) -> Vec<i32> {
+/// Nodes for all grids of a group, each so much above the one before, and up to so much in size.
+fn spread(group: &Group, step: i64, most: i64) -> Vec<i32> {
     let len = group.grid.iter().map(|grid| plain::end(grid, group.parameters)).max().unwrap_or(0);
-    (0..len).map(|k| (k * 7_919 % 8_000_001 - 4_000_000) as i32).collect()
+    (0..len).map(|k| (k * step % (2 * most + 1) - most) as i32).collect()
+}
+
+/// Nodes for all grids of a group, with which no sum of a fine grid passes one word.
+pub fn nodes(group: &Group) -> Vec<i32> {
+    spread(group, 7_919, 4_000_000)
+}
+
+/// Nodes up to the greatest, with which most sums of a coarse grid pass one word.
+pub fn great_nodes(group: &Group) -> Vec<i32> {
+    spread(group, 1_640_531_527, i32::MAX.into())
 }
 
 /// Lookups in one group, one by one.
@@ -45,9 +55,9 @@ pub struct Lookups {
 }
 
 impl Lookups {
-    pub fn new(group: Group, points: Vec<Position>) -> Lookups {
+    pub fn new(group: Group, nodes: Vec<i32>, points: Vec<Position>) -> Lookups {
         let (numbers, fixes) = (vec![0; points.len()], vec![Fix::default(); points.len()]);
-        Lookups { nodes: nodes(&group), group, points, numbers, fixes }
+        Lookups { group, nodes, points, numbers, fixes }
     }
 }
 
@@ -75,9 +85,9 @@ pub struct Exercise {
 }
 
 impl Exercise {
-    pub fn new(group: Group, points: Vec<Position>) -> Exercise {
+    pub fn new(group: Group, nodes: Vec<i32>, points: Vec<Position>) -> Exercise {
         let results = vec![Answer::default(); points.len()];
-        Exercise { nodes: nodes(&group), group, points, results, number: 0 }
+        Exercise { group, nodes, points, results, number: 0 }
     }
 }
 
@@ -108,7 +118,33 @@ impl Rounding {
 
 impl Work for Rounding {
     fn run(&mut self, back_end: &BackEnd) {
-        (back_end.round)(&self.numerators, &self.divisors, &mut self.rounded);
+        (back_end.round.one_word)(&self.numerators, &self.divisors, &mut self.rounded);
+    }
+
+    fn answer(&self) -> Vec<i64> {
+        self.rounded.iter().map(|&number| number as i64).collect()
+    }
+}
+
+/// The same of numerators of two words.
+pub struct WideRounding {
+    highs: Vec<u64>,
+    lows: Vec<u64>,
+    divisors: Vec<u64>,
+    rounded: Vec<u64>,
+}
+
+impl WideRounding {
+    pub fn new(quotients: impl Iterator<Item = WideQuotient>) -> WideRounding {
+        let words = quotients.map(|(n, d)| (((n >> 64) as u64, n as u64), d));
+        let ((highs, lows), divisors): ((Vec<u64>, Vec<u64>), Vec<u64>) = words.unzip();
+        WideRounding { rounded: vec![0; highs.len()], highs, lows, divisors }
+    }
+}
+
+impl Work for WideRounding {
+    fn run(&mut self, back_end: &BackEnd) {
+        (back_end.round.two_words)(&self.highs, &self.lows, &self.divisors, &mut self.rounded);
     }
 
     fn answer(&self) -> Vec<i64> {

@@ -10,9 +10,6 @@ use interface::{Calls, MARK, Position};
 /// The refusal of a node list that ends early; a lookup comes to it before it chooses a grid.
 const TOO_FEW: u64 = 13;
 
-/// The greatest size of a node's value.
-const MOST: u32 = 4_000_000;
-
 pub fn check(calls: &dyn Calls, arguments: &Arguments, out: &mut Output) -> Result<(), Stop> {
     if arguments.count(&[1, 2], "HEADER, or HEADER NODES")? == 1 {
         group::read(calls, arguments.file(0))?;
@@ -29,8 +26,7 @@ pub fn check(calls: &dyn Calls, arguments: &Arguments, out: &mut Output) -> Resu
         let count = values.len();
         let values = &model.nodes[values];
         let marks = values.iter().filter(|&&value| value == MARK).count();
-        let beyond = values.iter().filter(|&&value| value != MARK && value.unsigned_abs() > MOST).count();
-        out.put(format!("{number}\t{}\t{count}\t{marks}\t{beyond}\n", name(&grid.name)))?;
+        out.put(format!("{number}\t{}\t{count}\t{marks}\n", name(&grid.name)))?;
     }
     match (unused(&model), model.nodes.len()) {
         (0, _) => Ok(()),

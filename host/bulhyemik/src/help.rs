@@ -47,8 +47,8 @@ error.
 With NODES, a file of little-endian 32-bit integers, judges too whether it is
 long enough, and behind `accepted` prints a line for each grid: its number, its
 name, how many values it has in the file, and how many of them are the no-data
-mark and how many are beyond 4000000 steps. Values that stand in no grid are
-counted on standard error. Many of either tell of a file of another group.
+mark. Values that stand in no grid are counted on standard error. Many of either
+tell of a file of another group.
 
   bulhyemik check examples/canyon.txt
   bulhyemik check examples/canyon.txt examples/canyon.nodes

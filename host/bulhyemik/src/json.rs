@@ -59,7 +59,7 @@ mod tests {
         assert_eq!(text("West-basin_2"), r#""West-basin_2""#);
         assert_eq!(text(r#"'a' "b" \c"#), r#""'a' \"b\" \\c""#);
         assert_eq!(text("\0\t\n\r\x1b\x1f \x7f"), "\"\\u0000\\u0009\\u000a\\u000d\\u001b\\u001f \x7f\"");
-        assert_eq!(text("±4000000 größe"), "\"±4000000 größe\"");
+        assert_eq!(text("±2147483647 größe"), "\"±2147483647 größe\"");
     }
 
     #[test]

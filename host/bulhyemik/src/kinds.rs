@@ -49,8 +49,8 @@ pub const GRID: Kind = Kind {
     numbers: &[
         number("LON", -1_296_000_000, 1_296_000_000),
         number("LAT", -324_000_000, 324_000_000),
-        number("DLON", -1_000_000, 1_000_000),
-        number("DLAT", -1_000_000, 1_000_000),
+        number("DLON", -36_000_000, 36_000_000),
+        number("DLAT", -36_000_000, 36_000_000),
         number("NI", 2, 16_384),
         number("NJ", 2, 16_384),
         number("RANK", 1, 1_000),

@@ -28,7 +28,7 @@ pub const TIMED: [Call<dyn Timed>; 9] = [
     Call { name: "judge", input: judge, numbers: &[0, 2, 3, 4, 5] },
     Call { name: "read_header", input: read_header, numbers: &[0, 1, 2, 3, 4, 5] },
     Call { name: "write_header", input: write_header, numbers: &[0, 2, 3, 4, 5, 12] },
-    Call { name: "lookup", input: lookup, numbers: &[0, 2, 3, 4, 5, 6, 7, 8, 9, 11, 13] },
+    Call { name: "lookup", input: lookup, numbers: &[0, 2, 3, 4, 5, 6, 7, 8, 9, 13] },
     Call { name: "lookup_many", input: lookup_many, numbers: &[0, 2, 3, 4, 5, 12, 13] },
     Call { name: "grids_in_force", input: grids_in_force, numbers: &[0, 2, 3, 4, 5, 10] },
     Call { name: "hole", input: hole, numbers: &[0, 2, 3, 4, 5, 10] },
@@ -39,7 +39,7 @@ pub const TIMED: [Call<dyn Timed>; 9] = [
 /// What `Calls` has beside them, but for the version.
 pub const OTHERS: [Call<dyn Calls>; 4] = [
     Call { name: "field", input: field, numbers: &[0] },
-    Call { name: "write_log_line", input: write_log_line, numbers: &[0, 2, 3, 4, 5, 6, 7, 8, 9, 11, 12, 13] },
+    Call { name: "write_log_line", input: write_log_line, numbers: &[0, 2, 3, 4, 5, 6, 7, 8, 9, 12, 13] },
     Call { name: "screen_answer", input: screen_answer, numbers: &[0, 1, 2, 3, 4, 5, 6, 7, 8, 9, 10, 11, 12, 13] },
     Call { name: "screen_record", input: screen_record, numbers: &[0, 1, 2, 3, 4, 5, 6, 7, 8, 9, 10, 11, 12, 13] },
 ];
@@ -231,7 +231,7 @@ fn found(random: &mut Random) -> Found {
     let result = |random: &mut Random| match random.below(4) {
         0 => random.odd(),
         1 => random.bits() as i64,
-        _ => random.between(-320_000_000, 320_000_000),
+        _ => random.between(-171_798_691_760, 171_798_691_760),
     };
     Found {
         quantum: quantum(random),

@@ -8,6 +8,8 @@ pub const TURN: i64 = 1_296_000_000;
 pub const LONGITUDE: i64 = 648_000_000;
 pub const LATITUDE: i64 = 324_000_000;
 const NODE_LIST: i64 = 16_777_216;
+/// The size of the greatest spacing.
+pub const SPACING: i64 = 36_000_000;
 
 /// An axis of a grid: its first node, spacing and count.
 pub type Axis = (i64, i64, i64);
@@ -23,7 +25,7 @@ struct World {
 
 fn world(random: &mut Random) -> World {
     let small = World { lon: 0, lat: 0, spacing: 6, count: 6 };
-    match random.below(15) {
+    match random.below(19) {
         0 => World { lon: -TURN, ..small },
         1 => World { lon: TURN, lat: LATITUDE, ..small },
         2 => World { lat: -LATITUDE, ..small },
@@ -31,6 +33,8 @@ fn world(random: &mut Random) -> World {
         4 => World { count: 60, spacing: 50_000, ..small },
         5..9 => World { lon: LONGITUDE, ..small },
         9 => World { lon: LONGITUDE, spacing: 1_000_000, count: 12, ..small },
+        10..13 => World { spacing: SPACING, ..small },
+        13 => World { lon: LONGITUDE, spacing: SPACING, ..small },
         _ => small,
     }
 }
@@ -80,11 +84,37 @@ pub const ONE_LESS: (i64, i64) = (251_993, 5_144);
 pub const TWO_LESS: (i64, i64) = (556_462, 2_330);
 const ONE_MORE: (i64, i64) = (952_241, 1_362);
 const TWO_TURNS: (i64, i64) = (1_000_000, 2_593);
+/// Those of coarse grids that are just a turn wide.
+const A_COARSE_TURN: [(i64, i64); 2] = [(SPACING, 37), (3_600_000, 361)];
+
+/// The size of a spacing: in a coarse world mostly a great one, and often at a limit or where the weights of a square cell add to
+/// 2 to the power 32, 40 or 41.
+fn spacing(random: &mut Random, world: World) -> i64 {
+    const SIZES: [i64; 12] = [
+        SPACING,
+        SPACING,
+        SPACING - 1,
+        3_600_000,
+        1_000_000,
+        1_000_001,
+        65_536,
+        65_537,
+        1_048_576,
+        1_048_577,
+        1_482_910,
+        1_482_911,
+    ];
+    match random.below(10) {
+        0..6 if world.spacing == SPACING => random.pick(&SIZES),
+        0..7 => random.between(1, 6),
+        _ => random.between(1, world.spacing),
+    }
+}
 
 /// An axis inside ±limit.
 fn axis(random: &mut Random, centre: i64, limit: i64, world: World) -> Axis {
     loop {
-        let size = if random.percent(70) { random.between(1, 6) } else { random.between(1, world.spacing) };
+        let size = spacing(random, world);
         let spacing = if random.percent(50) { size } else { -size };
         let count = random.between(2, world.count);
         let from = centre + random.between(-3, 3) * random.between(0, world.spacing.min(200_000) + 4);
@@ -142,7 +172,7 @@ pub fn sound(random: &mut Random) -> Group {
     let wide = if random.percent(16) { 60 } else { 0 };
     of_grids(random, grids, |random, _| {
         if random.percent(wide) {
-            let (spacing, count) = A_TURN;
+            let (spacing, count) = random.pick(&[A_TURN, A_TURN, A_COARSE_TURN[0], A_COARSE_TURN[1]]);
             let low = World { count: 2, ..world };
             return [around(random, spacing, count), axis(random, world.lat, LATITUDE, low)];
         }
@@ -196,11 +226,12 @@ fn break_name(random: &mut Random, name: &mut Name) {
 /// Sets one number of a grid to an odd one.
 fn break_grid(random: &mut Random, grid: &mut Grid) {
     let odd = random.odd();
+    let spacing = if random.percent(50) { odd } else { random.pick(&[SPACING + 1, -SPACING - 1, SPACING, 1_000_001]) };
     match random.below(9) {
         0 => grid.lon = odd,
         1 => grid.lat = odd,
-        2 => grid.dlon = odd,
-        3 => grid.dlat = odd,
+        2 => grid.dlon = spacing,
+        3 => grid.dlat = spacing,
         4 => grid.ni = odd,
         5 => grid.nj = odd,
         6 => grid.rank = odd,
@@ -234,7 +265,7 @@ fn break_head(random: &mut Random, record: &mut Group) {
 /// Moves a grid so that it reaches, or just does not reach, beyond the limits of coordinates or nodes.
 fn push_out(random: &mut Random, grid: &mut Grid, parameters: i64) {
     let beyond = random.between(0, 2);
-    let across = |spacing: i64, count: i64| (count.clamp(2, 16_384) - 1) * spacing.clamp(-1_000_000, 1_000_000);
+    let across = |spacing: i64, count: i64| (count.clamp(2, 16_384) - 1) * spacing.clamp(-SPACING, SPACING);
     match random.below(3) {
         0 => {
             let width = across(grid.dlon, grid.ni);
@@ -250,7 +281,7 @@ fn push_out(random: &mut Random, grid: &mut Grid, parameters: i64) {
 
 /// Makes a grid a turn wide, a milliarcsecond less or more, or two turns.
 fn widen(random: &mut Random, grid: &mut Grid) {
-    let (spacing, count) = random.pick(&[A_TURN, ONE_LESS, ONE_MORE, ONE_MORE, TWO_TURNS]);
+    let (spacing, count) = random.pick(&[A_TURN, A_COARSE_TURN[0], ONE_LESS, ONE_MORE, ONE_MORE, TWO_TURNS]);
     (grid.lon, grid.dlon, grid.ni) = around(random, spacing, count);
     grid.nj = grid.nj.min(2);
 }

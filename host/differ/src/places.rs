@@ -1,6 +1,6 @@
 //! Random positions, areas and node lists for a group.
 
-use crate::groups::{LONGITUDE, TURN, turned};
+use crate::groups::{LONGITUDE, SPACING, TURN, turned};
 use crate::random::Random;
 use interface::{Area, Grid, Group, Position};
 
@@ -11,7 +11,7 @@ fn some_grid(random: &mut Random, record: &Group) -> Grid {
 
 /// A coordinate on, between, at the end of or just beside the nodes of an axis.
 fn along(random: &mut Random, from: i64, spacing: i64, count: i64) -> i64 {
-    let (spacing, count) = (spacing.clamp(-1_000_000, 1_000_000), count.clamp(2, 16_384));
+    let (spacing, count) = (spacing.clamp(-SPACING, SPACING), count.clamp(2, 16_384));
     let node = match random.below(4) {
         0 => count - 1,
         1 => 0,
@@ -113,21 +113,45 @@ pub fn nodes(random: &mut Random, record: &Group) -> Vec<i32> {
         2 => longest + random.between(1, 9),
         _ => longest,
     };
-    let kind = random.below(6);
-    (0..len.max(0)).map(|_| node(random, kind)).collect()
+    let kind = random.below(8);
+    let middle = middle(random, record);
+    (0..len.max(0)).map(|_| node(random, kind, middle)).collect()
 }
 
-/// A node value of a list of some kind: small ones, any, the greatest, and lists with a few marks or values beyond.
-fn node(random: &mut Random, kind: usize) -> i32 {
+/// The size of the greatest node value.
+const VALUE: i64 = 2_147_483_647;
+
+/// A value about which a list may lie: with it at all corners the weighted sum of a grid, or the sum raised so that it is never
+/// below 0, passes 2 to the power 63 or 64; or the greatest, the least or any other.
+fn middle(random: &mut Random, record: &Group) -> i64 {
+    let Grid { dlon, dlat, .. } = some_grid(random, record);
+    let total = (i128::from(dlon) * i128::from(dlat)).abs().max(1);
+    let word = random.pick(&[1 << 63, 1 << 64]) / total;
+    let value = match random.below(8) {
+        0 | 1 => word,
+        2 => -word,
+        3 | 4 => word - (1 << 31),
+        5 => random.pick(&[-VALUE, VALUE]).into(),
+        _ => random.between(-VALUE, VALUE).into(),
+    };
+    value.clamp(-i128::from(VALUE), i128::from(VALUE)) as i64
+}
+
+/// A node value of a list of some kind: small ones, the greatest, any, those up to the limit before order 6, those about the middle
+/// by so much as the differences of corners may go, and lists with a few marks.
+fn node(random: &mut Random, kind: usize, middle: i64) -> i32 {
     let value = match kind {
         0 | 1 => random.between(-3, 3),
-        2 => random.pick(&[-4_000_000, 4_000_000, 3_999_999, 0]),
-        _ => random.between(-4_000_000, 4_000_000),
+        2 => random.pick(&[-VALUE, VALUE, VALUE - 1, 1 - VALUE, -4_000_001, 4_000_001, 0]),
+        3 | 4 => random.between(-VALUE, VALUE),
+        5 if random.percent(50) => random.pick(&[-4_000_000, 4_000_000, -(1 << 22), 1 << 22]),
+        5 => random.between(-4_000_000, 4_000_000),
+        6 => middle + random.between(-2, 2),
+        _ => middle + random.pick(&[-1, 1]) * (1 << random.between(11, 24)) + random.between(-1, 1),
     };
     match random.below(48) {
         0..5 if kind == 3 => i32::MIN,
         0 if kind >= 3 => i32::MIN,
-        0..5 if kind == 4 => random.pick(&[-4_000_001, 4_000_001, i32::MAX, i32::MIN + 1]),
-        _ => value as i32,
+        _ => value.clamp(-VALUE, VALUE) as i32,
     }
 }

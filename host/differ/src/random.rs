@@ -45,7 +45,7 @@ impl Random {
 
     /// A number that breaks, meets or just misses some limit of document 01.
     pub fn odd(&mut self) -> i64 {
-        const LIMITS: [i64; 17] = [
+        const LIMITS: [i64; 19] = [
             0,
             1,
             3,
@@ -58,9 +58,11 @@ impl Random {
             1_000_000,
             10_000_000,
             16_777_215,
+            36_000_000,
             324_000_000,
             648_000_000,
             1_296_000_000,
+            1 << 31,
             1 << 32,
             1 << 62,
         ];

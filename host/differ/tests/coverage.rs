@@ -23,7 +23,7 @@ fn compared(record: &Group, area: Area) -> Option<Seen> {
 #[test]
 fn compression_finds_what_every_coordinate_shows() {
     let (mut areas, mut entries, mut hidden) = (0, 0, 0);
-    for index in 0..6_000 {
+    for index in 0..8_000 {
         let mut random = Random::new("coverage", 0, index);
         let record = sound(&mut random);
         let area = area(&mut random, &record);

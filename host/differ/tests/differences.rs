@@ -4,7 +4,7 @@ mod mutant;
 
 use differ::{Inputs, OTHERS, Random, Report, TIMED, run};
 use interface::{Answer, Answers, Calls, Fault, Group, Position, Program, Refusal};
-use mutant::MUTANTS;
+use mutant::{MUTANTS, WORKED_OUT};
 use plain::Plain;
 use reference::Reference;
 use std::sync::atomic::{AtomicUsize, Ordering};
@@ -83,9 +83,10 @@ fn counted(group: &Group, nodes: &[i32], points: &[Position], results: &mut [Ans
 #[test]
 fn every_refusal_of_a_point_comes_in_one_of_a_hundred_points_looked_up_together() {
     let (counts, all) = counts("lookup_many", &COUNTED);
-    for number in [0, 6, 7, 8, 9, 11] {
+    for number in [0, 6, 7, 8, 9] {
         assert!(counts[number] * 100 >= all, "{number} came {} times in {all} points", counts[number]);
     }
+    assert_eq!(counts[11], 0, "no lookup refuses by 11");
 }
 
 #[test]
@@ -103,6 +104,12 @@ fn every_mutant_is_found_out() {
         println!("{fault}: {} of {} inputs differ", report.differences.len(), report.inputs.count);
         assert!(!report.differences.is_empty(), "{fault}");
     }
+}
+
+#[test]
+fn a_mutant_without_a_fault_is_none() {
+    let report = beside_the_second_program("lookup", INPUTS, &WORKED_OUT);
+    assert!(report.differences.is_empty(), "{:?}", report.differences[0]);
 }
 
 #[test]

@@ -16,10 +16,10 @@ pub trait Timed {
     /// Writes a group's header text and counts its bytes: refusals 2 to 5, 12.
     fn write_header(&self, group: &Group, out: &mut [u8], count: &mut u64, place: &mut u64) -> u64;
 
-    /// Looks a point up on a day: refusals 2 to 9, 11, 13.
+    /// Looks a point up on a day: refusals 2 to 9, 13.
     fn lookup(&self, group: &Group, nodes: &[i32], at: Position, fix: &mut Fix, place: &mut u64) -> u64;
 
-    /// Looks points up, each on its own day: refusals 2 to 5, 12, 13; a point's own are in its result: 6 to 9, 11.
+    /// Looks points up, each on its own day: refusals 2 to 5, 12, 13; a point's own are in its result: 6 to 9.
     fn lookup_many(
         &self,
         group: &Group,
@@ -50,7 +50,7 @@ pub trait Calls: Timed {
     /// Finds where field `number` of a line begins and ends.
     fn field(&self, line: &[u8], number: u64, part: &mut Part);
 
-    /// Writes the line of a log for a point on a day and counts its bytes: refusals 2 to 9, 11 to 13.
+    /// Writes the line of a log for a point on a day and counts its bytes: refusals 2 to 9, 12, 13.
     fn write_log_line(
         &self,
         group: &Group,

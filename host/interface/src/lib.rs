@@ -16,7 +16,7 @@ pub use calls::{Calls, Timed};
 pub use group::{Grid, Group, Name, Ramp};
 
 /// The version of the interface: major * 1,000,000 + minor * 1,000 + patch.
-pub const VERSION: u64 = 2_000_000;
+pub const VERSION: u64 = 3_000_000;
 
 /// Bytes of a name, used or not.
 pub const NAME_BYTES: usize = 24;

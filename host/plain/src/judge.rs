@@ -5,6 +5,7 @@ use interface::{Area, Grid, Group, MOST_GRIDS, NAME_BYTES, Name, Ramp, Refusal};
 
 pub const LATITUDE: i64 = 324_000_000;
 const NODE_LIST: i64 = 16_777_216;
+const SPACING: i64 = 36_000_000;
 
 /// The refusal of this number at this place.
 pub fn refusal(number: u64, place: usize) -> Refusal {
@@ -45,9 +46,9 @@ pub fn ramp_within(&Ramp { a, s0, b, s1 }: &Ramp) -> bool {
 pub fn grid_within(grid: &Grid) -> bool {
     within(grid.lon, TURN)
         && within(grid.lat, LATITUDE)
-        && within(grid.dlon, 1_000_000)
+        && within(grid.dlon, SPACING)
         && grid.dlon != 0
-        && within(grid.dlat, 1_000_000)
+        && within(grid.dlat, SPACING)
         && grid.dlat != 0
         && between(grid.ni, 2, 16_384)
         && between(grid.nj, 2, 16_384)

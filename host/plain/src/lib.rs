@@ -14,4 +14,4 @@ mod write;
 
 pub use back_end::Plain;
 pub use group::{LONGITUDE, TURN, end, extent};
-pub use round::{nearest, round_each};
+pub use round::{nearest, round_each, round_pairs};

@@ -3,7 +3,7 @@
 use crate::judge::{between, refusal};
 use interface::{MARK, Refusal};
 
-const LIMIT: f64 = 4_000_000.0;
+const LIMIT: f64 = 2_147_483_647.0;
 
 /// The node of a float, or none if it is beyond the limit. The product is exact in 64 bits.
 fn node(x: f32, flag: f32, steps: f64) -> Option<i32> {

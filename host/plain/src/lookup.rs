@@ -2,8 +2,12 @@
 
 use crate::group::{LONGITUDE, end, holds, longitude_used, pieces};
 use crate::judge::{LATITUDE, judge, refusal, within};
-use crate::round::nearest;
+use crate::round::{nearest, nearest_wide};
 use interface::{Answer, Area, Fix, Group, MARK, MOST_GRIDS, Position, Ramp, Refusal};
+
+/// With weights that add to at most this, every weighted sum of node values fits 64 bits. Fine grids are known by this one
+/// number, without a look at the corners; on others the sum has 128 bits, whatever the corners hold.
+const ONE_WORD: i64 = 1 << 32;
 
 /// Cell index and distance from its lower node along an axis.
 fn cell(from: i64, spacing: i64, count: i64, at: i64) -> (i64, i64) {
@@ -62,18 +66,20 @@ fn fix(group: &Group, k: usize, nodes: &[i32], lon: i64, lat: i64, factor: i64) 
         (first + row, (sx - fx) * fy),
         (first + row + np, fx * fy),
     ];
-    let used = || corners.iter().filter(|&&(_, weight)| weight != 0).flat_map(|&(at, _)| &nodes[at..at + np]);
-    if used().any(|&v| v == MARK) {
+    let mut used = corners.iter().filter(|&&(_, weight)| weight != 0).flat_map(|&(at, _)| &nodes[at..at + np]);
+    if used.any(|&v| v == MARK) {
         return Err(refusal(8, 0));
     }
-    if used().any(|&v| !within(i64::from(v), 4_000_000)) {
-        return Err(refusal(11, 0));
-    }
+    let total = sx * sy;
     let mut fix = Fix { grid: k as i64 + 1, result: [0; 3] };
     for p in 0..np {
-        let sum: i64 =
-            corners.iter().map(|&(at, weight)| if weight == 0 { 0 } else { weight * i64::from(nodes[at + p]) }).sum();
-        fix.result[p] = nearest(nearest(sum, sx * sy) * factor, 1_000_000);
+        let terms = corners.iter().map(|&(at, weight)| (weight, nodes[at + p]));
+        let value = if total <= ONE_WORD {
+            nearest(terms.map(|(weight, node)| weight * i64::from(node)).sum(), total)
+        } else {
+            nearest_wide(terms.map(|(weight, node)| i128::from(weight) * i128::from(node)).sum(), total)
+        };
+        fix.result[p] = nearest(value * factor, 1_000_000);
     }
     Ok(fix)
 }

@@ -23,5 +23,5 @@ pub use judge::judge;
 pub use load::load_nodes;
 pub use log::{judge_log, write_log_line};
 pub use lookup::{day_factor, lookup};
-pub use rounding::round_each;
+pub use rounding::{round_each, round_pairs};
 pub use screen::{screen_answer, screen_record};

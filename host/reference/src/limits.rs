@@ -1,4 +1,4 @@
-//! The admitted ranges of document 01's table 'Numbers', as order 5 amends them, each as a test of one number.
+//! The admitted ranges of document 01's table 'Numbers', as orders 5 and 6 amend them, each as a test of one number.
 
 use interface::{Grid, Name, Ramp};
 use std::ops::RangeInclusive;
@@ -9,12 +9,12 @@ pub const GRID_LONGITUDE: i128 = 1_296_000_000;
 pub const LONGITUDE: i128 = 648_000_000;
 pub const LATITUDE: i128 = 324_000_000;
 pub const DAY: i128 = 1_000_000;
-pub const NODE: i128 = 4_000_000;
+pub const NODE: i128 = 2_147_483_647;
 pub const NODE_LIST: i128 = 16_777_216;
 /// The numbers of the table of refusals.
 pub const REFUSALS: RangeInclusive<u64> = 1..=13;
 
-const SPACING: i128 = 1_000_000;
+const SPACING: i128 = 36_000_000;
 const FACTOR: i128 = 10_000_000;
 
 pub fn grid_longitude(x: i128) -> bool {

@@ -65,7 +65,7 @@ pub fn whole_ranges(record: &Group, nodes: &[i32]) -> Result<(), Refusal> {
     }
 }
 
-/// Looks a position up: refusals 2 to 5, then 6, 9, 13, 7, 8, 11.
+/// Looks a position up: refusals 2 to 5, then 6, 9, 13, 7, 8.
 pub fn lookup(record: &Group, nodes: &[i32], at: Position) -> Result<Fix, Refusal> {
     judge(record)?;
     let (lon, lat) = (i128::from(at.lon), i128::from(at.lat));
@@ -86,14 +86,8 @@ pub fn lookup(record: &Group, nodes: &[i32], at: Position) -> Result<Fix, Refusa
     let y = along(g.lat, g.dlat, g.nj, lat);
     let corners = used_corners(&x, &y);
     let node = |i: i128, j: i128, p: i64| nodes[node_place(g, record.parameters, i, j, p)];
-    let any = |test: &dyn Fn(i32) -> bool| {
-        corners.iter().any(|&(i, j, _)| (0..record.parameters).any(|p| test(node(i, j, p))))
-    };
-    if any(&|v| v == MARK) {
+    if corners.iter().any(|&(i, j, _)| (0..record.parameters).any(|p| node(i, j, p) == MARK)) {
         return refuse(8, 0);
-    }
-    if any(&|v| i128::from(v).abs() > limits::NODE) {
-        return refuse(11, 0);
     }
     let factor = day_factor(&record.ramp[..record.ramps as usize], at.day);
     let mut fix = Fix { grid: choice as i64 + 1, result: [0; 3] };

@@ -20,6 +20,25 @@ pub fn round_each(numerators: &[u64], divisors: &[u64], out: &mut [u64]) {
     }
 }
 
+/// Fills `out` with the low word of each numerator of two words over its divisor, rounded, 0 for a divisor 0, as far as all four
+/// lists go.
+pub fn round_pairs(highs: &[u64], lows: &[u64], divisors: &[u64], out: &mut [u64]) {
+    let numerators = highs.iter().zip(lows).map(|(&high, &low)| u128::from(high) << 64 | u128::from(low));
+    for ((out, numerator), &divisor) in out.iter_mut().zip(numerators).zip(divisors) {
+        *out = if divisor == 0 { 0 } else { nearest_pair(numerator, divisor.into()) as u64 };
+    }
+}
+
+/// As `nearest_even`, of numerators that may have 128 bits.
+fn nearest_pair(numerator: u128, divisor: u128) -> u128 {
+    let (below, left) = (numerator / divisor, numerator % divisor);
+    match (2 * left).cmp(&divisor) {
+        Ordering::Less => below,
+        Ordering::Greater => below + 1,
+        Ordering::Equal => below + below % 2,
+    }
+}
+
 #[cfg(test)]
 mod tests {
     use super::nearest_even;

@@ -20,7 +20,7 @@ sub-result c = search needs
 
 float-from-bits-result : tie.Need-float-from-bits-result
 float-from-bits-result c =
-    let n = 1249125378 - c .args .q * 8388608 in
+    let n = 1325400063 - c .args .q * 8388608 in
     subst (λ (b : Bool). T (not b)) (sym (nanBits-above binary32 n ∙ le-ltb 2139095040 (n % 2147483648) (omega arith))) tt
 
 returns : tie.Need-returns

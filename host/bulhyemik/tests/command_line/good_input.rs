@@ -85,7 +85,7 @@ fn a_node_file_of_64_mebibytes_works() {
     assert_eq!(answer, accepted(&format!("fix\t16383\t1023\t0\tall\t{last}\n")));
     folder.put("beyond.floats", &[&floats[..1 << 23], &f32::INFINITY.to_le_bytes()].concat());
     let place = (1 << 21) + 1;
-    let words = format!("float {place} is infinite or rounds beyond ±4000000 steps");
+    let words = format!("float {place} is infinite or rounds beyond ±2147483647 steps");
     assert_eq!(folder.run("load beyond.floats large.nodes 0"), refused(11, place, &words));
     for name in ["large.floats", "large.nodes", "beyond.floats"] {
         folder.put(name, b"");
@@ -99,8 +99,7 @@ fn refusals_have_status_1_and_words() {
     folder.put("limit.txt", b"group\tdock\tmetre\t21\t1\t1\t1\n");
     folder.put("short.nodes", &[0; 20]);
     folder.put("mark.nodes", &words(&[i32::MIN; 6].map(i32::to_le_bytes)));
-    folder.put("far.nodes", &words(&[4_000_001; 6].map(i32::to_le_bytes)));
-    let cases: [(&str, Answer); 17] = [
+    let cases: [(&str, Answer); 16] = [
         (
             "check early.txt",
             refused(1, 2, "the header ends before line 2, a ramp line: line 1 counts 1 ramp and 1 grid"),
@@ -124,10 +123,6 @@ fn refusals_have_status_1_and_words() {
         (
             "lookup dock.txt mark.nodes 0 0 0",
             refused_at(8, 0, [0, 0, 0], "a node that the point needs is the no-data mark"),
-        ),
-        (
-            "lookup dock.txt far.nodes 0 0 0",
-            refused_at(11, 0, [0, 0, 0], "a node that the point needs is beyond ±4000000 steps"),
         ),
         ("inforce dock.txt 0 0 1 0", refused(10, 0, "south is 1, above north, which is 0")),
         ("hole dock.txt 0 0 0 324000001", refused(10, 0, "a side is outside latitude ±324000000")),

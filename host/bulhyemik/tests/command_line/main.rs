@@ -1,6 +1,7 @@
 //! The command line as a user meets it: each test runs the program in a folder of its own.
 
 mod bad_input;
+mod coarse;
 mod formats;
 mod good_input;
 mod help;

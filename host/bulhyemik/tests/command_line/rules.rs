@@ -15,7 +15,7 @@ fn lines(keyword: &str) -> Vec<String> {
 fn the_example_lines_are_accepted() {
     let folder = Folder::new("rules-lines");
     let [groups, ramps, grids] = ["group", "ramp", "grid"].map(lines);
-    assert_eq!([groups.len(), ramps.len(), grids.len()], [2, 3, 4]);
+    assert_eq!([groups.len(), ramps.len(), grids.len()], [2, 3, 5]);
     for ramp in &ramps {
         for grid in &grids {
             let text = format!("{}\n{ramp}\n{grid}\n", groups[0]);

@@ -39,9 +39,9 @@ fn check_counts_what_a_node_file_lacks() {
     let header =
         "group\ttwo\tmetre\t0\t1\t0\t2\ngrid\tone\t0\t0\t1\t1\t2\t2\t1\t0\ngrid\ttwo\t9\t9\t1\t1\t2\t2\t1\t2\n";
     folder.put("two.txt", header.as_bytes());
-    let nodes = [0, 4_000_000, i32::MIN, 4_000_001, -4_000_000, -4_000_001, 0];
+    let nodes = [0, i32::MAX, i32::MIN, i32::MIN + 1, i32::MIN, 4_000_001, 0];
     folder.put("two.nodes", &words(&nodes.map(i32::to_le_bytes)));
-    let lines = "accepted\n1\tone\t4\t1\t1\n2\ttwo\t4\t1\t2\n";
+    let lines = "accepted\n1\tone\t4\t1\n2\ttwo\t4\t2\n";
     let note = "bulhyemik: values in no grid: 1 of 7\n";
     assert_eq!(folder.run("check two.txt two.nodes"), Answer { err: note.into(), ..accepted(lines) });
     folder.put("two.nodes", &words(&nodes[..6].iter().map(|node| node.to_le_bytes()).collect::<Vec<_>>()));
@@ -50,7 +50,7 @@ fn check_counts_what_a_node_file_lacks() {
     folder.put("apart.txt", apart.as_bytes());
     folder.put("ten.nodes", &words(&[[0; 4]; 10]));
     let note = "bulhyemik: values in no grid: 2 of 10\n";
-    let lines = "accepted\n1\tone\t4\t0\t0\n2\ttwo\t4\t0\t0\n";
+    let lines = "accepted\n1\tone\t4\t0\n2\ttwo\t4\t0\n";
     assert_eq!(folder.run("check apart.txt ten.nodes"), Answer { err: note.into(), ..accepted(lines) });
     folder.put("short.nodes", &words(&[[0; 4]; 5]));
     let answer = folder.run("check two.txt short.nodes");

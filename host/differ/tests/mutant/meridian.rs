@@ -1,5 +1,6 @@
 //! Faults about the 180° meridian: other rules of which points a grid holds, and of the limits that go with them.
 
+use super::last_otherwise;
 use interface::{Answer, Area, Entry, Fix, Grid, Group, InForce, Position, Timed, Uncovered};
 use reference::Reference;
 
@@ -115,7 +116,7 @@ fn chosen<R: Rule>(group: &Group, lon: i64, lat: i64) -> Option<(usize, i64)> {
 /// A lookup by another rule. The chosen grid is moved, and the point with it, so that it has the point where it stands.
 pub fn lookup_by<R: Rule>(group: &Group, nodes: &[i32], at: Position, fix: &mut Fix, place: &mut u64) -> u64 {
     let number = Reference.lookup(group, nodes, at, fix, place);
-    if ![0, 7, 8, 11].contains(&number) {
+    if ![0, 7, 8].contains(&number) {
         return number;
     }
     *fix = Fix::default();
@@ -184,11 +185,7 @@ pub fn last_of_many_is_not_turned(
     results: &mut [Answer],
     place: &mut u64,
 ) -> u64 {
-    let number = Reference.lookup_many(group, nodes, points, results, place);
-    if let (0, Some(result), Some(&at)) = (number, results.last_mut(), points.last()) {
-        result.number = lookup_by::<AsWritten>(group, nodes, at, &mut result.fix, &mut result.place);
-    }
-    number
+    last_otherwise(group, nodes, points, results, place, lookup_by::<AsWritten>)
 }
 
 /// A longitude beyond the limit of points that grids reach, turned to one within it.
@@ -255,7 +252,7 @@ fn by_width(group: &Group, place: &mut u64, wrong: fn(i64) -> Option<(i64, i64)>
     let mut other = group.clone();
     for grid in &mut other.grid[..group.grids.clamp(0, 64) as usize] {
         let limits = within((2, 16_384), grid.ni)
-            && within((-1_000_000, 1_000_000), grid.dlon)
+            && within((-36_000_000, 36_000_000), grid.dlon)
             && within((-TURN, TURN), grid.lon);
         let (west, east) = if limits { width(grid) } else { continue };
         if let Some((dlon, ni)) = wrong(east - west).filter(|_| -TURN <= west && east <= TURN) {

@@ -1,8 +1,10 @@
 //! The second program with one fault: what a differential test must find.
 
+mod coarse;
 mod logs;
 mod meridian;
 
+use coarse::*;
 use interface::{
     Answer, Area, Calls, Fault, Fix, Found, Grid, Group, InForce, MARK, MOST_PARAMETERS, Part, Position, Screen, Timed,
     Uncovered,
@@ -73,17 +75,23 @@ macro_rules! mutants {
 mutants! {
     judge: clash_names_the_earlier_grid, far_edge_is_not_judged, name_is_that_of_the_grid_beside, a_whole_turn_is_too_wide,
         one_more_than_a_turn_is_accepted, any_width_is_accepted, clash_as_written, clash_one_turn_apart_at_most,
-        clash_beside_the_meridian_only;
-    read_header: only_the_first_grid_line_is_read, refused_header_zeroes_the_group;
+        clash_beside_the_meridian_only, spacings_end_at_a_million, spacings_go_one_further;
+    read_header: only_the_first_grid_line_is_read, refused_header_zeroes_the_group, spacings_of_a_header_end_at_a_million;
     write_header: one_byte_behind_the_text;
     field: past_the_last_field_is_zero;
     lookup: lookup_always_refuses, lookup_always_answers_zero, halves_away_from_zero,
         worse_grid_where_the_best_lacks_data, grid_and_first_result_swapped, lookup_by::<AsWritten>,
         lookup_by::<OnlyATurnMore>, lookup_by::<OnlyATurnLess>, lookup_by::<TurnedFirst>, lookup_by::<CellAsGiven>,
-        lookup_by::<EndsShort>, lookup_by::<BeginsLate>, points_go_a_whole_turn, first_longitude_is_the_last;
+        lookup_by::<EndsShort>, lookup_by::<BeginsLate>, points_go_a_whole_turn, first_longitude_is_the_last,
+        lookup_in::<OneWord>, lookup_in::<OneWordByTheSpacing>, lookup_in::<OneWordByTheNodes>, lookup_in::<NoCarry>,
+        lookup_in::<RemainderOfTheLowWord>, lookup_in::<TieByTheSum>, lookup_in::<RaisedByAnOddNumber>,
+        lookup_in::<DifferencesOf32Bits>, lookup_in::<SumInFloats>, lookup_in::<ValueInASmallFloat>,
+        lookup_in::<ResultOf32Bits>, lookup_in::<OldLimitOfNodes>, lookup_in::<LeastValueIsTheMark>;
     lookup_many: first_days_factor_for_all, last_point_is_left_out, results_although_13_refuses,
         too_few_nodes_refuse_each_point, results_may_be_too_many, length_is_judged_behind_the_nodes,
-        refused_point_keeps_its_results, last_of_many_is_not_turned;
+        refused_point_keeps_its_results, last_of_many_is_not_turned, last_of_many_in::<OneWord>,
+        last_of_many_in::<NoCarry>, last_of_many_in::<RemainderOfTheLowWord>, last_of_many_in::<RaisedByAnOddNumber>,
+        last_of_many_in::<ResultOf32Bits>, last_of_many_in::<OldLimitOfNodes>;
     grids_in_force: empty_list, full_list, corner_of_the_grid_for_its_first_coordinate, in_force_by::<AsWritten>,
         in_force_by::<OnlyATurnMore>, in_force_by::<OnlyATurnLess>, in_force_by::<EndsShort>, in_force_by::<BeginsLate>,
         areas_of_a_list_go_a_whole_turn, entry_at_the_first_longitude_is_at_the_last,
@@ -99,14 +107,20 @@ mutants! {
         missing_value_is_zero, last_value_is_not_compared, grid_is_a_number, beginning_of_a_name_is_enough,
         name_of_25_bytes_is_of_the_form, any_byte_is_of_a_name, lookup_before_form, beyond_a_limit_is_of_no_form, unknown_name_is_of_no_form,
         unknown_name_before_the_lookup, shift_before_grid, too_few_nodes_are_a_bad_line, fault_beside_a_refusal,
-        longitude_beyond_the_meridian_passes;
+        longitude_beyond_the_meridian_passes, values_of_32_bits_are_equal;
     write_log_line: line_without_its_feed, room_for_the_line_is_too_short, room_for_all_but_the_feed_is_enough,
         count_without_the_feed, zero_behind_the_line, line_although_12_refuses, count_beside_12, room_before_the_lookup,
-        values_of_missing_parameters, number_for_the_name, line_has_the_longitude_used;
-    load_nodes: last_node_is_not_written, zero_flag_catches_both_zeros, negative_quantum_is_zero;
-    screen_answer: missing_shift_is_minus_zero, number_outside_the_table_is_handed_on, place_of_the_lookup_is_lost;
+        values_of_missing_parameters, number_for_the_name, line_has_the_longitude_used,
+        line_refused_in::<OldLimitOfNodes>, line_refused_in::<LeastValueIsTheMark>;
+    load_nodes: last_node_is_not_written, zero_flag_catches_both_zeros, negative_quantum_is_zero,
+        what_rounds_to_the_mark_is_the_mark, floats_load_up_to_4_million, two_to_the_31_loads_as_the_greatest;
+    screen_answer: missing_shift_is_minus_zero, number_outside_the_table_is_handed_on, place_of_the_lookup_is_lost,
+        shifts_of_32_bits;
     screen_record: degrees_after_a_refusal, negative_parameters_are_three;
 }
+
+/// A lookup worked out as it should be, in the way of which the faults about coarse grids are changes.
+pub const WORKED_OUT: Mutant = Mutant { lookup: lookup_in::<AsItShouldBe>, ..SOUND };
 
 fn clash_names_the_earlier_grid(group: &Group, place: &mut u64) -> u64 {
     let number = Reference.judge(group, place);
@@ -320,6 +334,22 @@ fn refused_point_keeps_its_results(
     let number = Reference.lookup_many(group, nodes, points, results, place);
     for (result, before) in results.iter_mut().zip(before).filter(|(result, _)| result.number != 0) {
         result.fix.result = before.fix.result;
+    }
+    number
+}
+
+/// Only the last of the points is looked up otherwise.
+fn last_otherwise(
+    group: &Group,
+    nodes: &[i32],
+    points: &[Position],
+    results: &mut [Answer],
+    place: &mut u64,
+    lookup: fn(&Group, &[i32], Position, &mut Fix, &mut u64) -> u64,
+) -> u64 {
+    let number = Reference.lookup_many(group, nodes, points, results, place);
+    if let (0, Some(result), Some(&at)) = (number, results.last_mut(), points.last()) {
+        result.number = lookup(group, nodes, at, &mut result.fix, &mut result.place);
     }
     number
 }

@@ -1,0 +1,3 @@
+-- What the contracts of `pair` cite.
+pub mod Pair
+pub mod Division
