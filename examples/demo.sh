@@ -1,5 +1,5 @@
 #!/bin/sh
-# Shows the command line at work on the four examples: sh demo.sh PROGRAM
+# Shows the command line at work on the five examples: sh demo.sh PROGRAM
 #
 # Says what is asked, shows the command and prints its answer. The commands run on copies in a temporary folder; typed
 # in this folder they answer the same. The nodes of the world are made there by the program `world`, which has to stand
@@ -25,7 +25,7 @@ work=${TMPDIR:-/tmp}/bulhyemik-demo.$$
 trap 'rm -rf "$work"' EXIT
 trap 'exit 2' HUP INT TERM
 from=$(dirname "$0")
-cp "$from"/canyon.* "$from"/harbour[.-]* "$from"/pacific.* "$from"/world.* "$from/demo.expected" "$work" || exit 2
+cp "$from"/canyon.* "$from"/harbour[.-]* "$from"/pacific.* "$from"/world.* "$from"/quake.* "$from/demo.expected" "$work" || exit 2
 cd "$work" || exit 2
 
 bulhyemik() {
@@ -146,6 +146,25 @@ demo() {
         "printf '\\000\\000\\310\\102' >hundred && bulhyemik load hundred loaded 20 && od -A n -t d4 loaded"
     ask 'And one of -2048 metres? In steps that is the number of the no-data mark, which only no data becomes.' \
         "printf '\\000\\000\\000\\305' >deep && bulhyemik load deep loaded 20"
+
+    printf '\n%s\n' 'Quake: how much deeper a harbour is than its chart says: an earthquake, silt from then on, and dredging.'
+    ask 'Are the header and its node file as they should be?' \
+        'bulhyemik check quake.txt quake.nodes'
+    ask 'Which functions of time does it have, and where does its grid lie?' \
+        'bulhyemik grids quake.txt'
+    ask 'Is the header written back byte for byte, with its functions in the order in which they were written?' \
+        'bulhyemik format quake.txt >written && cmp written quake.txt'
+    ask 'A node of a million steps on ten days, so that each shift is the factor of the day; then a point within the cell on three.' \
+        'bulhyemik lookup quake.txt quake.nodes <quake.points'
+    ask 'The node in metres, on the day before the earthquake, on its day and at the end of the dredging.' \
+        "sed -n '2p;3p;9p' quake.points | bulhyemik screen quake.txt quake.nodes"
+    ask 'What if the floor had been sounded after the earthquake, on day 1100? The same three days:' \
+        "sed 2s/900/1100/ quake.txt >later.txt
+  sed -n '2p;3p;9p' quake.points | bulhyemik lookup later.txt quake.nodes"
+    ask 'What if the dredging ended on the day on which it starts? Such a change is a step.' \
+        'sed 4s/1500/1200/ quake.txt | bulhyemik check -'
+    ask 'And if its reference day were left out? The first word of a line decides its form, and a ramp2 has four numbers.' \
+        'sed 4s/.1300// quake.txt | bulhyemik check -'
 }
 
 demo >transcript

@@ -1,5 +1,5 @@
 #!/usr/bin/env python3
-"""Writes the binary files of the examples beside itself: canyon.floats, and the nodes of canyon, harbour and pacific."""
+"""Writes the binary files of the examples beside itself: canyon.floats, and the nodes of canyon, harbour, pacific and quake."""
 
 from fractions import Fraction
 from pathlib import Path
@@ -46,6 +46,13 @@ PACIFIC_QUANTUM = 10
 PACIFIC_LAGOON = "1.000", "0.250", "0.125", 13, 4
 PACIFIC_SEA = "0.500", "0.125", "0.250", 17, 5
 
+# How far the earthquake lowered the floor at each node, in steps of 2 to the power -20 metre, rows from south to north, each
+# from west to east.
+QUAY = """
+    1000000   500000  250000
+    2000000  1000000  500000
+"""
+
 
 def steps(value, quantum):
     """The value in steps: nearest, ties to even."""
@@ -73,3 +80,5 @@ write("harbour.nodes", "i", [MARK if value == "none" else steps(value, HARBOUR_Q
 
 level = plane(*PACIFIC_LAGOON) + plane(*PACIFIC_SEA)
 write("pacific.nodes", "i", [steps(value, PACIFIC_QUANTUM) for value in level])
+
+write("quake.nodes", "i", [int(value) for value in QUAY.split()])

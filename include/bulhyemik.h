@@ -4,14 +4,15 @@
  *
  * Units
  *   Longitudes, latitudes and spacings are whole milliarcseconds (mas): 1 degree is 3,600,000. Nodes and results are whole
- *   steps: one step is 2 to the power -Q of the group's unit. Days are plain numbers. Ramp factors are millionths.
+ *   steps: one step is 2 to the power -Q of the group's unit. Days are plain numbers. Factors are millionths.
  *
  * Limits
  *   longitude of points and areas +-648,000,000          latitude +-324,000,000
  *   longitude of a grid's edges +-1,296,000,000          width of a grid at most 1,296,000,000, a whole turn
- *   day, A, B +-1,000,000   S0, S1 +-10,000,000          NI, NJ 2 to 16,384      rank 1 to 1,000
- *   DLON, DLAT 1 to 36,000,000 in size, not 0            ramps 0 to 8            grids 1 to 64
- *   START 0 to 16,777,215   Q 0 to 20   NP 1 to 3        name 1 to 24 bytes of A to Z, a to z, 0 to 9, `_`, `-`
+ *   day +-1,000,000, and so A, B, EVENT, REF and START and END of a ramp2             S0, S1, MULT +-10,000,000
+ *   DLON, DLAT 1 to 36,000,000 in size, not 0            NI, NJ 2 to 16,384      rank 1 to 1,000
+ *   START of a grid 0 to 16,777,215   Q 0 to 20          functions of time 0 to 8, all kinds together      grids 1 to 64
+ *   NP 1 to 3                                            name 1 to 24 bytes of A to Z, a to z, 0 to 9, `_`, `-`
  *   node value +-2,147,483,647, or the no-data mark      from which follow results of a lookup of at most +-171,798,691,760
  *
  * What every function has in common
@@ -50,7 +51,7 @@ extern "C" {
 
 /* The version of this page: major * 1,000,000 + minor * 1,000 + patch; bulhyemik_version answers the library's. An added call
  * raises the minor number; a changed struct, limit or meaning raises the major one. */
-#define BULHYEMIK_VERSION 3000000
+#define BULHYEMIK_VERSION 4000000
 
 /* The library takes the bytes of a name eight at a time, the first as the lowest of a number. */
 #if defined(__BYTE_ORDER__) && defined(__ORDER_LITTLE_ENDIAN__)
@@ -63,7 +64,8 @@ extern "C" {
 enum bulhyemik_refusal {
     BULHYEMIK_ACCEPTED = 0,    /* no refusal; place 0 */
     BULHYEMIK_BAD_FORM = 1,    /* header text not of its form, or it ends early; first bad or missing line */
-    BULHYEMIK_BAD_NUMBER = 2,  /* number outside its limit, A above B, malformed name, unused entry not zero; its line, or 0 */
+    BULHYEMIK_BAD_NUMBER = 2,  /* number outside its limit, A above B, START not below END, a kind that is none, malformed name,
+                                * unused entry or word not zero; its line, or 0 */
     BULHYEMIK_SAME_NAME = 3,   /* grid name stands earlier; lowest such grid */
     BULHYEMIK_BAD_EXTENT = 4,  /* far edge or width outside its limit, or START + NI*NJ*NP above 16,777,216; lowest such grid */
     BULHYEMIK_SAME_RANK = 5,   /* holds a point that an earlier grid of its rank holds too; lowest such later grid */
@@ -80,6 +82,9 @@ enum bulhyemik_refusal {
 /* The units of a group's steps. */
 enum bulhyemik_unit { BULHYEMIK_ARC_SECOND = 0, BULHYEMIK_METRE = 1 };
 
+/* The kinds of a group's functions of time; the words of their lines are `ramp`, `step` and `ramp2`. */
+enum bulhyemik_function_kind { BULHYEMIK_RAMP = 0, BULHYEMIK_STEP = 1, BULHYEMIK_RAMP2 = 2 };
+
 /* The kinds of a fault in a log, in the order in which a line is tested. */
 enum bulhyemik_log_kind {
     BULHYEMIK_LOG_PASSES = 0,  /* the log has no bad line; line 0 */
@@ -91,7 +96,7 @@ enum bulhyemik_log_kind {
 
 enum bulhyemik_size {
     BULHYEMIK_NAME_BYTES = 24,      /* bytes of a name, used or not */
-    BULHYEMIK_MOST_RAMPS = 8,       /* ramps of a group, used or not */
+    BULHYEMIK_MOST_FUNCTIONS = 8,   /* functions of time of a group, used or not */
     BULHYEMIK_MOST_GRIDS = 64,      /* grids of a group, used or not */
     BULHYEMIK_MOST_PARAMETERS = 3,  /* results of a lookup, used or not */
     BULHYEMIK_HEADER_BYTES = 16384, /* holds every header of this and later versions (proved today: at most 6,732 bytes) */
@@ -101,14 +106,49 @@ enum bulhyemik_size {
 /* The no-data mark of a node list; every other number is a value. */
 #define BULHYEMIK_MARK INT32_MIN
 
-/* A ramp of the day factor: `s0` at and before day `a`, `s1` at and after day `b`, in a straight line between them; on a day
- * that is both, `s1`. */
+/* A ramp: its factor is `s0` at and before day `a`, `s1` at and after day `b`, and in a straight line between them, rounded to
+ * the nearest, a tie to even; on a day that is both, `s1`. */
 typedef struct {
     int64_t a;  /* day, not above b */
     int64_t s0; /* factor, in millionths */
     int64_t b;  /* day */
     int64_t s1; /* factor, in millionths */
 } bulhyemik_ramp;
+
+/* A step: with f(t) = 0 before the event, and 1 on its day and after it, the factor is mult * (f(day) - f(reference)). */
+typedef struct {
+    int64_t event;     /* day */
+    int64_t reference; /* day */
+    int64_t mult;      /* in millionths */
+    int64_t unused;    /* 0: a step has no fourth number */
+} bulhyemik_step;
+
+/* A ramp by its reference day: with f(t) = 0 up to `start`, 1 from `end` on, and (t - start) / (end - start) between them, the
+ * factor is mult * (f(day) - f(reference)), one exact fraction that is rounded once, to the nearest, a tie to even. */
+typedef struct {
+    int64_t start;     /* day, below end */
+    int64_t end;       /* day */
+    int64_t reference; /* day */
+    int64_t mult;      /* in millionths */
+} bulhyemik_ramp2;
+
+/* A function of time: its kind, and the numbers of that kind. Refused by 2 at the function's line is a kind that is none of the
+ * three, and a word that the kind has not got where it is not 0. An unused function is a ramp of zeros: all five words are 0.
+ *
+ *     group.function[0].kind = BULHYEMIK_STEP;
+ *     group.function[0].numbers.step.event = 150;
+ *     group.function[0].numbers.step.reference = 0;
+ *     group.function[0].numbers.step.mult = 1000000;
+ *     group.function[0].numbers.step.unused = 0;
+ */
+typedef struct {
+    int64_t kind; /* one of bulhyemik_function_kind */
+    union {
+        bulhyemik_ramp ramp;
+        bulhyemik_step step;
+        bulhyemik_ramp2 ramp2;
+    } numbers; /* the member of the kind */
+} bulhyemik_function;
 
 /* A grid: node (i, j) lies at lon + i*dlon, lat + j*dlat, and its parameter p, from 0, stands in the node list at
  * start + (j*ni + i)*NP + p. */
@@ -122,18 +162,19 @@ typedef struct {
     int64_t start;                      /* first position in the node list, from 0 */
 } bulhyemik_grid;
 
-/* A group. Entries behind a count are all zero. All numbers are signed, so that any can be judged: one below zero is outside
- * the limit of a count, and a unit that is neither of the two is refused by 2 at line 1. */
+/* A group. Entries behind a count are all zero; one that is not, as a step of zeros, whose kind is 1, is refused by 2 at line 1.
+ * All numbers are signed, so that any can be judged: one below zero is outside the limit of a count, and a unit that is neither
+ * of the two is refused by 2 at line 1. */
 typedef struct {
-    uint8_t name[BULHYEMIK_NAME_BYTES];        /* as a grid's */
-    int64_t name_length;                       /* 1 to 24 */
-    int64_t unit;                              /* BULHYEMIK_ARC_SECOND or BULHYEMIK_METRE */
-    int64_t quantum;                           /* Q: one step is 2 to the power -Q of the unit */
-    int64_t parameters;                        /* NP: results of a lookup */
-    int64_t ramps;                             /* count of ramps */
-    int64_t grids;                             /* count of grids */
-    bulhyemik_ramp ramp[BULHYEMIK_MOST_RAMPS]; /* their factors are added; with none the factor is 1 */
-    bulhyemik_grid grid[BULHYEMIK_MOST_GRIDS]; /* grid number k is grid[k - 1]; no two grids share a name */
+    uint8_t name[BULHYEMIK_NAME_BYTES];                    /* as a grid's */
+    int64_t name_length;                                   /* 1 to 24 */
+    int64_t unit;                                          /* BULHYEMIK_ARC_SECOND or BULHYEMIK_METRE */
+    int64_t quantum;                                       /* Q: one step is 2 to the power -Q of the unit */
+    int64_t parameters;                                    /* NP: results of a lookup */
+    int64_t functions;                                     /* count of functions of time, all kinds together */
+    int64_t grids;                                         /* count of grids */
+    bulhyemik_function function[BULHYEMIK_MOST_FUNCTIONS]; /* as written; their factors are added; with none the factor is 1 */
+    bulhyemik_grid grid[BULHYEMIK_MOST_GRIDS];             /* grid number k is grid[k - 1]; no two grids share a name */
 } bulhyemik_group;
 
 /* What a lookup finds. */
@@ -200,6 +241,19 @@ BULHYEMIK_WORD(ramp, a, 0);
 BULHYEMIK_WORD(ramp, s0, 1);
 BULHYEMIK_WORD(ramp, b, 2);
 BULHYEMIK_WORD(ramp, s1, 3);
+BULHYEMIK_WORDS(step, 4);
+BULHYEMIK_WORD(step, event, 0);
+BULHYEMIK_WORD(step, reference, 1);
+BULHYEMIK_WORD(step, mult, 2);
+BULHYEMIK_WORD(step, unused, 3);
+BULHYEMIK_WORDS(ramp2, 4);
+BULHYEMIK_WORD(ramp2, start, 0);
+BULHYEMIK_WORD(ramp2, end, 1);
+BULHYEMIK_WORD(ramp2, reference, 2);
+BULHYEMIK_WORD(ramp2, mult, 3);
+BULHYEMIK_WORDS(function, 5);
+BULHYEMIK_WORD(function, kind, 0);
+BULHYEMIK_WORD(function, numbers, 1);
 BULHYEMIK_WORDS(grid, 12);
 BULHYEMIK_WORD(grid, name, 0);
 BULHYEMIK_WORD(grid, name_length, 3);
@@ -211,16 +265,16 @@ BULHYEMIK_WORD(grid, ni, 8);
 BULHYEMIK_WORD(grid, nj, 9);
 BULHYEMIK_WORD(grid, rank, 10);
 BULHYEMIK_WORD(grid, start, 11);
-BULHYEMIK_WORDS(group, 809);
+BULHYEMIK_WORDS(group, 817);
 BULHYEMIK_WORD(group, name, 0);
 BULHYEMIK_WORD(group, name_length, 3);
 BULHYEMIK_WORD(group, unit, 4);
 BULHYEMIK_WORD(group, quantum, 5);
 BULHYEMIK_WORD(group, parameters, 6);
-BULHYEMIK_WORD(group, ramps, 7);
+BULHYEMIK_WORD(group, functions, 7);
 BULHYEMIK_WORD(group, grids, 8);
-BULHYEMIK_WORD(group, ramp, 9);
-BULHYEMIK_WORD(group, grid, 41);
+BULHYEMIK_WORD(group, function, 9);
+BULHYEMIK_WORD(group, grid, 49);
 BULHYEMIK_WORDS(fix, 4);
 BULHYEMIK_WORD(fix, grid, 0);
 BULHYEMIK_WORD(fix, result, 1);
@@ -268,12 +322,12 @@ uint64_t bulhyemik_version(void);
 /* Judges a group as its header text would be judged.
  *
  * Units and limits: as on top of this page.
- * Refusals, in this order: 2 at the least line that has a number outside its limit, A above B, a malformed name or a byte that
- * is not zero behind it (1 is the group's line, then come the ramps' and the grids'; an unused entry that is not zero counts
- * for line 1); 3, then 4, then 5, each at the lowest such grid. 4 is a far edge outside the limits, a grid wider than a whole
- * turn, or nodes that end above 16,777,216. 5 is an admitted point that the grid and an earlier one of its rank both hold, as
- * bulhyemik_lookup says; so grids can meet across the 180 degree meridian, and one that ends there holds both -648,000,000 and
- * 648,000,000.
+ * Refusals, in this order: 2 at the least line that has a number outside its limit, A above B, START not below END, a kind that
+ * is none, a word that its kind has not got and that is not zero, a malformed name or a byte that is not zero behind it (1 is
+ * the group's line, then come the functions' and the grids'; an unused entry that is not zero counts for line 1); 3, then 4,
+ * then 5, each at the lowest such grid. 4 is a far edge outside the limits, a grid wider than a whole turn, or nodes that end
+ * above 16,777,216. 5 is an admitted point that the grid and an earlier one of its rank both hold, as bulhyemik_lookup says; so
+ * grids can meet across the 180 degree meridian, and one that ends there holds both -648,000,000 and 648,000,000.
  * Lent memory: `*group` is read.
  *
  *     group.quantum = 21;
@@ -284,9 +338,10 @@ uint64_t bulhyemik_version(void);
 uint64_t bulhyemik_judge(const bulhyemik_group *group, uint64_t *place);
 
 /* Reads a header text: text_len bytes of any kind, not closed by a zero byte. One record a line, fields parted by one tab,
- * each line closed by one line feed: `group` NAME UNIT Q NP ramps grids, then for each ramp `ramp` A S0 B S1, then for each
- * grid `grid` NAME LON LAT DLON DLAT NI NJ RANK START. UNIT is `arc-second` or `metre`. Numbers are decimal, below zero led by
- * `-`, with no plus, no leading zero and no -0.
+ * each line closed by one line feed: `group` NAME UNIT Q NP FUNCTIONS GRIDS, then for each function of time, in any mixture,
+ * `ramp` A S0 B S1, `step` EVENT REF MULT or `ramp2` START END REF MULT, then for each grid `grid` NAME LON LAT DLON DLAT NI NJ
+ * RANK START. UNIT is `arc-second` or `metre`. Numbers are decimal, below zero led by `-`, with no plus, no leading zero and
+ * no -0. The first word of a line decides its form: a `ramp2` with three numbers is refused by 1.
  *
  * Units and limits: as on top of this page; a text may have any length, a number any count of digits.
  * Refusals, in this order: 1 or 2 at the first faulty line, 1 before 2 on one line (bytes behind the last line are 1 at the

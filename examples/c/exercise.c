@@ -66,6 +66,26 @@ static bulhyemik_position *read_points(const char *path, size_t *count) {
     return points;
 }
 
+/* A function of time by its kind; factors are in millionths. */
+static void print_function(int number, const bulhyemik_function *function) {
+    const bulhyemik_ramp *ramp = &function->numbers.ramp;
+    const bulhyemik_step *step = &function->numbers.step;
+    const bulhyemik_ramp2 *ramp2 = &function->numbers.ramp2;
+    printf("function %d: ", number);
+    switch (function->kind) {
+    case BULHYEMIK_RAMP:
+        printf("ramp, %" PRId64 " until day %" PRId64 ", %" PRId64 " from day %" PRId64 " on\n", ramp->s0, ramp->a, ramp->s1, ramp->b);
+        break;
+    case BULHYEMIK_STEP:
+        printf("step, %" PRId64 " on day %" PRId64 ", counted from day %" PRId64 "\n", step->mult, step->event, step->reference);
+        break;
+    case BULHYEMIK_RAMP2:
+        printf("ramp2, %" PRId64 " from day %" PRId64 " to day %" PRId64 ", counted from day %" PRId64 "\n", ramp2->mult, ramp2->start,
+               ramp2->end, ramp2->reference);
+        break;
+    }
+}
+
 int main(int argc, char **argv) {
     bulhyemik_group group;
     bulhyemik_fix fix;
@@ -89,6 +109,8 @@ int main(int argc, char **argv) {
     const char *unit = group.unit == BULHYEMIK_METRE ? "metre" : "arc-second";
     printf("group %.24s: %" PRId64 " grids, steps of 2 to the power -%" PRId64 " %s\n", (const char *)group.name, group.grids,
            group.quantum, unit);
+    for (k = 0; k < (size_t)group.functions; k++)
+        print_function((int)k + 1, &group.function[k]);
 
     /* One point, in steps, and what a screen shows of it. */
     const bulhyemik_position one = {-14395000, 180005000, 133};

@@ -12,6 +12,7 @@
 #include <algorithm>
 #include <cerrno>
 #include <cstdio>
+#include <iterator>
 #include <limits>
 #include <memory>
 #include <optional>
@@ -20,6 +21,7 @@
 #include <string_view>
 #include <system_error>
 #include <utility>
+#include <variant>
 #include <vector>
 
 namespace bulhyemik {
@@ -31,7 +33,13 @@ using fault = bulhyemik_fault;
 using fix = bulhyemik_fix;
 using grid = bulhyemik_grid;
 using position = bulhyemik_position;
+using ramp = bulhyemik_ramp;
+using ramp2 = bulhyemik_ramp2;
 using screen_record = bulhyemik_screen;
+using step = bulhyemik_step;
+
+// A function of time, of one of its kinds.
+using function = std::variant<ramp, step, ramp2>;
 
 struct area {
     int64_t west, east, south, north; // in mas
@@ -105,6 +113,18 @@ std::string_view name_of(const Named &named) noexcept {
     return {reinterpret_cast<const char *>(named.name), static_cast<size_t>(named.name_length)};
 }
 
+// A function of an accepted group.
+inline function function_of(const bulhyemik_function &of) noexcept {
+    switch (of.kind) {
+    case BULHYEMIK_STEP:
+        return of.numbers.step;
+    case BULHYEMIK_RAMP2:
+        return of.numbers.ramp2;
+    default:
+        return of.numbers.ramp;
+    }
+}
+
 } // namespace detail
 
 inline std::vector<int32_t> read_nodes(const std::string &path) { return detail::read_numbers<int32_t>(path); }
@@ -136,6 +156,14 @@ public:
     const bulhyemik_group &fields() const noexcept { return *fields_; }
     std::string_view name() const noexcept { return detail::name_of(*fields_); }
     std::string_view unit() const noexcept { return fields_->unit == BULHYEMIK_METRE ? "metre" : "arc-second"; }
+
+    // The functions of time, as they were written.
+    std::vector<function> functions() const {
+        std::vector<function> all;
+        std::transform(fields_->function, fields_->function + fields_->functions, std::back_inserter(all),
+                       detail::function_of);
+        return all;
+    }
 
     const grid *begin() const noexcept { return fields_->grid; }
     const grid *end() const noexcept { return begin() + size(); }

@@ -24,11 +24,30 @@ static std::vector<bulhyemik::position> read_points(const std::string &path) {
     return points;
 }
 
+// A function of time by its kind; factors are in millionths.
+static void print(const bulhyemik::ramp &of) {
+    std::cout << "ramp, " << of.s0 << " until day " << of.a << ", " << of.s1 << " from day " << of.b << " on\n";
+}
+
+static void print(const bulhyemik::step &of) {
+    std::cout << "step, " << of.mult << " on day " << of.event << ", counted from day " << of.reference << '\n';
+}
+
+static void print(const bulhyemik::ramp2 &of) {
+    std::cout << "ramp2, " << of.mult << " from day " << of.start << " to day " << of.end << ", counted from day "
+              << of.reference << '\n';
+}
+
 static void run(const std::string &header, const std::string &nodes, const std::string &points) {
     const auto group = bulhyemik::group::from_file(header);
     const bulhyemik::model model(group, bulhyemik::read_nodes(nodes));
     std::cout << "group " << group.name() << ": " << group.size() << " grids, steps of 2 to the power -"
               << group.fields().quantum << ' ' << group.unit() << '\n';
+    size_t number = 0;
+    for (const bulhyemik::function &function : group.functions()) {
+        std::cout << "function " << ++number << ": ";
+        std::visit([](const auto &kind) { print(kind); }, function);
+    }
 
     // One point, in steps, and what a screen shows of it.
     const bulhyemik::position one{-14395000, 180005000, 133};

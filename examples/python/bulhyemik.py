@@ -25,18 +25,18 @@ from array import array
 from collections import namedtuple
 from collections.abc import Sequence
 from ctypes import POINTER, c_char, c_char_p, c_double, c_float, c_int32, c_int64, c_size_t, c_uint64, sizeof
-from dataclasses import dataclass, field
+from dataclasses import dataclass, field, fields
 from pathlib import Path
 
 # The library's version that brought the limits and the youngest calls of this module: an older one lacks them, a later
 # one has them, until the major number changes.
-NEEDED = 3000000
+NEEDED = 4000000
 
 (ACCEPTED, BAD_FORM, BAD_NUMBER, SAME_NAME, BAD_EXTENT, SAME_RANK, BAD_POINT, NO_GRID, NO_DATA, BAD_DAY, BAD_AREA,
  BAD_NODE, BAD_LENGTH, FEW_NODES) = range(14)
 REASONS = {
     BAD_FORM: "header text not of its form, or it ends early",
-    BAD_NUMBER: "number outside its limit, or A above B",
+    BAD_NUMBER: "number outside its limit, A above B, or START not below END",
     SAME_NAME: "grid name stands earlier",
     BAD_EXTENT: "far edge or width outside its limit, or START + NI*NJ*NP above 16,777,216",
     SAME_RANK: "holds a point that an earlier grid of its rank holds too",
@@ -52,7 +52,7 @@ REASONS = {
 UNITS = ("arc-second", "metre")
 LOG_PASSES, LOG_FORM, LOG_REFUSED, LOG_GRID, LOG_SHIFT = range(5)
 KINDS = ("passes", "form", "lookup refused", "other grid", "other shift")  # of a log's bad line
-NAME_BYTES, MOST_RAMPS, MOST_GRIDS, MOST_PARAMETERS, HEADER_BYTES, LOG_LINE_BYTES = 24, 8, 64, 3, 16384, 128
+NAME_BYTES, MOST_FUNCTIONS, MOST_GRIDS, MOST_PARAMETERS, HEADER_BYTES, LOG_LINE_BYTES = 24, 8, 64, 3, 16384, 128
 MARK = -2**31  # the no-data mark of a node list
 
 
@@ -67,8 +67,35 @@ class Refused(Exception):
         return f"refused by {self.number} at {self.place}: {REASONS.get(self.number, 'no refusal has this number')}"
 
 
-# The factor is s0, in millionths, until day a and s1 from day b on.
-Ramp = namedtuple("Ramp", "a s0 b s1")
+@dataclass(frozen=True)
+class Ramp:
+    """A function of time whose factor, in millionths, is s0 until day a, s1 from day b on and linear between."""
+    a: int
+    s0: int
+    b: int
+    s1: int
+
+
+@dataclass(frozen=True)
+class Step:
+    """One whose factor is mult millionths times f(day) - f(reference); f is 0 before the day event and 1 from it on."""
+    event: int
+    reference: int
+    mult: int
+
+
+@dataclass(frozen=True)
+class Ramp2:
+    """One whose factor is mult millionths times f(day) - f(reference), rounded once; f is 0 until start, 1 from end on
+    and linear between."""
+    start: int
+    end: int
+    reference: int
+    mult: int
+
+
+_KINDS = (("ramp", Ramp), ("step", Step), ("ramp2", Ramp2))  # of functions of time, by their numbers in C
+
 # Node (i, j) of ni by nj lies at lon + i*dlon, lat + j*dlat; the first stands at `start` in the node list.
 Grid = namedtuple("Grid", "number name lon lat dlon dlat ni nj rank start")
 # What a lookup finds: the chosen grid's number and name, and the results in steps, one for each parameter.
@@ -89,9 +116,13 @@ def _struct(name, *fields):
 
 _NAME = ("name", c_char * NAME_BYTES)
 _Ramp = _struct("_Ramp", "a", "s0", "b", "s1")
+_Step = _struct("_Step", "event", "reference", "mult", "unused")
+_Ramp2 = _struct("_Ramp2", "start", "end", "reference", "mult")
+_Numbers = type("_Numbers", (ctypes.Union,), {"_fields_": [("ramp", _Ramp), ("step", _Step), ("ramp2", _Ramp2)]})
+_Function = _struct("_Function", "kind", ("numbers", _Numbers))
 _Grid = _struct("_Grid", _NAME, "name_length", "lon", "lat", "dlon", "dlat", "ni", "nj", "rank", "start")
-_Group = _struct("_Group", _NAME, "name_length", "unit", "quantum", "parameters", "ramps", "grids",
-                 ("ramp", _Ramp * MOST_RAMPS), ("grid", _Grid * MOST_GRIDS))
+_Group = _struct("_Group", _NAME, "name_length", "unit", "quantum", "parameters", "functions", "grids",
+                 ("function", _Function * MOST_FUNCTIONS), ("grid", _Grid * MOST_GRIDS))
 _Fix = _struct("_Fix", "grid", ("result", c_int64 * MOST_PARAMETERS))
 _Position = _struct("_Position", "lon", "lat", "day")
 _Answer = _struct("_Answer", ("number", c_uint64), ("place", c_uint64), ("fix", _Fix))
@@ -238,28 +269,36 @@ def load_nodes(floats, quantum: int, flag: float | None = None) -> array:
     return array("i", bytes(nodes))
 
 
+def _function(record):
+    """A function of time of an accepted group."""
+    name, kind = _KINDS[record.kind]
+    numbers = getattr(record.numbers, name)
+    return kind(*(getattr(numbers, each.name) for each in fields(kind)))
+
+
 @dataclass(frozen=True, init=False)
 class Group:
     """A group of grids, read from its header text and accepted; it can't be changed.
 
     text: the header's bytes, in any buffer, or a str, which is taken as UTF-8 (only ASCII can be accepted)
+    functions: its functions of time, each a Ramp, a Step or a Ramp2, as they were written
     """
     name: str
     unit: str
     quantum: int
     parameters: int
-    ramps: tuple
+    functions: tuple
     grids: tuple
     _record: _Group = field(repr=False, compare=False)
 
     def __init__(self, text):
         raw, record = _bytes(text, "text", "header"), _Group()
         _call(_read_header, raw, len(raw), record)
-        ramps = (Ramp(r.a, r.s0, r.b, r.s1) for r in record.ramp[:record.ramps])
+        functions = map(_function, record.function[:record.functions])
         grids = (Grid(number, g.name.decode("ascii"), g.lon, g.lat, g.dlon, g.dlat, g.ni, g.nj, g.rank, g.start)
                  for number, g in enumerate(record.grid[:record.grids], 1))
         vars(self).update(name=record.name.decode("ascii"), unit=UNITS[record.unit], quantum=record.quantum,
-                          parameters=record.parameters, ramps=tuple(ramps), grids=tuple(grids), _record=record)
+                          parameters=record.parameters, functions=tuple(functions), grids=tuple(grids), _record=record)
 
     @classmethod
     def read(cls, path) -> Group:

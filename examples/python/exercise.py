@@ -8,7 +8,7 @@ It prints what ../callers.expected holds, as the examples in the other languages
 """
 import sys
 
-from bulhyemik import Group, Model, Refused, read_nodes
+from bulhyemik import Group, Model, Ramp, Refused, Step, read_nodes
 
 
 def read_points(path):
@@ -20,10 +20,22 @@ def read_points(path):
             raise ValueError(f"{path}: a line is not longitude, latitude and day") from None
 
 
+def said(function):
+    """A function of time by its kind; factors are in millionths."""
+    if isinstance(function, Ramp):
+        return f"ramp, {function.s0} until day {function.a}, {function.s1} from day {function.b} on"
+    if isinstance(function, Step):
+        return f"step, {function.mult} on day {function.event}, counted from day {function.reference}"
+    return (f"ramp2, {function.mult} from day {function.start} to day {function.end},"
+            f" counted from day {function.reference}")
+
+
 def exercise(header, nodes, points):
     group = Group.read(header)
     model = Model(group, read_nodes(nodes))
     print(f"group {group.name}: {len(group.grids)} grids, steps of 2 to the power -{group.quantum} {group.unit}")
+    for number, function in enumerate(group.functions, 1):
+        print(f"function {number}: {said(function)}")
 
     # One point, in steps, and what a screen shows of it.
     shown = model.screen(-14395000, 180005000, 133)

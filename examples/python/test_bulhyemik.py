@@ -25,11 +25,14 @@ HERE = Path(__file__).resolve().parent
 sys.path.insert(0, str(HERE))
 
 import bulhyemik  # noqa: E402: it stands beside this file
-from bulhyemik import Fault, Fix, Grid, Group, InForce, MARK, Model, Ramp, Refused, load_nodes, read_nodes  # noqa: E402
+from bulhyemik import (  # noqa: E402
+    Fault, Fix, Grid, Group, InForce, MARK, Model, Ramp, Ramp2, Refused, Step, load_nodes, read_nodes)
 
 EXAMPLES = HERE.parent
 HEADER = (EXAMPLES.parent / "include" / "bulhyemik.h").read_text(encoding="utf-8")
 DOCK = b"group\tdock\tmetre\t13\t1\t1\t1\nramp\t100\t0\t200\t1000000\ngrid\tbasin\t0\t0\t10\t10\t3\t2\t1\t0\n"
+MIXED = (b"group\tdock\tmetre\t13\t1\t3\t1\nstep\t300\t0\t-400000\nramp2\t100\t200\t150\t1000000\n"
+         b"ramp\t100\t0\t200\t1000000\ngrid\tbasin\t0\t0\t10\t10\t3\t2\t1\t0\n")
 DOCK_NODES = [0, 10, 20, 100, 110, 120]
 HUGE = 10**30
 
@@ -102,7 +105,7 @@ class Interface(Case):
             self.assertEqual(8 * int(sizes[name]), ctypes.sizeof(struct), name)
             fields = [(field, 8 * int(word)) for owner, field, word in offsets if owner == name]
             self.assertEqual(fields, [(field, getattr(struct, field).offset) for field, _ in struct._fields_], name)
-        self.assertEqual(11, len(structs))
+        self.assertEqual(14, len(structs))
 
     def test_prototypes(self):
         numbers = {"int64_t": ctypes.c_int64, "uint64_t": ctypes.c_uint64, "size_t": ctypes.c_size_t,
@@ -129,13 +132,15 @@ class Interface(Case):
             self.assertEqual(value, getattr(bulhyemik, name), name)
         units = re.search(r"BULHYEMIK_ARC_SECOND = (\d), BULHYEMIK_METRE = (\d)", HEADER)
         self.assertEqual(("arc-second", "metre"), tuple(bulhyemik.UNITS[int(unit)] for unit in units.groups()))
+        kinds = re.search(r"BULHYEMIK_RAMP = (\d), BULHYEMIK_STEP = (\d), BULHYEMIK_RAMP2 = (\d)", HEADER)
+        self.assertEqual((Ramp, Step, Ramp2), tuple(bulhyemik._KINDS[int(kind)][1] for kind in kinds.groups()))
         self.assertEqual("other shift", bulhyemik.KINDS[bulhyemik.LOG_SHIFT])
         self.assertIn("#define BULHYEMIK_MARK INT32_MIN", HEADER)
         self.assertEqual(-2147483648, MARK)
 
     def test_reasons_are_the_headers(self):
         refusals = re.search(r"enum bulhyemik_refusal \{(.*?)\};", HEADER, re.S).group(1)
-        said = {int(number): words for number, words in re.findall(r"= (\d+),? +/\* (.*?) \*/", refusals)}
+        said = {int(number): words for number, words in re.findall(r"= (\d+),? +/\* (.*?) \*/", refusals, re.S)}
         self.assertEqual(set(said), {bulhyemik.ACCEPTED, *bulhyemik.REASONS})
         for number, reason in bulhyemik.REASONS.items():
             self.assertEqual(set(), set(re.findall(r"\w{4,}", reason)) - set(re.findall(r"\w+", said[number])))
@@ -154,14 +159,14 @@ class Interface(Case):
             spec.loader.exec_module(second)
 
     def test_library_of_another_version(self):
-        for version in (0, 1004000, 2000000, 2999999, 4000000, 4004000):
+        for version in (0, 1004000, 3000000, 3999999, 5000000, 5004000):
             with self.assertRaisesRegex(ImportError, f"version {version}.*BULHYEMIK_SHARED_LIBRARY"):
                 self.load(lambda path: mock.Mock(bulhyemik_version=mock.Mock(return_value=version)))
-        for version in (3000000, 3000005, 3001000, 3999999):
+        for version in (4000000, 4000005, 4001000, 4999999):
             self.load(lambda path: mock.Mock(bulhyemik_version=mock.Mock(return_value=version)))
 
     def test_library_that_is_none(self):
-        for named in ("/nowhere/libbulhyemik.so.3", __file__, str(HERE)):
+        for named in ("/nowhere/libbulhyemik.so.4", __file__, str(HERE)):
             with mock.patch.dict("os.environ", BULHYEMIK_SHARED_LIBRARY=named):
                 with self.assertRaisesRegex(ImportError, "name its file in BULHYEMIK_SHARED_LIBRARY"):
                     self.load(ctypes.CDLL)
@@ -174,14 +179,42 @@ class Groups(Case):
     def test_dock(self):
         group = Group(DOCK)
         self.assertEqual(("dock", "metre", 13, 1), (group.name, group.unit, group.quantum, group.parameters))
-        self.assertEqual((Ramp(100, 0, 200, 1000000),), group.ramps)
+        self.assertEqual((Ramp(100, 0, 200, 1000000),), group.functions)
         self.assertEqual((Grid(1, "basin", 0, 0, 10, 10, 3, 2, 1, 0),), group.grids)
 
     def test_canyon(self):
         group = Group.read(str(EXAMPLES / "canyon.txt"))
         self.assertEqual(("Catalano_Canyon", "arc-second", 20, 2, ()),
-                         (group.name, group.unit, group.quantum, group.parameters, group.ramps))
+                         (group.name, group.unit, group.quantum, group.parameters, group.functions))
         self.assertEqual(Grid(2, "North", 27360000, 144540000, 360000, -180000, 3, 4, 2, 30), group.grids[1])
+
+    def test_functions_of_all_kinds_keep_their_order(self):
+        group = Group(MIXED)
+        functions = (Step(300, 0, -400000), Ramp2(100, 200, 150, 1000000), Ramp(100, 0, 200, 1000000))
+        self.assertEqual(functions, group.functions)
+        self.assertEqual(MIXED, group.text())
+        self.assertEqual(group, pickle.loads(pickle.dumps(group)))
+        self.assertNotEqual(Ramp(1, 2, 3, 4), Ramp2(1, 2, 3, 4), "kinds differ, whatever their numbers")
+        self.assertRaises(AttributeError, setattr, group.functions[0], "mult", 1)
+        model = Model(group, [1000000] * 6)
+        factors = [model.lookup(5, 5, day).results[0] for day in (99, 133, 200, 299, 300)]
+        self.assertEqual([-500000, 160000, 1500000, 1500000, 1100000], factors)
+
+    def test_a_factor_is_rounded_once(self):
+        text = DOCK.replace(b"ramp\t100\t0\t200\t1000000", b"ramp2\t0\t3\t1\t1")
+        model = Model(Group(text), [1000000] * 6)
+        self.assertEqual([0, 0, 0, 1], [model.lookup(5, 5, day).results[0] for day in range(4)])
+
+    def test_refused_functions(self):
+        for number, place, one, other in [
+            (1, 2, b"step\t300", b"step"), (1, 2, b"-400000", b"-400000\t0"), (1, 3, b"\t150", b""),
+            (1, 3, b"ramp2", b"ramp3"), (1, 3, b"ramp2", b"step"), (1, 4, b"\nramp\t", b"\nstep\t"),
+            (1, 4, b"\t3\t1\n", b"\t2\t1\n"), (2, 1, b"\t3\t1\n", b"\t9\t1\n"),
+            (2, 2, b"300", b"1000001"), (2, 2, b"-400000", b"-10000001"), (2, 3, b"100\t200", b"200\t200"),
+            (2, 3, b"100\t200", b"201\t200"), (2, 3, b"150", b"-1000001"),
+        ]:
+            self.assertIn(one, MIXED)
+            self.assertRefused(number, place, Group, MIXED.replace(one, other, 1))
 
     def test_text_is_given_back(self):
         name = "N" * 24
@@ -192,7 +225,7 @@ class Groups(Case):
         examples = [(EXAMPLES / f"{each}.txt").read_bytes() for each in ("canyon", "harbour", "pacific", "world")]
         for text in (DOCK, full.encode(), *examples):
             self.assertEqual(text, Group(text).text())
-        self.assertEqual((name, 8, 64), (Group(full).name, len(Group(full).ramps), len(Group(full).grids)))
+        self.assertEqual((name, 8, 64), (Group(full).name, len(Group(full).functions), len(Group(full).grids)))
         self.assertEqual("G" * 22 + "64", Group(full).grids[63].name)
 
     def test_forms_of_a_text(self):

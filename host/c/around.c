@@ -24,7 +24,7 @@ static void expect(int holds, const char *what) {
     }
 }
 
-/* The greatest header: 8 ramps and 64 grids, the best at (0, 0) with the spacing 1000, the last one coarse; and nodes with which
+/* The greatest header: 8 functions of time and 64 grids, the best at (0, 0) with the spacing 1000, the last one coarse; and nodes with which
  * sums pass one word there. */
 static char text[BULHYEMIK_HEADER_BYTES];
 static size_t text_len;
@@ -33,8 +33,14 @@ static int32_t nodes[16384];
 static void make_inputs(void) {
     int k;
     char *end = text + sprintf(text, "group\tlargest\tmetre\t10\t3\t8\t64\n");
-    for (k = 0; k < 8; k++)
-        end += sprintf(end, "ramp\t%d\t%d\t%d\t777\n", k, -100000 * k, 200 + k);
+    for (k = 0; k < 8; k++) {
+        if (k % 3 == 0)
+            end += sprintf(end, "ramp\t%d\t%d\t%d\t777\n", k, -100000 * k, 200 + k);
+        else if (k % 3 == 1)
+            end += sprintf(end, "step\t%d\t%d\t%d\n", 10 * k, 5 * k, 50000 * k);
+        else
+            end += sprintf(end, "ramp2\t%d\t%d\t%d\t%d\n", -k, 200 + k, 100, 12345 * k);
+    }
     for (k = 0; k < 64; k++) {
         int spacing = k < 63 ? 1000 : 36000000;
         end += sprintf(end, "grid\tgrid-%d\t%d\t%d\t%d\t%d\t%d\t7\t%d\t%d\n", k, k, k, spacing, spacing, 5 + k % 7, k + 1,

@@ -45,13 +45,17 @@ static int same(double one, double other) {
     return memcmp(&one, &other, sizeof one) == 0;
 }
 
-/* The group of HEADER. */
-static bulhyemik_group dock(void) {
+/* The group of an accepted text. */
+static bulhyemik_group group_of(const char *text) {
     bulhyemik_group group;
     uint64_t place;
     memset(&group, 0xa5, sizeof group);
-    EXPECT(bulhyemik_read_header(bytes(HEADER), strlen(HEADER), &group, &place) == BULHYEMIK_ACCEPTED && place == 0);
+    EXPECT(bulhyemik_read_header(bytes(text), strlen(text), &group, &place) == BULHYEMIK_ACCEPTED && place == 0);
     return group;
+}
+
+static bulhyemik_group dock(void) {
+    return group_of(HEADER);
 }
 
 static void put_grid(bulhyemik_grid *grid, const char *name, int64_t lon, int64_t ni, int64_t rank) {
@@ -84,9 +88,10 @@ static void read_header(void) {
     bulhyemik_group group = dock();
     EXPECT(memcmp(group.name, "dock\0\0\0\0\0\0\0\0\0\0\0\0\0\0\0\0\0\0\0", 24) == 0 && group.name_length == 4);
     EXPECT(group.unit == BULHYEMIK_METRE && group.quantum == 13 && group.parameters == 1);
-    EXPECT(group.ramps == 1 && group.ramp[0].a == 100 && group.ramp[0].s0 == 0);
-    EXPECT(group.ramp[0].b == 200 && group.ramp[0].s1 == 1000000);
-    EXPECT(all(&group.ramp[1], sizeof group.ramp - sizeof group.ramp[0], 0));
+    EXPECT(group.functions == 1 && group.function[0].kind == BULHYEMIK_RAMP);
+    EXPECT(group.function[0].numbers.ramp.a == 100 && group.function[0].numbers.ramp.s0 == 0);
+    EXPECT(group.function[0].numbers.ramp.b == 200 && group.function[0].numbers.ramp.s1 == 1000000);
+    EXPECT(all(&group.function[1], sizeof group.function - sizeof group.function[0], 0));
     EXPECT(group.grids == 1 && group.grid[0].name_length == 5);
     EXPECT(memcmp(group.grid[0].name, "basin\0\0\0\0\0\0\0\0\0\0\0\0\0\0\0\0\0\0", 24) == 0);
     EXPECT(group.grid[0].lon == 0 && group.grid[0].lat == 0 && group.grid[0].dlon == 10 && group.grid[0].dlat == 10);
@@ -146,7 +151,7 @@ static void judge(void) {
     group.unit = 2;
     EXPECT(bulhyemik_judge(&group, &place) == BULHYEMIK_BAD_NUMBER && place == 1);
     group = dock();
-    group.ramp[0].a = 201;
+    group.function[0].numbers.ramp.a = 201;
     EXPECT(bulhyemik_judge(&group, &place) == BULHYEMIK_BAD_NUMBER && place == 2);
     group = three_grids();
     memcpy(group.grid[2].name, "G1", 2);
@@ -157,6 +162,128 @@ static void judge(void) {
     group = three_grids();
     group.grid[2].rank = 1;
     EXPECT(bulhyemik_judge(&group, &place) == BULHYEMIK_SAME_RANK && place == 3);
+}
+
+/* A function of each kind. */
+static const char MIXED[] =
+    "group\tdock\tmetre\t13\t1\t3\t1\n"
+    "step\t300\t0\t-400000\n"
+    "ramp2\t100\t200\t150\t1000000\n"
+    "ramp\t100\t0\t200\t1000000\n"
+    "grid\tbasin\t0\t0\t10\t10\t3\t2\t1\t0\n";
+
+/* The first result of nodes that are all a million on a day: the day's factor. */
+static int64_t factor(const bulhyemik_group *group, int64_t day) {
+    static const int32_t million[6] = {1000000, 1000000, 1000000, 1000000, 1000000, 1000000};
+    bulhyemik_fix fix;
+    uint64_t place = 77;
+    EXPECT(bulhyemik_lookup(group, million, 6, 5, 5, day, &fix, &place) == BULHYEMIK_ACCEPTED && place == 0);
+    return fix.result[0];
+}
+
+/* All kinds are read in their order, looked up and written back. */
+static void functions(void) {
+    static uint8_t out[BULHYEMIK_HEADER_BYTES];
+    bulhyemik_group group = group_of(MIXED), made = dock();
+    const bulhyemik_function *f = group.function;
+    uint64_t count = 77, place = 77;
+    EXPECT(group.functions == 3);
+    EXPECT(f[0].kind == BULHYEMIK_STEP && f[0].numbers.step.event == 300 && f[0].numbers.step.reference == 0);
+    EXPECT(f[0].numbers.step.mult == -400000 && f[0].numbers.step.unused == 0);
+    EXPECT(f[1].kind == BULHYEMIK_RAMP2 && f[1].numbers.ramp2.start == 100 && f[1].numbers.ramp2.end == 200);
+    EXPECT(f[1].numbers.ramp2.reference == 150 && f[1].numbers.ramp2.mult == 1000000);
+    EXPECT(f[2].kind == BULHYEMIK_RAMP && f[2].numbers.ramp.a == 100 && f[2].numbers.ramp.s1 == 1000000);
+    EXPECT(all(&f[3], sizeof group.function - 3 * sizeof f[0], 0));
+    EXPECT(factor(&group, 99) == -500000 && factor(&group, 133) == 160000 && factor(&group, 200) == 1500000);
+    EXPECT(factor(&group, 299) == 1500000 && factor(&group, 300) == 1100000);
+    memset(out, 0xa5, sizeof out);
+    EXPECT(bulhyemik_write_header(&group, out, sizeof out, &count, &place) == BULHYEMIK_ACCEPTED && place == 0);
+    EXPECT(count == strlen(MIXED) && memcmp(out, MIXED, strlen(MIXED)) == 0);
+    EXPECT(all(out + count, sizeof out - (size_t)count, 0xa5));
+    /* one rounding: a third, of which two would make 1 - 0 */
+    memset(&made.function[0], 0, sizeof made.function[0]);
+    made.function[0].kind = BULHYEMIK_RAMP2;
+    made.function[0].numbers.ramp2.end = 3;
+    made.function[0].numbers.ramp2.reference = 1;
+    made.function[0].numbers.ramp2.mult = 1;
+    EXPECT(factor(&made, 2) == 0 && factor(&made, 3) == 1 && factor(&made, 0) == 0);
+    made.function[0].kind = BULHYEMIK_STEP;
+    made.function[0].numbers.step.event = -1;
+    made.function[0].numbers.step.reference = -1;
+    made.function[0].numbers.step.mult = 7;
+    made.function[0].numbers.step.unused = 0;
+    EXPECT(factor(&made, -2) == -7 && factor(&made, -1) == 0 && factor(&made, 0) == 0);
+}
+
+/* Judges, writes and looks up a group that is refused by 2 at a line, which changes neither it nor what is lent. */
+static void refused_group(const bulhyemik_group *group, uint64_t at) {
+    const bulhyemik_group before = *group;
+    bulhyemik_fix fix;
+    uint8_t out[64];
+    uint64_t count = 77, place = 77;
+    EXPECT(bulhyemik_judge(group, &place) == BULHYEMIK_BAD_NUMBER && place == at);
+    memset(out, 0xa5, sizeof out);
+    place = 77;
+    EXPECT(bulhyemik_write_header(group, out, sizeof out, &count, &place) == BULHYEMIK_BAD_NUMBER && place == at);
+    EXPECT(count == 0 && all(out, sizeof out, 0xa5));
+    place = 77;
+    memset(&fix, 0xa5, sizeof fix);
+    EXPECT(bulhyemik_lookup(group, NODES, 6, 5, 5, 0, &fix, &place) == BULHYEMIK_BAD_NUMBER && place == at);
+    EXPECT(all(&fix, sizeof fix, 0) && memcmp(group, &before, sizeof before) == 0);
+}
+
+static void refused_functions(void) {
+    static const int64_t kinds[5] = {3, -1, (int64_t)1 << 32, INT64_MIN, INT64_MAX};
+    static const char three[] = "group\tg\tmetre\t0\t1\t1\t1\nramp2\t1\t2\t3\n";
+    static const char four[] = "group\tg\tmetre\t0\t1\t1\t1\nstep\t1\t2\t3\t0\n";
+    static const char equal[] = "group\tg\tmetre\t0\t1\t1\t1\nramp2\t2\t2\t3\t4\n";
+    static const char nine[] = "group\tg\tmetre\t0\t1\t9\t1\n";
+    bulhyemik_group group;
+    int k;
+    refused(three, strlen(three), BULHYEMIK_BAD_FORM, 2);
+    refused(four, strlen(four), BULHYEMIK_BAD_FORM, 2);
+    refused(equal, strlen(equal), BULHYEMIK_BAD_NUMBER, 2);
+    refused(nine, strlen(nine), BULHYEMIK_BAD_NUMBER, 1);
+    for (k = 0; k < 5; k++) {
+        group = group_of(MIXED);
+        group.function[1].kind = kinds[k];
+        refused_group(&group, 3);
+        group = group_of(MIXED);
+        group.function[3].kind = kinds[k];
+        refused_group(&group, 1);
+    }
+    group = group_of(MIXED);
+    group.function[0].numbers.step.unused = 1;
+    refused_group(&group, 2);
+    group.function[0].numbers.step.unused = INT64_MIN;
+    refused_group(&group, 2);
+    group = group_of(MIXED);
+    group.function[7].kind = BULHYEMIK_STEP;
+    refused_group(&group, 1);
+    group.function[7].kind = BULHYEMIK_RAMP2;
+    refused_group(&group, 1);
+    group.function[7].kind = BULHYEMIK_RAMP;
+    group.function[7].numbers.step.unused = 1;
+    refused_group(&group, 1);
+    group = group_of(MIXED);
+    group.function[1].numbers.ramp2.start = 200;
+    refused_group(&group, 3);
+    group.function[1].numbers.ramp2.start = 201;
+    refused_group(&group, 3);
+    group = group_of(MIXED);
+    group.function[0].numbers.step.event = 1000001;
+    refused_group(&group, 2);
+    group = group_of(MIXED);
+    group.function[0].numbers.step.mult = -10000001;
+    refused_group(&group, 2);
+    group = group_of(MIXED);
+    group.function[1].numbers.ramp2.reference = -1000001;
+    refused_group(&group, 3);
+    group = group_of(MIXED);
+    group.functions = 9;
+    refused_group(&group, 1);
+    group.functions = 2;
+    refused_group(&group, 1);
 }
 
 static void write_header(void) {
@@ -503,10 +630,10 @@ static void longest_line(void) {
     uint64_t count = 77, place = 77;
     int k;
     group.parameters = 3;
-    group.ramps = 8;
+    group.functions = 8;
     for (k = 0; k < 8; k++) {
-        group.ramp[k].a = group.ramp[k].b = 0;
-        group.ramp[k].s0 = group.ramp[k].s1 = 10000000;
+        group.function[k].numbers.ramp.a = group.function[k].numbers.ramp.b = 0;
+        group.function[k].numbers.ramp.s0 = group.function[k].numbers.ramp.s1 = 10000000;
     }
     put_grid(&group.grid[0], "ABCDEFGHIJKLMNOPQRSTUVWX", at.lon, 2, 1);
     group.grid[0].lat = at.lat;
@@ -729,6 +856,8 @@ int main(void) {
     read_header();
     read_refused_headers();
     judge();
+    functions();
+    refused_functions();
     write_header();
     field();
     lookup();

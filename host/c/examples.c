@@ -34,6 +34,21 @@ static void judge(void) {
     group.quantum = 13;
 }
 
+/* A step in place of the ramp, on the day before and on its event; then the ramp again. */
+static void function_of_time(void) {
+    const bulhyemik_function ramp = group.function[0];
+    bulhyemik_fix before, on;
+    group.function[0].kind = BULHYEMIK_STEP;
+    group.function[0].numbers.step.event = 150;
+    group.function[0].numbers.step.reference = 0;
+    group.function[0].numbers.step.mult = 1000000;
+    group.function[0].numbers.step.unused = 0;
+    bulhyemik_lookup(&group, nodes, 6, 5, 5, 149, &before, &place);
+    bulhyemik_lookup(&group, nodes, 6, 5, 5, 150, &on, &place);
+    printf("%ld steps before the event, %ld on it\n", (long)before.result[0], (long)on.result[0]);
+    group.function[0] = ramp;
+}
+
 static void write_header(void) {
     uint8_t out[BULHYEMIK_HEADER_BYTES];
     uint64_t count;
@@ -123,6 +138,7 @@ int main(void) {
     version();
     read_header();
     judge();
+    function_of_time();
     write_header();
     field();
     lookup();

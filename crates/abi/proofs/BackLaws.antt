@@ -9,17 +9,18 @@ use lib.IntN.{ℤ, pos}
 use lib.ListN.{length, List·getD-append}
 use lib.Seq.{getD-append-add}
 use Rattle.numbers.specs.Order.{between, beyond, countOf}
-use Rattle.group.specs.Numbers.{nameMost, rampsMost, gridsMost}
-use Rattle.abi.specs.Words.{nameWords, unitIndex, quantumIndex, headWords, rampWords, gridWords, rampIndex, gridIndex}
+use Rattle.group.specs.Numbers.{nameMost, functionsMost, gridsMost}
+use Rattle.abi.specs.Words.{nameWords, unitIndex, quantumIndex, headWords, functionWords, gridWords, functionIndex, gridIndex}
 use Rattle.group.specs.declared.Name.{Name}
 use Rattle.group.specs.declared.Unit.{Unit}
 use Rattle.group.specs.declared.Unit.the-variants.{ArcSecond, Metre}
 use Rattle.group.specs.declared.Group.{Group}
-use Rattle.group.specs.Blank.{blankRamp}
-use Rattle.group.specs.Record.{noGrid, rampAt, gridAt}
-use Rattle.abi.specs.Abi.{byteAt, numberAt, countAt, nameOfWords, unitOf, rampOfWords, gridOfWords, groupOfWords, stored, unitNumber, joined, wordOf, nameNumber, rampNumbers, gridNumbers, headNumbers, numbersOf, signedMost, KeptName, KeptGrid, KeptHead, KeptGroup}
+use Rattle.group.specs.Blank.{blankFunction}
+use Rattle.group.specs.Record.{noGrid, functionAt, gridAt}
+use Rattle.abi.specs.Abi.{byteAt, numberAt, countAt, nameOfWords, unitOf, functionOf, functionOfWords, gridOfWords, groupOfWords, stored, unitNumber, joined, wordOf, nameNumber, functionNumbers, gridNumbers, headNumbers, numbersOf, signedMost, KeptName, KeptGrid, KeptHead, KeptGroup}
 use Rattle.abi.proofs.ListLaws.{length-joined, getD-joined, listOf-is}
 use Rattle.abi.proofs.WordLaws.{word-most, name-back}
+use Rattle.abi.proofs.FunctionLaws.{shape-back}
 
 count-back : (z : ℤ) (n : ℕ) → n ≤ signedMost → z ≡ stored n → countOf z ≡ n
 count-back z n h e = ap countOf e ∙ min-eq-left h
@@ -33,39 +34,39 @@ unit-known ArcSecond = refl
 unit-known Metre = refl
 
 module _ (g : Group) where
-  ramps : List ℤ
-  ramps = joined (λ k. rampNumbers (rampAt g k)) rampsMost
+  functions : List ℤ
+  functions = joined (λ k. functionNumbers (functionAt g k)) functionsMost
 
   grids : List ℤ
   grids = joined (λ k. gridNumbers (gridAt g k)) gridsMost
 
-  ramps-length : length ramps ≡ rampsMost * rampWords
-  unfolding ramps
-  ramps-length = length-joined (λ k. rampNumbers (rampAt g k)) rampWords rampsMost (λ k l. refl)
+  functions-length : length functions ≡ functionsMost * functionWords
+  unfolding functions
+  functions-length = length-joined (λ k. functionNumbers (functionAt g k)) functionWords functionsMost (λ k l. refl)
 
   pub head-number : (j : ℕ) → j < headWords → numberAt (numbersOf g) j ≡ numberAt (headNumbers g) j
-  unfolding numbersOf ramps grids
-  head-number j l = List·getD-append (headNumbers g) (ramps ++ grids) (pos 0) j l
+  unfolding numbersOf functions grids
+  head-number j l = List·getD-append (headNumbers g) (functions ++ grids) (pos 0) j l
 
-  ramp-number : (k j : ℕ) → k < rampsMost → j < rampWords → numberAt (numbersOf g) (rampIndex k j) ≡ numberAt (rampNumbers (rampAt g k)) j
-  unfolding numbersOf ramps grids
-  ramp-number k j a b =
-      let n = ramps-length in
-      let e : rampIndex k j ≡ headWords + (k * rampWords + j) = omega arith in
-      ap (λ (i : ℕ). numberAt (headNumbers g ++ (ramps ++ grids)) i) e
-      ∙ getD-append-add (headNumbers g) (ramps ++ grids) (k * rampWords + j) (pos 0)
-      ∙ List·getD-append ramps grids (pos 0) (k * rampWords + j) (omega arith)
-      ∙ getD-joined (λ i. rampNumbers (rampAt g i)) rampWords rampsMost (pos 0) (λ i. refl) k j a b
+  function-number : (k j : ℕ) → k < functionsMost → j < functionWords → numberAt (numbersOf g) (functionIndex k j) ≡ numberAt (functionNumbers (functionAt g k)) j
+  unfolding numbersOf functions grids
+  function-number k j a b =
+      let n = functions-length in
+      let e : functionIndex k j ≡ headWords + (k * functionWords + j) = omega arith in
+      ap (λ (i : ℕ). numberAt (headNumbers g ++ (functions ++ grids)) i) e
+      ∙ getD-append-add (headNumbers g) (functions ++ grids) (k * functionWords + j) (pos 0)
+      ∙ List·getD-append functions grids (pos 0) (k * functionWords + j) (omega arith)
+      ∙ getD-joined (λ i. functionNumbers (functionAt g i)) functionWords functionsMost (pos 0) (λ i. refl) k j a b
 
   pub grid-number : (k j : ℕ) → k < gridsMost → j < gridWords → numberAt (numbersOf g) (gridIndex k j) ≡ numberAt (gridNumbers (gridAt g k)) j
-  unfolding numbersOf ramps grids
+  unfolding numbersOf functions grids
   grid-number k j a b =
-      let n = ramps-length in
-      let e : gridIndex k j ≡ headWords + (rampsMost * rampWords + (k * gridWords + j)) = omega arith in
-      ap (λ (i : ℕ). numberAt (headNumbers g ++ (ramps ++ grids)) i) e
-      ∙ getD-append-add (headNumbers g) (ramps ++ grids) (rampsMost * rampWords + (k * gridWords + j)) (pos 0)
-      ∙ ap (λ (i : ℕ). numberAt (ramps ++ grids) (i + (k * gridWords + j))) (sym n)
-      ∙ getD-append-add ramps grids (k * gridWords + j) (pos 0)
+      let n = functions-length in
+      let e : gridIndex k j ≡ headWords + (functionsMost * functionWords + (k * gridWords + j)) = omega arith in
+      ap (λ (i : ℕ). numberAt (headNumbers g ++ (functions ++ grids)) i) e
+      ∙ getD-append-add (headNumbers g) (functions ++ grids) (functionsMost * functionWords + (k * gridWords + j)) (pos 0)
+      ∙ ap (λ (i : ℕ). numberAt (functions ++ grids) (i + (k * gridWords + j))) (sym n)
+      ∙ getD-append-add functions grids (k * gridWords + j) (pos 0)
       ∙ getD-joined (λ i. gridNumbers (gridAt g i)) gridWords gridsMost (pos 0) (λ i. refl) k j a b
 
   -- the words of a name
@@ -87,14 +88,15 @@ module _ (g : Group) where
   grid-word k m (suc (suc zero)) l = ap (numberAt (numbersOf g)) (omega arith) ∙ grid-number k 2 m (omega arith)
   grid-word k m (suc (suc (suc w))) l = absurd (omega arith)
 
-  pub ramp-back : (k : ℕ) → k < rampsMost → rampOfWords (numbersOf g) k ≡ rampAt g k
-  unfolding rampOfWords
-  ramp-back k l =
-      let a = ramp-number k 0 l (omega arith) in
-      let s0 = ramp-number k 1 l (omega arith) in
-      let b = ramp-number k 2 l (omega arith) in
-      let s1 = ramp-number k 3 l (omega arith) in
-      λ i. record { a = a i; s0 = s0 i; b = b i; s1 = s1 i }
+  pub function-back : (k : ℕ) → k < functionsMost → functionOfWords (numbersOf g) k ≡ functionAt g k
+  unfolding functionOfWords
+  function-back k l =
+      let kind = function-number k 0 l (omega arith) in
+      let a = function-number k 1 l (omega arith) in
+      let b = function-number k 2 l (omega arith) in
+      let c = function-number k 3 l (omega arith) in
+      let d = function-number k 4 l (omega arith) in
+      (λ i. functionOf (kind i) (a i) (b i) (c i) (d i)) ∙ shape-back (functionAt g k .shape)
 
   pub grid-back : (k : ℕ) → k < gridsMost → KeptGrid (gridAt g k) → gridOfWords (numbersOf g) k ≡ gridAt g k
   unfolding gridOfWords
@@ -145,9 +147,9 @@ module _ (g : Group) where
     unfolding groupOfWords
     parameters-back = count-back _ (g .parameters) (h .parameters) (head-number 6 (omega arith))
 
-    pub ramps-back : groupOfWords (numbersOf g) .ramps ≡ g .ramps
+    pub functions-back : groupOfWords (numbersOf g) .functions ≡ g .functions
     unfolding groupOfWords
-    ramps-back = count-back _ (g .ramps) (h .ramps) (head-number 7 (omega arith))
+    functions-back = count-back _ (g .functions) (h .functions) (head-number 7 (omega arith))
 
     pub grids-back : groupOfWords (numbersOf g) .grids ≡ g .grids
     unfolding groupOfWords
@@ -160,17 +162,17 @@ module _ (g : Group) where
       let unit = ap unitOf (head-number unitIndex (omega arith)) ∙ unit-back (g .unit) in
       let quantum = quantum-back (h .head) in
       let parameters = parameters-back (h .head) in
-      let rs = ramps-back (h .head) in
+      let rs = functions-back (h .head) in
       let gs = grids-back (h .head) in
-      let ramp = listOf-is (rampOfWords (numbersOf g)) blankRamp rampsMost (g .ramp) (h .ramp) ramp-back in
+      let function = listOf-is (functionOfWords (numbersOf g)) blankFunction functionsMost (g .function) (h .function) function-back in
       let grid = listOf-is (gridOfWords (numbersOf g)) noGrid gridsMost (g .grid) (h .grid) (λ k l. grid-back k l (h .kept k l)) in
       λ i. record {
         name = name i;
         unit = unit i;
         quantum = quantum i;
         parameters = parameters i;
-        ramps = rs i;
+        functions = rs i;
         grids = gs i;
-        ramp = ramp i;
+        function = function i;
         grid = grid i;
       }

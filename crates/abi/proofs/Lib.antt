@@ -1,6 +1,7 @@
 -- The laws of a group as words.
 pub mod ListLaws
 pub mod NumberLaws
+pub mod FunctionLaws
 pub mod ShapeLaws
 pub mod ClearLaws
 pub mod GroupLaws

@@ -1,4 +1,4 @@
--- What a record that the machine holds has by its type: all ramps and grids, and names of 24 bytes.
+-- What a record that the machine holds has by its type: all functions and grids, and names of 24 bytes.
 use Prim.Native.Nat.{ℕ, zero, suc, _<_}
 use mathlib.Core.Path.{sym, _∙_}
 use mathlib.Core.List.{List, [], _∷_, map}
@@ -43,11 +43,11 @@ shaped-name n vs p =
 pub machine-shaped : (g : Group) (vs : List Val) → Is (row group.the-type) g vs → MachineGroup g
 machine-shaped g vs p =
     let f = p .1 .1 in
-    let ramps = f .1 .1 .1 .1 .1 .1 .0 in
+    let functions = f .1 .1 .1 .1 .1 .1 .0 in
     let grids = f .1 .1 .1 .1 .1 .1 .1 .0 in
     record {
       name = shaped-name (g .name) (p .0 .0) (f .0);
-      ramp = sym (length-map (g .ramp) _) ∙ ramps .1 .0 .1;
+      function = sym (length-map (g .function) _) ∙ functions .1 .0 .1;
       grid = sym (length-map (g .grid) _) ∙ grids .1 .0 .1;
       names = λ k l.
           each-at (grid.the-field .row) (grid.the-type .to) (λ (d : Grid). MachineName (d .name)) (λ d us q. shaped-name (d .name) (q .0 .0) (q .1 .1 .0)) (g .grid) (grids .0) (grids .1 .1) noGrid k

@@ -1,7 +1,7 @@
 -- A group as the C interface passes it: a list of signed numbers. What is not there counts as 0.
 use Prim.Native.Nat.{ℕ, zero, suc, _+_, _*_, _/_, _%_, _^_, min, _≤_, _<_}
 use mathlib.Core.Path.{_≡_}
-use mathlib.Core.Bool.{cond}
+use mathlib.Core.Bool.{Bool, cond, _&&_}
 use mathlib.Core.List.{List, [], _∷_, _++_}
 use lib.IntN.{ℤ, pos, negsuc}
 use lib.ListN.{length, getD}
@@ -9,12 +9,22 @@ use Rattle.numbers.specs.Order.{between, beyond, countOf}
 use Rattle.group.specs.declared.Name.{Name}
 use Rattle.group.specs.declared.Unit.{Unit}
 use Rattle.group.specs.declared.Unit.the-variants.{ArcSecond, Metre}
-use Rattle.group.specs.declared.Ramp.{Ramp}
+use Rattle.group.specs.declared.Shape.{Shape}
+use Rattle.group.specs.declared.Shape.the-variants as S
+use Rattle.group.specs.declared.Function.{Function}
 use Rattle.group.specs.declared.Grid.{Grid}
 use Rattle.group.specs.declared.Group.{Group}
-use Rattle.group.specs.Record.{rampAt, gridAt}
-use Rattle.group.specs.Numbers.{nameMost, rampsMost, gridsMost}
-use Rattle.abi.specs.Words.{lengthIndex, unitIndex, quantumIndex, parametersIndex, rampsIndex, gridsIndex, rampIndex, gridIndex}
+use Rattle.group.specs.Record.{functionAt, gridAt}
+use Rattle.group.specs.Shapes.{shapeInts, intAt, rampOf, stepOf, ramp2Of}
+use Rattle.group.specs.Numbers.{nameMost, functionsMost, gridsMost, isZero}
+use Rattle.abi.specs.Words.{lengthIndex, unitIndex, quantumIndex, parametersIndex, functionsIndex, gridsIndex, functionIndex, gridIndex}
+
+-- the greatest signed number
+abbrev pub signedMost : ℕ
+signedMost = 9223372036854775807
+
+abbrev pub isKind : ℕ → ℤ → Bool
+isKind n z = between (pos n) (pos n) z
 
 -- ---- from the lists to the record
 
@@ -50,10 +60,24 @@ unitOf (negsuc n) = Metre
 abbrev pub quantumOf : List ℤ → ℕ
 quantumOf ns = cond (between (pos 0) (pos 1) (numberAt ns unitIndex)) (countAt ns quantumIndex) beyond
 
--- ramp k: A S0 B S1
-unfoldable pub rampOfWords : List ℤ → ℕ → Ramp
-rampOfWords ns k =
-    record { a = numberAt ns (rampIndex k 0); s0 = numberAt ns (rampIndex k 1); b = numberAt ns (rampIndex k 2); s1 = numberAt ns (rampIndex k 3) }
+-- what stands for numbers that are of no kind: a function that 2 refuses, used or not
+abbrev pub noFunction : Function
+noFunction = record { shape = S.Ramp (record { a = pos signedMost; s0 = pos 0; b = pos 0; s1 = pos 0 }) }
+
+-- the function of a kind and four numbers: 0 is a ramp, 1 a step, 2 a ramp2; where the fourth, which a step hasn't got, is not 0, they are of no kind
+unfoldable pub functionOf : (kind a b c d : ℤ) → Function
+functionOf kind a b c d =
+    let zs = a ∷ b ∷ c ∷ d ∷ [] in
+    cond (isKind 0 kind) (record { shape = rampOf zs })
+    (cond (isKind 1 kind && isZero d) (record { shape = stepOf zs })
+    (cond (isKind 2 kind) (record { shape = ramp2Of zs })
+    noFunction))
+
+-- function k
+unfoldable pub functionOfWords : List ℤ → ℕ → Function
+functionOfWords ns k =
+    functionOf (numberAt ns (functionIndex k 0)) (numberAt ns (functionIndex k 1)) (numberAt ns (functionIndex k 2)) (numberAt ns (functionIndex k 3))
+    (numberAt ns (functionIndex k 4))
 
 -- grid k: name, name length, LON LAT DLON DLAT NI NJ RANK START
 unfoldable pub gridOfWords : List ℤ → ℕ → Grid
@@ -70,7 +94,7 @@ gridOfWords ns k =
       start = countAt ns (gridIndex k 11);
     }
 
--- name, name length, unit, Q, NP, counts of ramps and grids, all ramps, all grids
+-- name, name length, unit, Q, NP, counts of functions and grids, all functions, all grids
 unfoldable pub groupOfWords : List ℤ → Group
 groupOfWords ns =
     record {
@@ -78,17 +102,13 @@ groupOfWords ns =
       unit = unitOf (numberAt ns unitIndex);
       quantum = quantumOf ns;
       parameters = countAt ns parametersIndex;
-      ramps = countAt ns rampsIndex;
+      functions = countAt ns functionsIndex;
       grids = countAt ns gridsIndex;
-      ramp = listOf (rampOfWords ns) rampsMost;
+      function = listOf (functionOfWords ns) functionsMost;
       grid = listOf (gridOfWords ns) gridsMost;
     }
 
 -- ---- from the record to the list
-
--- the greatest signed number
-abbrev pub signedMost : ℕ
-signedMost = 9223372036854775807
 
 -- an unsigned number as it is stored: one above the greatest signed number, which no accepted group has, as that greatest
 abbrev pub stored : ℕ → ℤ
@@ -103,8 +123,17 @@ unfoldable pub joined : {A : Type 0} → (ℕ → List A) → ℕ → List A
 joined f zero = []
 joined f (suc n) = joined f n ++ f n
 
-abbrev pub rampNumbers : Ramp → List ℤ
-rampNumbers r = r .a ∷ r .s0 ∷ r .b ∷ r .s1 ∷ []
+abbrev pub kindOf : Shape → ℕ
+kindOf (S.Ramp r) = 0
+kindOf (S.Step s) = 1
+kindOf (S.Ramp2 r) = 2
+
+-- number j of a function, 0 where its kind hasn't got it
+abbrev pub shapeInt : Shape → ℕ → ℤ
+shapeInt s j = intAt (shapeInts s) j
+
+abbrev pub functionNumbers : Function → List ℤ
+functionNumbers f = let s = f .shape in pos (kindOf s) ∷ shapeInt s 0 ∷ shapeInt s 1 ∷ shapeInt s 2 ∷ shapeInt s 3 ∷ []
 
 -- four bytes as one number, the first lowest
 abbrev pub fourOf : ℕ → ℕ → ℕ → ℕ → ℕ
@@ -128,13 +157,13 @@ gridNumbers g =
 abbrev pub headNumbers : Group → List ℤ
 headNumbers g =
     nameNumber (g .name) 0 ∷ nameNumber (g .name) 1 ∷ nameNumber (g .name) 2 ∷ stored (g .name .len)
-    ∷ unitNumber (g .unit) ∷ stored (g .quantum) ∷ stored (g .parameters) ∷ stored (g .ramps) ∷ stored (g .grids) ∷ []
+    ∷ unitNumber (g .unit) ∷ stored (g .quantum) ∷ stored (g .parameters) ∷ stored (g .functions) ∷ stored (g .grids) ∷ []
 
 -- the numbers of a group
 unfoldable pub numbersOf : Group → List ℤ
-numbersOf g = headNumbers g ++ (joined (λ k. rampNumbers (rampAt g k)) rampsMost ++ joined (λ k. gridNumbers (gridAt g k)) gridsMost)
+numbersOf g = headNumbers g ++ (joined (λ k. functionNumbers (functionAt g k)) functionsMost ++ joined (λ k. gridNumbers (gridAt g k)) gridsMost)
 
--- ---- what makes a group the same again: all ramps and grids, whole names of bytes below 128, and no unsigned number above the greatest signed one
+-- ---- what makes a group the same again: all functions and grids, whole names of bytes below 128, and no unsigned number above the greatest signed one
 
 pub record KeptName (n : Name) : Type 0 where
   pub bytes : length (n .bytes) ≡ nameMost
@@ -153,16 +182,16 @@ pub record KeptHead (g : Group) : Type 0 where
   pub name : KeptName (g .name)
   pub quantum : g .quantum ≤ signedMost
   pub parameters : g .parameters ≤ signedMost
-  pub ramps : g .ramps ≤ signedMost
+  pub functions : g .functions ≤ signedMost
   pub grids : g .grids ≤ signedMost
 
 pub record KeptGroup (g : Group) : Type 0 where
   pub head : KeptHead g
-  pub ramp : length (g .ramp) ≡ rampsMost
+  pub function : length (g .function) ≡ functionsMost
   pub grid : length (g .grid) ≡ gridsMost
   pub kept : (k : ℕ) → k < gridsMost → KeptGrid (gridAt g k)
 
--- ---- what every record of the machine has: all ramps and grids, and names of 24 bytes
+-- ---- what every record of the machine has: all functions and grids, and names of 24 bytes
 
 pub record MachineName (n : Name) : Type 0 where
   pub bytes : length (n .bytes) ≡ nameMost
@@ -170,6 +199,6 @@ pub record MachineName (n : Name) : Type 0 where
 
 pub record MachineGroup (g : Group) : Type 0 where
   pub name : MachineName (g .name)
-  pub ramp : length (g .ramp) ≡ rampsMost
+  pub function : length (g .function) ≡ functionsMost
   pub grid : length (g .grid) ≡ gridsMost
   pub names : (k : ℕ) → k < gridsMost → MachineName (gridAt g k .name)

@@ -1,12 +1,12 @@
--- Where the numbers of a group stand in the list that the C interface passes: the head, then all ramps, then all grids.
+-- Where the numbers of a group stand in the list that the C interface passes: the head, then all functions, then all grids.
 use Prim.Native.Nat.{ℕ, _+_, _*_, _/_}
-use Rattle.group.specs.Numbers.{nameMost, rampsMost, gridsMost}
+use Rattle.group.specs.Numbers.{nameMost, functionsMost, gridsMost}
 
 -- the bytes of a name, eight a number
 abbrev pub nameWords : ℕ
 nameWords = nameMost / 8
 
--- the head: name, name length, unit, Q, NP, counts of ramps and grids
+-- the head: name, name length, unit, Q, NP, counts of functions and grids
 abbrev pub lengthIndex : ℕ
 lengthIndex = nameWords
 
@@ -19,8 +19,8 @@ quantumIndex = 5
 abbrev pub parametersIndex : ℕ
 parametersIndex = 6
 
-abbrev pub rampsIndex : ℕ
-rampsIndex = 7
+abbrev pub functionsIndex : ℕ
+functionsIndex = 7
 
 abbrev pub gridsIndex : ℕ
 gridsIndex = 8
@@ -28,9 +28,9 @@ gridsIndex = 8
 abbrev pub headWords : ℕ
 headWords = 9
 
--- a ramp: A S0 B S1
-abbrev pub rampWords : ℕ
-rampWords = 4
+-- a function: its kind and four numbers
+abbrev pub functionWords : ℕ
+functionWords = 5
 
 -- a grid: name, name length, LON LAT DLON DLAT NI NJ RANK START
 abbrev pub gridWords : ℕ
@@ -38,14 +38,14 @@ gridWords = 12
 
 -- where the grids begin, and how many numbers there are
 abbrev pub gridsFrom : ℕ
-gridsFrom = headWords + rampsMost * rampWords
+gridsFrom = headWords + functionsMost * functionWords
 
 abbrev pub groupWords : ℕ
 groupWords = gridsFrom + gridsMost * gridWords
 
--- the index of number j of ramp k, of grid k
-abbrev pub rampIndex : ℕ → ℕ → ℕ
-rampIndex k j = k * rampWords + (headWords + j)
+-- the index of number j of function k, of grid k
+abbrev pub functionIndex : ℕ → ℕ → ℕ
+functionIndex k j = k * functionWords + (headWords + j)
 
 abbrev pub gridIndex : ℕ → ℕ → ℕ
 gridIndex k j = k * gridWords + (gridsFrom + j)

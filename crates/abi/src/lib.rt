@@ -4,13 +4,15 @@ ghost use Prim.Native.Nat.{_+_, _*_, _/_, _%_, _≤_, _<_};
 ghost use lib.ListN.{length, getD};
 ghost use lib.Seq.{sets};
 ghost use Rattle.group.specs.Record.{noGrid};
-ghost use Rattle.group.specs.Blank.{blankRamp};
+ghost use Rattle.group.specs.Blank.{blankFunction};
 ghost use Rattle.group.specs.Limits.{gridBlank};
-ghost use Rattle.group.specs.Numbers.{nameMost, rampsMost, gridsMost};
+ghost use Rattle.group.specs.Numbers.{nameMost, functionsMost, gridsMost};
 ghost use Rattle.abi.specs.Words.{nameWords, headWords, gridsFrom, groupWords};
-ghost use Rattle.abi.specs.Abi.{numberAt, byteAt, countAt, listOf, byteOf, nameOfWords, unitOf, rampOfWords, gridOfWords, groupOfWords};
+ghost use Rattle.abi.specs.Abi.{numberAt, byteAt, countAt, listOf, byteOf, nameOfWords, unitOf, functionOf, functionOfWords, gridOfWords, groupOfWords};
 ghost use Rattle.abi.specs.Clear.{FourTold};
-ghost use Rattle.abi.specs.Abi.{stored, unitNumber, fourOf, nameNumber, rampNumbers, gridNumbers, headNumbers, joined, numbersOf};
+ghost use Rattle.abi.specs.Abi.{stored, unitNumber, fourOf, nameNumber, functionNumbers, gridNumbers, headNumbers, joined, numbersOf};
+use group::FUNCTIONS_MOST;
+use group::Function;
 use group::GRIDS_MOST;
 use group::Grid;
 use group::Group;
@@ -18,21 +20,23 @@ use group::Latitude;
 use group::Longitude;
 use group::NAME_MOST;
 use group::Name;
-use group::RAMPS_MOST;
 use group::Ramp;
+use group::Ramp2;
+use group::Shape;
+use group::Step;
 use group::Unit;
 
-// The numbers that hold a name, a group line, a ramp and a grid.
+// The numbers that hold a name, a group line, a function and a grid.
 const NAME_WORDS: usize = NAME_MOST / 8;
 
 pub const HEAD_WORDS: usize = 9;
 
-pub const RAMP_WORDS: usize = 4;
+pub const FUNCTION_WORDS: usize = 5;
 
 const GRID_WORDS: usize = 12;
 
 // Where the grids begin, and the numbers of a group.
-pub const GRIDS_FROM: usize = HEAD_WORDS + RAMPS_MOST * RAMP_WORDS;
+pub const GRIDS_FROM: usize = HEAD_WORDS + FUNCTIONS_MOST * FUNCTION_WORDS;
 
 pub const GROUP_WORDS: usize = GRIDS_FROM + GRIDS_MOST * GRID_WORDS;
 
@@ -45,18 +49,20 @@ const QUANTUM_INDEX: usize = 5;
 
 const PARAMETERS_INDEX: usize = 6;
 
-const RAMPS_INDEX: usize = 7;
+const FUNCTIONS_INDEX: usize = 7;
 
 const GRIDS_INDEX: usize = 8;
 
-// The places of the first ramp's numbers.
-const A: usize = HEAD_WORDS;
+// The places of the first function's numbers.
+const KIND: usize = HEAD_WORDS;
 
-const S0: usize = HEAD_WORDS + 1;
+const FIRST: usize = HEAD_WORDS + 1;
 
-const B: usize = HEAD_WORDS + 2;
+const SECOND: usize = HEAD_WORDS + 2;
 
-const S1: usize = HEAD_WORDS + 3;
+const THIRD: usize = HEAD_WORDS + 3;
+
+const FOURTH: usize = HEAD_WORDS + 4;
 
 // The places of the first grid's numbers, behind its name.
 const GRID_LENGTH: usize = GRIDS_FROM + LENGTH_INDEX;
@@ -170,11 +176,11 @@ pub fn parameter_count(numbers: &[i64; GROUP_WORDS]) -> u64
     count_at(numbers, PARAMETERS_INDEX)
 }
 
-// Its count of ramps.
-pub fn ramp_count(numbers: &[i64; GROUP_WORDS]) -> u64
-    ensures { λ r. ⌜ r ≡ groupOfWords (now (numbers .entry)) .ramps ⌝ }
+// Its count of functions.
+pub fn function_count(numbers: &[i64; GROUP_WORDS]) -> u64
+    ensures { λ r. ⌜ r ≡ groupOfWords (now (numbers .entry)) .functions ⌝ }
 {
-    count_at(numbers, RAMPS_INDEX)
+    count_at(numbers, FUNCTIONS_INDEX)
 }
 
 // Its count of grids.
@@ -184,17 +190,61 @@ pub fn grid_count(numbers: &[i64; GROUP_WORDS]) -> u64
     count_at(numbers, GRIDS_INDEX)
 }
 
-// Ramp k of a group's numbers.
-pub fn ramp_of_words(numbers: &[i64; GROUP_WORDS], k: usize) -> Ramp
-    requires { ⌜ k < rampsMost ⌝ }
-    ensures { λ r. ⌜ r ≡ rampOfWords (now (numbers .entry)) k ⌝ }
+// The function of a kind and four numbers; if they are of no kind, one that is neither within its limits nor unused.
+pub fn function_of(kind: i64, a: i64, b: i64, c: i64, d: i64) -> Function
+    ensures { λ r. ⌜ r ≡ functionOf kind a b c d ⌝ }
 {
-    Ramp {
-        a: number_at(numbers, k * RAMP_WORDS + A),
-        s0: number_at(numbers, k * RAMP_WORDS + S0),
-        b: number_at(numbers, k * RAMP_WORDS + B),
-        s1: number_at(numbers, k * RAMP_WORDS + S1),
+    if (0 <= kind) & (kind <= 0) {
+        return Function {
+            shape: Shape::Ramp(Ramp {
+                a: a,
+                s0: b,
+                b: c,
+                s1: d,
+            }),
+        };
     }
+    if ((1 <= kind) & (kind <= 1)) & ((0 <= d) & (d <= 0)) {
+        return Function {
+            shape: Shape::Step(Step {
+                event: a,
+                reference: b,
+                mult: c,
+            }),
+        };
+    }
+    if (2 <= kind) & (kind <= 2) {
+        return Function {
+            shape: Shape::Ramp2(Ramp2 {
+                start: a,
+                end: b,
+                reference: c,
+                mult: d,
+            }),
+        };
+    }
+    Function {
+        shape: Shape::Ramp(Ramp {
+            a: SIGNED_MOST,
+            s0: 0,
+            b: 0,
+            s1: 0,
+        }),
+    }
+}
+
+// Function k of a group's numbers.
+pub fn function_of_words(numbers: &[i64; GROUP_WORDS], k: usize) -> Function
+    requires { ⌜ k < functionsMost ⌝ }
+    ensures { λ r. ⌜ r ≡ functionOfWords (now (numbers .entry)) k ⌝ }
+{
+    function_of(
+        number_at(numbers, k * FUNCTION_WORDS + KIND),
+        number_at(numbers, k * FUNCTION_WORDS + FIRST),
+        number_at(numbers, k * FUNCTION_WORDS + SECOND),
+        number_at(numbers, k * FUNCTION_WORDS + THIRD),
+        number_at(numbers, k * FUNCTION_WORDS + FOURTH),
+    )
 }
 
 // Grid k of a group's numbers.
@@ -259,19 +309,19 @@ pub fn grid_clear(numbers: &[i64; GROUP_WORDS], k: usize) -> bool
         & four_clear(numbers, k * GRID_WORDS + NI)
 }
 
-// The ramps of a group's numbers.
-fn ramps_of(numbers: &[i64; GROUP_WORDS]) -> [Ramp; RAMPS_MOST]
-    ensures { λ r. ⌜ r ≡ listOf (rampOfWords (now (numbers .entry))) rampsMost ⌝ }
+// The functions of a group's numbers.
+fn functions_of(numbers: &[i64; GROUP_WORDS]) -> [Function; FUNCTIONS_MOST]
+    ensures { λ r. ⌜ r ≡ listOf (functionOfWords (now (numbers .entry))) functionsMost ⌝ }
 {
-    let blank = group::blank_ramp();
-    let mut ramps = [blank; RAMPS_MOST];
+    let blank = group::blank_function();
+    let mut functions = [blank; FUNCTIONS_MOST];
     let mut i = 0;
-    while i < RAMPS_MOST {
-        let ramp = ramp_of_words(numbers, i);
-        ramps[i] = ramp;
+    while i < FUNCTIONS_MOST {
+        let function = function_of_words(numbers, i);
+        functions[i] = function;
         i += 1;
     }
-    ramps
+    functions
 }
 
 // The grids of a group's numbers.
@@ -294,16 +344,16 @@ pub fn group_of_words(numbers: &[i64; GROUP_WORDS]) -> Group
     ensures { λ r. ⌜ r ≡ groupOfWords (now (numbers .entry)) ⌝ }
 {
     let name = name_of(numbers);
-    let ramp = ramps_of(numbers);
+    let function = functions_of(numbers);
     let grid = grids_of(numbers);
     Group {
         name: name,
         unit: unit_of(number_at(numbers, UNIT_INDEX)),
         quantum: quantum_of(numbers),
         parameters: parameter_count(numbers),
-        ramps: ramp_count(numbers),
+        functions: function_count(numbers),
         grids: grid_count(numbers),
-        ramp: ramp,
+        function: function,
         grid: grid,
     }
 }
@@ -385,7 +435,7 @@ fn head_numbers(group: Group) -> [i64; HEAD_WORDS]
         unit_number(unit),
         as_stored(group.quantum),
         as_stored(group.parameters),
-        as_stored(group.ramps),
+        as_stored(group.functions),
         as_stored(group.grids),
     ]
 }
@@ -411,16 +461,28 @@ fn grid_numbers(g: Grid) -> [i64; GRID_WORDS]
     ]
 }
 
-// Stores the numbers of all ramps.
-fn store_ramps(out: &mut [i64], ramps: [Ramp; RAMPS_MOST])
+// A function's kind and the numbers of its line, 0 where its kind has only three.
+fn function_numbers(f: Function) -> [i64; FUNCTION_WORDS]
+    ensures { λ r. ⌜ r ≡ functionNumbers f ⌝ }
+{
+    let shape = f.shape;
+    match shape {
+        Shape::Ramp(r) => [0, r.a, r.s0, r.b, r.s1],
+        Shape::Step(s) => [1, s.event, s.reference, s.mult, 0],
+        Shape::Ramp2(r) => [2, r.start, r.end, r.reference, r.mult],
+    }
+}
+
+// Stores the numbers of all functions.
+fn store_functions(out: &mut [i64], functions: [Function; FUNCTIONS_MOST])
     requires { ⌜ gridsFrom ≤ length (now out) ⌝ }
-    ensures { λ _. ⌜ now (out .exit) ≡ sets (now (out .entry)) headWords (joined (λ k. rampNumbers (getD ramps k blankRamp)) rampsMost) ⌝ }
+    ensures { λ _. ⌜ now (out .exit) ≡ sets (now (out .entry)) headWords (joined (λ k. functionNumbers (getD functions k blankFunction)) functionsMost) ⌝ }
 {
     let mut i = 0;
-    while i < RAMPS_MOST {
-        let r = ramps[i];
-        let numbers = [r.a, r.s0, r.b, r.s1];
-        store_numbers(out, i * RAMP_WORDS + HEAD_WORDS, &numbers);
+    while i < FUNCTIONS_MOST {
+        let f = functions[i];
+        let numbers = function_numbers(f);
+        store_numbers(out, i * FUNCTION_WORDS + HEAD_WORDS, &numbers);
         i += 1;
     }
 }
@@ -445,10 +507,10 @@ fn store_group(out: &mut [i64], group: Group)
     ensures { λ _. ⌜ now (out .exit) ≡ sets (now (out .entry)) 0 (numbersOf group) ⌝ }
 {
     let head = head_numbers(group);
-    let ramps = group.ramp;
+    let functions = group.function;
     let grids = group.grid;
     store_numbers(out, 0, &head);
-    store_ramps(out, ramps);
+    store_functions(out, functions);
     store_grids(out, grids);
 }
 

@@ -37,7 +37,7 @@ module _ (text : List ℕ) (group : List ℤ) (z : readAnswer text group .refusa
   same-group =
       let s = read-shaped text in
       ap groupOfWords filled
-      ∙ group-back g (accepted-kept g (text-read text .accepted none) (s .name) (s .ramp) (s .grid) (s .names))
+      ∙ group-back g (accepted-kept g (text-read text .accepted none) (s .name) (s .function) (s .grid) (s .names))
 
   back : ReadBack text group
   unfolding writeAnswer

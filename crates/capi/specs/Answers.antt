@@ -33,7 +33,7 @@ use Rattle.abi.specs.Abi.{groupOfWords, numbersOf}
 
 -- the version of the interface: major · 1,000,000 + minor · 1,000 + patch
 abbrev pub version : ℕ
-version = 3000000
+version = 4000000
 
 -- the refusal and what stands in lent memory afterwards
 pub record Answer (A : Type 0) : Type 0 where

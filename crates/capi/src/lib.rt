@@ -38,7 +38,7 @@ use nodes::Loaded;
 use screen::ScreenAnswer;
 
 // The version of the interface: major * 1,000,000 + minor * 1,000 + patch.
-const VERSION: u64 = 3000000;
+const VERSION: u64 = 4000000;
 
 // The numbers of an entry of a list of grids in force, where the entries begin, and the numbers of the list.
 const ENTRY_WORDS: usize = 3;

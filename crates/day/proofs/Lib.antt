@@ -1,2 +1,3 @@
--- The laws of the day factor and of the result.
+-- The laws of the day factor and of the result, and order 7's promises.
 pub mod DayLaws
+pub mod Order7

@@ -1,4 +1,5 @@
--- What the contracts of `day` cite.
+-- What the contracts of `day` cite, and order 7's promises.
 pub mod Day
-pub mod Unsigned
 pub mod Flat
+pub mod Even
+pub mod Order7

@@ -1,85 +1,119 @@
-// The factor of a group's ramps on a day, and the result: a value times that factor.
+// The factor of a group's functions on a day, and the result: a value times that factor.
 use group::FACTOR_ONE;
+use group::Function;
 use group::RESULT_MOST;
-use group::Ramp;
+use group::Shape;
 ghost use mathlib.Core.Path.{_≡_};
 ghost use mathlib.Core.Bool.{true};
-ghost use Prim.Native.Nat.{ℕ, _*_, _≤_, _<_};
+ghost use Prim.Native.Nat.{ℕ, _*_, _^_, _≤_, _<_};
 ghost use lib.ListN.{length};
-ghost use lib.IntN.{pos, _+ℤ_, natAbs};
-ghost use Rattle.group.specs.Numbers.{rampsMost, dayMost, dayFits, rampFactorMost, factorMost, valueMost};
-ghost use Rattle.group.specs.Limits.{rampFits};
-ghost use Rattle.abi.specs.Words.{rampWords};
-ghost use Rattle.flat.specs.Ramps.{rampIn};
+ghost use lib.IntN.{pos, natAbs};
+ghost use lib.Signed.{_<ℤ_};
+ghost use Rattle.numbers.specs.Round.{roundZ};
+ghost use Rattle.group.specs.Numbers.{functionsMost, dayMost, dayFits, factorMost, valueMost};
+ghost use Rattle.group.specs.Limits.{rampNumbersFit, stepNumbersFit, ramp2NumbersFit, functionFits};
+ghost use Rattle.abi.specs.Words.{functionWords};
+ghost use Rattle.flat.specs.Functions.{functionIn};
 ghost use Rattle.day.specs.Flat.{factorIn};
-ghost use Rattle.day.specs.Day.{rampFactor, resultOf};
-ghost use Rattle.day.specs.Unsigned.{rampStep};
+ghost use Rattle.day.specs.Even.{Even};
+ghost use Rattle.day.specs.Day.{rampFactor, stepParts, stepFactor, ramp2Parts, ramp2Factor, functionFactor, resultOf};
 
-// What is added to a day and to a ramp's factor, so that none is below 0.
-const DAY: u64 = group::DAY_MOST as u64;
+// The size of a function's factor, in millionths.
+const FACTOR: u64 = group::FUNCTION_FACTOR_MOST as u64;
 
-const FACTOR: u64 = group::RAMP_FACTOR_MOST as u64;
-
-// The factor 1 as a divisor, and the size of the greatest result before the division.
-const ONE: u64 = FACTOR_ONE as u64;
-
-const PRODUCT_MOST: u64 = RESULT_MOST * ONE;
-
-// The factor of a ramp on a day, in numbers that are not below 0.
-fn ramp_step(a: u64, s0: u64, b: u64, s1: u64, t: u64) -> u64
-    requires { ⌜ (b ≤ 2 * dayMost) × (s0 ≤ 2 * rampFactorMost) × (s1 ≤ 2 * rampFactorMost) ⌝ }
-    ensures { λ r. ⌜ r ≡ rampStep a s0 b s1 t ⌝ }
+// n over d, to the nearest whole number, a tie to the even one, of a size up to an even limit: so many
+// times d are added before the rounding, and the limit is taken off behind it.
+fn rounded(n: i64, d: i64, most: u64) -> i64
+    requires { ⌜ (pos 0 <ℤ d) × Even most × (natAbs n ≤ most * natAbs d) × (most * natAbs d < 2 ^ 62) ⌝ }
+    ensures { λ r. ⌜ r ≡ roundZ n (natAbs d) ⌝ }
 {
-    if b <= t {
+    let whole = d as u64;
+    let lifted = numbers::lifted(n, most * whole);
+    numbers::lowered(numbers::nearest_even(lifted, whole), most)
+}
+
+// The factor of a ramp on a day, in millionths.
+fn ramp_factor(a: i64, s0: i64, b: i64, s1: i64, day: i64) -> i64
+    requires { ⌜ rampNumbersFit a s0 b s1 ≡ true ⌝ }
+    ensures { λ r. ⌜ r ≡ rampFactor a s0 b s1 day ⌝ }
+{
+    if b <= day {
         return s1;
     }
-    if t <= a {
+    if day <= a {
         return s0;
     }
-    numbers::nearest_even(s0 * (b - t) + s1 * (t - a), b - a)
+    rounded(s0 * (b - day) + s1 * (day - a), b - a, FACTOR)
 }
 
-// The factor of a ramp on a day, in millionths, lifted.
-fn ramp_factor(p: Ramp, day: i64) -> u64
-    requires { ⌜ (rampFits p ≡ true) × (dayFits day ≡ true) ⌝ }
-    ensures { λ r. ⌜ (rampFactor p day +ℤ pos rampFactorMost ≡ pos r) × (r ≤ 2 * rampFactorMost) ⌝ }
+// The plain function of a step on a day.
+fn step_parts(event: i64, day: i64) -> i64
+    ensures { λ r. ⌜ r ≡ stepParts event day ⌝ }
 {
-    let a = numbers::lifted(p.a, DAY);
-    let b = numbers::lifted(p.b, DAY);
-    let s0 = numbers::lifted(p.s0, FACTOR);
-    let s1 = numbers::lifted(p.s1, FACTOR);
-    ramp_step(a, s0, b, s1, numbers::lifted(day, DAY))
+    if event <= day { 1 } else { 0 }
 }
 
-// The sum of the factors of the first n ramps of a flat list on a day, in millionths; the factor 1 if there are none.
-pub fn day_factor(ramps: &[i64], n: usize, day: i64) -> i64
-    requires { ⌜ (n ≤ rampsMost) × (n * rampWords ≤ length (now ramps))
-        × ((i : ℕ) → i < n → rampFits (rampIn (now ramps) i) ≡ true) × (dayFits day ≡ true) ⌝ }
-    ensures { λ r. ⌜ r ≡ factorIn (now (ramps .entry)) n day ⌝ }
+// The factor of a step on a day, in millionths.
+fn step_factor(event: i64, reference: i64, mult: i64, day: i64) -> i64
+    requires { ⌜ stepNumbersFit event reference mult ≡ true ⌝ }
+    ensures { λ r. ⌜ r ≡ stepFactor event reference mult day ⌝ }
+{
+    mult * (step_parts(event, day) - step_parts(event, reference))
+}
+
+// The plain function of a ramp2 on a day, in parts of its length.
+fn ramp2_parts(start: i64, end: i64, day: i64) -> i64
+    requires { ⌜ (natAbs start ≤ dayMost) × (natAbs end ≤ dayMost) ⌝ }
+    ensures { λ r. ⌜ r ≡ ramp2Parts start end day ⌝ }
+{
+    if end <= day {
+        return end - start;
+    }
+    if day <= start {
+        return 0;
+    }
+    day - start
+}
+
+// The factor of a ramp2 on a day, in millionths.
+fn ramp2_factor(start: i64, end: i64, reference: i64, mult: i64, day: i64) -> i64
+    requires { ⌜ ramp2NumbersFit start end reference mult ≡ true ⌝ }
+    ensures { λ r. ⌜ r ≡ ramp2Factor start end reference mult day ⌝ }
+{
+    let parts = ramp2_parts(start, end, day) - ramp2_parts(start, end, reference);
+    rounded(mult * parts, end - start, FACTOR)
+}
+
+// The factor of a function of any kind on a day, in millionths.
+fn function_factor(f: Function, day: i64) -> i64
+    requires { ⌜ functionFits f ≡ true ⌝ }
+    ensures { λ r. ⌜ r ≡ functionFactor f day ⌝ }
+{
+    let shape = f.shape;
+    match shape {
+        Shape::Ramp(r) => ramp_factor(r.a, r.s0, r.b, r.s1, day),
+        Shape::Step(s) => step_factor(s.event, s.reference, s.mult, day),
+        Shape::Ramp2(r) => ramp2_factor(r.start, r.end, r.reference, r.mult, day),
+    }
+}
+
+// The sum of the factors of the first n functions of a flat list on a day, in millionths; the factor 1 if there are none.
+pub fn day_factor(functions: &[i64], n: usize, day: i64) -> i64
+    requires { ⌜ (n ≤ functionsMost) × (n * functionWords ≤ length (now functions))
+        × ((i : ℕ) → i < n → functionFits (functionIn (now functions) i) ≡ true) × (dayFits day ≡ true) ⌝ }
+    ensures { λ r. ⌜ r ≡ factorIn (now (functions .entry)) n day ⌝ }
 {
     if n == 0 {
         return FACTOR_ONE;
     }
-    let mut sum: u64 = 0;
-    let mut shift: u64 = 0;
+    let mut sum = 0;
     let mut i = 0;
     while i < n {
-        let p = flat::ramp_at(ramps, i);
-        sum += ramp_factor(p, day);
-        shift += FACTOR;
+        let f = flat::function_at(functions, i);
+        sum += function_factor(f, day);
         i += 1;
     }
-    numbers::lowered(sum, shift)
-}
-
-// A value in steps times a day factor in millionths, in steps: an even number of steps, the size of
-// the greatest result, is added before the rounding and taken off behind it.
-fn times_factor(v: i64, f: i64) -> i64
-    requires { ⌜ (natAbs v ≤ valueMost) × (natAbs f ≤ factorMost) ⌝ }
-    ensures { λ r. ⌜ r ≡ resultOf v f ⌝ }
-{
-    let n = numbers::lifted(v * f, PRODUCT_MOST);
-    numbers::lowered(numbers::nearest_even(n, ONE), RESULT_MOST)
+    sum
 }
 
 // A value in steps times a day factor in millionths, in steps.
@@ -90,5 +124,5 @@ pub fn result_of(value: i64, factor: i64) -> i64
     if factor == FACTOR_ONE {
         return value;
     }
-    times_factor(value, factor)
+    rounded(value * factor, FACTOR_ONE, RESULT_MOST)
 }

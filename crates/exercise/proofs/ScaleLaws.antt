@@ -10,11 +10,11 @@ use Rattle.exercise.specs.Tables.{scaleFor, noScale}
 module _ (g : Group) (t : ℤ) where
   pub scale-out : dayFits t ≡ false → scaleFor g t ≡ record { day = t; factor = pos 0 }
   unfolding scaleFor
-  scale-out e = ap (λ (b : Bool). record { day = t; factor = cond b (factorOf (g .ramp) (g .ramps) t) (pos 0) }) e
+  scale-out e = ap (λ (b : Bool). record { day = t; factor = cond b (factorOf (g .function) (g .functions) t) (pos 0) }) e
 
-  pub scale-in : dayFits t ≡ true → scaleFor g t ≡ record { day = t; factor = factorOf (g .ramp) (g .ramps) t }
+  pub scale-in : dayFits t ≡ true → scaleFor g t ≡ record { day = t; factor = factorOf (g .function) (g .functions) t }
   unfolding scaleFor
-  scale-in e = ap (λ (b : Bool). record { day = t; factor = cond b (factorOf (g .ramp) (g .ramps) t) (pos 0) }) e
+  scale-in e = ap (λ (b : Bool). record { day = t; factor = cond b (factorOf (g .function) (g .functions) t) (pos 0) }) e
 
   pub scale-day : scaleFor g t .day ≡ t
   unfolding scaleFor

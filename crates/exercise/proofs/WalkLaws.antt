@@ -19,7 +19,7 @@ use denote.Array.{Array}
 
 -- the numbers of a group
 abbrev pub Words : RattleType
-Words = Array i64 809
+Words = Array i64 817
 
 module _ {M : Type 1} (𝓤 : URA M) (H : Heap 𝓤) (A : Atoms 𝓤) (W : Given 𝓤 H A) (S : RattleType) (l : ℕ) where
   pub lies-in : Makes 𝓤 H A S (Is S) → (h : S .Denot) (us : List Val) → Is S h us

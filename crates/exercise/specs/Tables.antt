@@ -74,7 +74,7 @@ pub record CallReady (g : Group) (nodes : ℕ) (tables : List ℕ) : Type 0 wher
 
 -- a day and its factor
 unfoldable pub scaleFor : Group → ℤ → Scale
-scaleFor g t = record { day = t; factor = cond (dayFits t) (factorOf (g .ramp) (g .ramps) t) (pos 0) }
+scaleFor g t = record { day = t; factor = cond (dayFits t) (factorOf (g .function) (g .functions) t) (pos 0) }
 
 -- a day outside the limit, which stands for none
 abbrev pub noScale : Scale

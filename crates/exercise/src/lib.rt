@@ -71,7 +71,7 @@ pub fn scale_on(words: &[i64; GROUP_WORDS], before: Scale, day: i64) -> Scale
             factor: 0,
         };
     }
-    let factor = lookup::factor_on(words, abi::ramp_count(words), day);
+    let factor = lookup::factor_on(words, abi::function_count(words), day);
     Scale {
         day: day,
         factor: factor,

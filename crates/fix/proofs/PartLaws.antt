@@ -1,7 +1,7 @@
 -- A fix from its parameters: where one has a fault the refusal, where none has the results.
 use Prim.Native.Nat.{ℕ, zero, suc, _-_, _≤_, _<_}
 use mathlib.Core.Path.{_≡_, refl, sym, ap₂, _∙_, subst}
-use mathlib.Core.Bool.{Bool, true, false, cond, _&&_}
+use mathlib.Core.Bool.{Bool, true, false, cond, _&&_, and-false}
 use mathlib.Core.List.{List}
 use mathlib.Core.Logic.{inl, inr}
 use native.Mathlib.Omega.{arith}
@@ -35,13 +35,9 @@ use Rattle.fix.proofs.FixLaws.{fix-marked, fix-found}
 
 -- ---- the mark is beyond the limit of node values
 
-and-no : (b : Bool) → (b && false) ≡ false
-and-no true = refl
-and-no false = refl
-
 used-no : (w : ℕ) (t : Bool) → Unless w (t ≡ false) → (used w && t) ≡ false
 used-no w t (inl e) = rw e refl
-used-no w t (inr e) = rw e (and-no (used w))
+used-no w t (inr e) = rw e (and-false (used w))
 
 used-none : (test : ℤ → Bool) (w : Weights) (v : Corners) → EachUsed (λ z. test z ≡ false) w v → usedSome test w v ≡ false
 unfolding usedSome
@@ -50,7 +46,7 @@ used-none test w v a =
 
 no-mark : (z : ℤ) → natAbs z ≤ valueMost → isMark z ≡ false
 no-mark (pos n) h = refl
-no-mark (negsuc n) h = rw (lt-leb (natAbs mark - 1) n (omega arith)) (and-no (leZ mark (negsuc n)))
+no-mark (negsuc n) h = rw (lt-leb (natAbs mark - 1) n (omega arith)) (and-false (leZ mark (negsuc n)))
 
 pub mark-beyond : (w : Weights) (v : Corners) → usedSome isBeyond w v ≡ false → usedSome isMark w v ≡ false
 mark-beyond w v e = used-none isMark w v (each-map no-mark (none-beyond w v e))

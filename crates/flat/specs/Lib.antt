@@ -1,7 +1,7 @@
 -- What the contracts of `flat` cite.
 pub mod Rects
 pub mod Frames
-pub mod Ramps
+pub mod Functions
 pub mod Lists
 pub mod Order
 pub mod Turned

@@ -9,14 +9,16 @@ use lib.Dec.{leb, ltb, eqb}
 use lib.ListN.{length, getD, replicate, length-replicate, getD-replicate}
 use lib.Seq.{ext-getD}
 use Rattle.numbers.specs.First.{first, every}
-use Rattle.numbers.proofs.Bools.{and-left, and-right, and-parts, or-cases}
+use Rattle.numbers.proofs.Bools.{and-left, and-right, and-parts, or-cases, true-false}
 use Rattle.numbers.proofs.FirstLaws.{every-at}
 use Rattle.numbers.proofs.OrderLaws.{zero-of}
 use Rattle.group.specs.Numbers.{nameMost, isZero}
-use Rattle.group.specs.Blank.{blankName, blankRamp, blankGrid}
-use Rattle.group.specs.Limits.{nameByte, byteFits, nameBlank, rampBlank, gridBlank}
+use Rattle.group.specs.Blank.{blankName, blankFunction, blankGrid}
+use Rattle.group.specs.Limits.{nameByte, byteFits, nameBlank, shapeBlank, functionBlank, gridBlank}
 use Rattle.group.specs.declared.Name.{Name}
-use Rattle.group.specs.declared.Ramp.{Ramp}
+use Rattle.group.specs.declared.Shape.{Shape}
+use Rattle.group.specs.declared.Shape.the-variants as S
+use Rattle.group.specs.declared.Function.{Function}
 use Rattle.group.specs.declared.Grid.{Grid}
 
 -- a byte of no name
@@ -38,12 +40,17 @@ blank-name n l e =
     (λ j m. blank-byte n j z (every-at (byteFits n) nameMost j f (omega arith)) ∙ sym (getD-replicate {A = ℕ} nameMost j 0 0 (omega arith))) in
     λ i. record { bytes = b i; len = z i }
 
-pub blank-ramp : (r : Ramp) → rampBlank r ≡ true → r ≡ blankRamp
-blank-ramp r e =
+blank-shape : (s : Shape) → shapeBlank s ≡ true → s ≡ blankFunction .shape
+blank-shape (S.Ramp r) e =
     let p = and-parts (isZero (r .a) && isZero (r .s0) && isZero (r .b)) (isZero (r .s1)) e in
     let q = and-parts (isZero (r .a) && isZero (r .s0)) (isZero (r .b)) (p .0) in
     let s = and-parts (isZero (r .a)) (isZero (r .s0)) (q .0) in
-    λ i. record { a = zero-of (r .a) (s .0) i; s0 = zero-of (r .s0) (s .1) i; b = zero-of (r .b) (q .1) i; s1 = zero-of (r .s1) (p .1) i }
+    λ i. S.Ramp (record { a = zero-of (r .a) (s .0) i; s0 = zero-of (r .s0) (s .1) i; b = zero-of (r .b) (q .1) i; s1 = zero-of (r .s1) (p .1) i })
+blank-shape (S.Step s) e = absurd (true-false refl (sym e))
+blank-shape (S.Ramp2 r) e = absurd (true-false refl (sym e))
+
+pub blank-function : (f : Function) → functionBlank f ≡ true → f ≡ blankFunction
+blank-function f e = λ i. record { shape = blank-shape (f .shape) e i }
 
 pub blank-grid : (g : Grid) → length (g .name .bytes) ≡ nameMost → gridBlank g ≡ true → g ≡ blankGrid
 unfolding gridBlank

@@ -1,17 +1,20 @@
 -- Refusal 2: the limits of each line's numbers, well-formed names, and zero in what is not used.
 -- A line's numbers are judged as signed numbers, so that one definition serves a record and a text.
 use Prim.Native.Nat.{ℕ}
-use mathlib.Core.Bool.{Bool, _&&_, _||_}
+use mathlib.Core.Bool.{Bool, false, _&&_, _||_}
 use lib.Dec.{leb, ltb, eqb}
 use lib.IntN.{ℤ, pos, negsuc, negℤ}
-use lib.Signed.{leZ}
+use lib.Signed.{leZ, ltZ}
 use lib.ListN.{getD}
 use Rattle.numbers.specs.First.{every}
 use Rattle.numbers.specs.Order.{between}
-use Rattle.group.specs.Numbers.{lonEdgeFits, latEdgeFits, dayFits, rampFactorFits, isZero}
-use Rattle.group.specs.Numbers.{nameMost, quantumMost, parametersMost, rampsMost, gridsMost, spacingMost, nodesLeast, nodesMost, rankMost, startMost}
+use Rattle.group.specs.Numbers.{lonEdgeFits, latEdgeFits, dayFits, functionFactorFits, isZero}
+use Rattle.group.specs.Numbers.{nameMost, quantumMost, parametersMost, functionsMost, gridsMost, spacingMost, nodesLeast, nodesMost, rankMost, startMost}
 use Rattle.group.specs.declared.Name.{Name}
 use Rattle.group.specs.declared.Ramp.{Ramp}
+use Rattle.group.specs.declared.Shape.{Shape}
+use Rattle.group.specs.declared.Shape.the-variants as S
+use Rattle.group.specs.declared.Function.{Function}
 use Rattle.group.specs.declared.Grid.{Grid}
 use Rattle.group.specs.declared.Group.{Group}
 
@@ -35,15 +38,23 @@ nameBlank n = eqb (n .len) 0 && every (byteFits n) nameMost
 abbrev pub spacingFits : ℤ → Bool
 spacingFits d = between (negℤ (pos spacingMost)) (negsuc 0) d || between (pos 1) (pos spacingMost) d
 
--- Q NP and the counts of ramps and grids
+-- Q NP and the counts of functions and grids
 abbrev pub headNumbersFit : ℤ → ℤ → ℤ → ℤ → Bool
-headNumbersFit quantum parameters ramps grids =
-    between (pos 0) (pos quantumMost) quantum && between (pos 1) (pos parametersMost) parameters && between (pos 0) (pos rampsMost) ramps
+headNumbersFit quantum parameters functions grids =
+    between (pos 0) (pos quantumMost) quantum && between (pos 1) (pos parametersMost) parameters && between (pos 0) (pos functionsMost) functions
     && between (pos 1) (pos gridsMost) grids
 
--- A S0 B S1, and A not above B
+-- `ramp` A S0 B S1, and A not above B
 abbrev pub rampNumbersFit : ℤ → ℤ → ℤ → ℤ → Bool
-rampNumbersFit a s0 b s1 = dayFits a && rampFactorFits s0 && dayFits b && rampFactorFits s1 && leZ a b
+rampNumbersFit a s0 b s1 = dayFits a && functionFactorFits s0 && dayFits b && functionFactorFits s1 && leZ a b
+
+-- `step` EVENT REF MULT
+abbrev pub stepNumbersFit : ℤ → ℤ → ℤ → Bool
+stepNumbersFit event reference mult = dayFits event && dayFits reference && functionFactorFits mult
+
+-- `ramp2` START END REF MULT, and START below END
+abbrev pub ramp2NumbersFit : ℤ → ℤ → ℤ → ℤ → Bool
+ramp2NumbersFit start end reference mult = dayFits start && dayFits end && dayFits reference && functionFactorFits mult && ltZ start end
 
 -- LON LAT DLON DLAT
 abbrev pub originFits : ℤ → ℤ → ℤ → ℤ → Bool
@@ -58,11 +69,16 @@ countsFit ni nj rank start =
 -- the group line
 unfoldable pub headFits : Group → Bool
 headFits g =
-    nameFits (g .name) && headNumbersFit (pos (g .quantum)) (pos (g .parameters)) (pos (g .ramps)) (pos (g .grids))
+    nameFits (g .name) && headNumbersFit (pos (g .quantum)) (pos (g .parameters)) (pos (g .functions)) (pos (g .grids))
 
--- a ramp line
-abbrev pub rampFits : Ramp → Bool
-rampFits r = rampNumbersFit (r .a) (r .s0) (r .b) (r .s1)
+-- a function line, of any kind
+abbrev pub shapeFits : Shape → Bool
+shapeFits (S.Ramp r) = rampNumbersFit (r .a) (r .s0) (r .b) (r .s1)
+shapeFits (S.Step s) = stepNumbersFit (s .event) (s .reference) (s .mult)
+shapeFits (S.Ramp2 r) = ramp2NumbersFit (r .start) (r .end) (r .reference) (r .mult)
+
+abbrev pub functionFits : Function → Bool
+functionFits f = shapeFits (f .shape)
 
 -- a grid line
 unfoldable pub gridFits : Grid → Bool
@@ -70,9 +86,17 @@ gridFits g =
     nameFits (g .name) && originFits (g .lon .0) (g .lat .0) (g .dlon) (g .dlat)
     && countsFit (pos (g .ni)) (pos (g .nj)) (pos (g .rank)) (pos (g .start))
 
--- an unused ramp: four zeros
+-- an unused function: a ramp of four zeros
 abbrev pub rampBlank : Ramp → Bool
 rampBlank r = isZero (r .a) && isZero (r .s0) && isZero (r .b) && isZero (r .s1)
+
+abbrev pub shapeBlank : Shape → Bool
+shapeBlank (S.Ramp r) = rampBlank r
+shapeBlank (S.Step s) = false
+shapeBlank (S.Ramp2 r) = false
+
+abbrev pub functionBlank : Function → Bool
+functionBlank f = shapeBlank (f .shape)
 
 -- an unused grid: no name and eight zeros
 unfoldable pub gridBlank : Grid → Bool

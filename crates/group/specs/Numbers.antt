@@ -60,8 +60,8 @@ quantumMost = 20
 abbrev pub parametersMost : ℕ
 parametersMost = 3
 
-abbrev pub rampsMost : ℕ
-rampsMost = 8
+abbrev pub functionsMost : ℕ
+functionsMost = 8
 
 abbrev pub gridsMost : ℕ
 gridsMost = 64
@@ -115,16 +115,16 @@ dayFits t = within dayMost t
 abbrev pub factorOne : ℕ
 factorOne = 1000000
 
--- the size of a ramp's factor
-abbrev pub rampFactorMost : ℕ
-rampFactorMost = 10000000
+-- the size of a function's factor
+abbrev pub functionFactorMost : ℕ
+functionFactorMost = 10000000
 
-abbrev pub rampFactorFits : ℤ → Bool
-rampFactorFits s = within rampFactorMost s
+abbrev pub functionFactorFits : ℤ → Bool
+functionFactorFits s = within functionFactorMost s
 
 -- the size of a sum of factors, and of a result in steps
 abbrev pub factorMost : ℕ
-factorMost = rampsMost * rampFactorMost
+factorMost = functionsMost * functionFactorMost
 
 abbrev pub resultMost : ℕ
 resultMost = valueMost * factorMost / factorOne

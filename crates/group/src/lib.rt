@@ -5,8 +5,9 @@ ghost use lib.Dec.{leb, ltb, eqb};
 ghost use lib.IntN.{pos};
 ghost use Rattle.numbers.specs.First.{every};
 ghost use Rattle.group.specs.Numbers.{nameMost};
-ghost use Rattle.group.specs.Blank.{blankName, blankRamp, blankGrid, blankGroup};
-ghost use Rattle.group.specs.Limits.{nameByte, byteFits, nameFits, rampFits, rampBlank};
+ghost use Rattle.group.specs.Blank.{blankName, blankFunction, blankGrid, blankGroup};
+ghost use Rattle.group.specs.Limits.{nameByte, byteFits, nameFits};
+ghost use Rattle.group.specs.Limits.{rampNumbersFit, stepNumbersFit, ramp2NumbersFit, functionFits, rampBlank, functionBlank};
 ghost use Rattle.group.specs.Limits.{originFits, countsFit, headNumbersFit, gridFits};
 ghost use Rattle.group.specs.Refusals.{inTable};
 
@@ -42,12 +43,12 @@ pub const LAT_ZERO: u32 = 324000000;
 // The bytes of a name.
 pub const NAME_MOST: usize = 24;
 
-// Q, NP and the counts of ramps and grids.
+// Q, NP and the counts of functions and grids.
 pub const QUANTUM_MOST: u64 = 20;
 
 pub const PARAMETERS_MOST: u64 = 3;
 
-pub const RAMPS_MOST: usize = 8;
+pub const FUNCTIONS_MOST: usize = 8;
 
 pub const GRIDS_MOST: usize = 64;
 
@@ -78,15 +79,15 @@ pub const DAY_MOST: i64 = 1000000;
 
 pub const DAY_LEAST: i64 = -DAY_MOST;
 
-// The factor 1, and the size of a ramp's factor, in millionths.
+// The factor 1, and the size of a function's factor, in millionths.
 pub const FACTOR_ONE: i64 = 1000000;
 
-pub const RAMP_FACTOR_MOST: i64 = 10000000;
+pub const FUNCTION_FACTOR_MOST: i64 = 10000000;
 
-pub const RAMP_FACTOR_LEAST: i64 = -RAMP_FACTOR_MOST;
+pub const FUNCTION_FACTOR_LEAST: i64 = -FUNCTION_FACTOR_MOST;
 
 // The size of a sum of factors, in millionths, and of a result, in steps.
-pub const FACTOR_MOST: u64 = RAMPS_MOST as u64 * RAMP_FACTOR_MOST as u64;
+pub const FACTOR_MOST: u64 = FUNCTIONS_MOST as u64 * FUNCTION_FACTOR_MOST as u64;
 
 pub const RESULT_MOST: u64 = VALUE_MOST as u64 * FACTOR_MOST / FACTOR_ONE as u64;
 
@@ -124,12 +125,39 @@ pub enum Unit {
     Metre,
 }
 
-// A function of time: s0 millionths until the day a, s1 from the day b on.
+// A ramp: s0 millionths until the day a, s1 from the day b on, linear between.
 pub struct Ramp {
     pub a: i64,
     pub s0: i64,
     pub b: i64,
     pub s1: i64,
+}
+
+// A step: it leaps by mult millionths on the day event, and is 0 on the day reference.
+pub struct Step {
+    pub event: i64,
+    pub reference: i64,
+    pub mult: i64,
+}
+
+// A ramp2: it changes by mult millionths from the day start to the day end, linearly, and is 0 on the day reference.
+pub struct Ramp2 {
+    pub start: i64,
+    pub end: i64,
+    pub reference: i64,
+    pub mult: i64,
+}
+
+// The kinds of functions, each with just its numbers.
+pub enum Shape {
+    Ramp(Ramp),
+    Step(Step),
+    Ramp2(Ramp2),
+}
+
+// A function of time, of any kind.
+pub struct Function {
+    pub shape: Shape,
 }
 
 // A grid: node (i, j) lies at lon + i·dlon, lat + j·dlat; rank 1 is best; start is its first position in the node list.
@@ -145,15 +173,15 @@ pub struct Grid {
     pub start: u64,
 }
 
-// A group: one step of a node value is 2 to the power -quantum of the unit; entries behind the two counts are zero.
+// A group: one step of a node value is 2 to the power -quantum of the unit; entries behind the two counts are unused.
 pub struct Group {
     pub name: Name,
     pub unit: Unit,
     pub quantum: u64,
     pub parameters: u64,
-    pub ramps: u64,
+    pub functions: u64,
     pub grids: u64,
-    pub ramp: [Ramp; RAMPS_MOST],
+    pub function: [Function; FUNCTIONS_MOST],
     pub grid: [Grid; GRIDS_MOST],
 }
 
@@ -219,34 +247,78 @@ pub fn name_fits(name: Name) -> bool
 }
 
 // Whether the numbers of a group line are within their limits.
-pub fn head_numbers_fit(quantum: u64, parameters: u64, ramps: u64, grids: u64) -> bool
-    ensures { λ r. ⌜ r ≡ headNumbersFit (pos quantum) (pos parameters) (pos ramps) (pos grids) ⌝ }
+pub fn head_numbers_fit(quantum: u64, parameters: u64, functions: u64, grids: u64) -> bool
+    ensures { λ r. ⌜ r ≡ headNumbersFit (pos quantum) (pos parameters) (pos functions) (pos grids) ⌝ }
 {
     (quantum <= QUANTUM_MOST)
         & ((1 <= parameters) & (parameters <= PARAMETERS_MOST))
-        & (ramps <= RAMPS_MOST as u64)
+        & (functions <= FUNCTIONS_MOST as u64)
         & ((1 <= grids) & (grids <= GRIDS_MOST as u64))
 }
 
 // Whether a ramp is within its limits, with a not above b.
-pub fn ramp_fits(r: Ramp) -> bool
-    ensures { λ t. ⌜ t ≡ rampFits r ⌝ }
+fn ramp_fits(r: Ramp) -> bool
+    ensures { λ t. ⌜ t ≡ rampNumbersFit (r .a) (r .s0) (r .b) (r .s1) ⌝ }
 {
     ((DAY_LEAST <= r.a) & (r.a <= DAY_MOST))
-        & ((RAMP_FACTOR_LEAST <= r.s0) & (r.s0 <= RAMP_FACTOR_MOST))
+        & ((FUNCTION_FACTOR_LEAST <= r.s0) & (r.s0 <= FUNCTION_FACTOR_MOST))
         & ((DAY_LEAST <= r.b) & (r.b <= DAY_MOST))
-        & ((RAMP_FACTOR_LEAST <= r.s1) & (r.s1 <= RAMP_FACTOR_MOST))
+        & ((FUNCTION_FACTOR_LEAST <= r.s1) & (r.s1 <= FUNCTION_FACTOR_MOST))
         & (r.a <= r.b)
 }
 
-// Whether a ramp is an unused entry.
-pub fn ramp_blank(r: Ramp) -> bool
+// Whether a step is within its limits.
+fn step_fits(s: Step) -> bool
+    ensures { λ t. ⌜ t ≡ stepNumbersFit (s .event) (s .reference) (s .mult) ⌝ }
+{
+    ((DAY_LEAST <= s.event) & (s.event <= DAY_MOST))
+        & ((DAY_LEAST <= s.reference) & (s.reference <= DAY_MOST))
+        & ((FUNCTION_FACTOR_LEAST <= s.mult) & (s.mult <= FUNCTION_FACTOR_MOST))
+}
+
+// Whether a ramp2 is within its limits, with start below end.
+fn ramp2_fits(r: Ramp2) -> bool
+    ensures { λ t. ⌜ t ≡ ramp2NumbersFit (r .start) (r .end) (r .reference) (r .mult) ⌝ }
+{
+    ((DAY_LEAST <= r.start) & (r.start <= DAY_MOST))
+        & ((DAY_LEAST <= r.end) & (r.end <= DAY_MOST))
+        & ((DAY_LEAST <= r.reference) & (r.reference <= DAY_MOST))
+        & ((FUNCTION_FACTOR_LEAST <= r.mult) & (r.mult <= FUNCTION_FACTOR_MOST))
+        & (r.start < r.end)
+}
+
+// Whether a function is within its limits.
+pub fn function_fits(f: Function) -> bool
+    ensures { λ t. ⌜ t ≡ functionFits f ⌝ }
+{
+    let shape = f.shape;
+    match shape {
+        Shape::Ramp(r) => ramp_fits(r),
+        Shape::Step(s) => step_fits(s),
+        Shape::Ramp2(r) => ramp2_fits(r),
+    }
+}
+
+// Whether a ramp is all zero.
+fn ramp_blank(r: Ramp) -> bool
     ensures { λ t. ⌜ t ≡ rampBlank r ⌝ }
 {
     ((0 <= r.a) & (r.a <= 0))
         & ((0 <= r.s0) & (r.s0 <= 0))
         & ((0 <= r.b) & (r.b <= 0))
         & ((0 <= r.s1) & (r.s1 <= 0))
+}
+
+// Whether a function is an unused entry.
+pub fn function_blank(f: Function) -> bool
+    ensures { λ t. ⌜ t ≡ functionBlank f ⌝ }
+{
+    let shape = f.shape;
+    match shape {
+        Shape::Ramp(r) => ramp_blank(r),
+        Shape::Step(_) => false,
+        Shape::Ramp2(_) => false,
+    }
 }
 
 // Whether a grid's first node and spacings are within their limits.
@@ -288,15 +360,18 @@ pub fn blank_name() -> Name
     }
 }
 
-// An unused ramp.
-pub fn blank_ramp() -> Ramp
-    ensures { λ r. ⌜ r ≡ blankRamp ⌝ }
+// An unused function: a ramp of zeros.
+pub fn blank_function() -> Function
+    ensures { λ r. ⌜ r ≡ blankFunction ⌝ }
 {
-    Ramp {
+    let ramp = Ramp {
         a: 0,
         s0: 0,
         b: 0,
         s1: 0,
+    };
+    Function {
+        shape: Shape::Ramp(ramp),
     }
 }
 
@@ -324,17 +399,17 @@ pub fn blank_group() -> Group
 {
     let n = blank_name();
     let g = blank_grid();
-    let r = blank_ramp();
-    let rs = [r; RAMPS_MOST];
+    let r = blank_function();
+    let rs = [r; FUNCTIONS_MOST];
     let gs = [g; GRIDS_MOST];
     Group {
         name: n,
         unit: Unit::ArcSecond,
         quantum: 0,
         parameters: 0,
-        ramps: 0,
+        functions: 0,
         grids: 0,
-        ramp: rs,
+        function: rs,
         grid: gs,
     }
 }

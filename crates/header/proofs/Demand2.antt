@@ -9,7 +9,7 @@ use lib.ListN.{length, take, drop}
 use lib.Seq.{take-append-seam, drop-at}
 use Rattle.text.specs.Put.{put}
 use Rattle.group.specs.Blank.{blankGroup}
-use Rattle.group.specs.declared.Ramp.{Ramp}
+use Rattle.group.specs.declared.Function.{Function}
 use Rattle.group.specs.declared.Grid.{Grid}
 use Rattle.group.specs.declared.Group.{Group}
 use Rattle.group.specs.declared.Refusal.{Refusal}
@@ -45,7 +45,7 @@ judged-read t g e = in-lines (readLines t) e
     in-verdict h (Refused r) p f = absurd (no-acceptance r (ap (λ (a : Reading). a .verdict) f))
     in-verdict h Accepted p f = ap judged (sym (ap (λ (a : Reading). a .group) f)) ∙ p
 
-    in-lines : (x : Header Ramp Grid) → judgedReading x ≡ acceptedReading g → judged g ≡ Accepted
+    in-lines : (x : Header Function Grid) → judgedReading x ≡ acceptedReading g → judged g ≡ Accepted
     in-lines (stopped r) f = absurd (no-acceptance r (ap (λ (a : Reading). a .verdict) f))
     in-lines (header h rs ds) f = in-verdict (groupOfLines h rs ds) (judged (groupOfLines h rs ds)) refl f
 
@@ -57,7 +57,7 @@ blank-read t q e = in-lines (readLines t) e
     in-verdict h (Refused r) f = refl
     in-verdict h Accepted f = absurd (no-acceptance q (sym f))
 
-    in-lines : (x : Header Ramp Grid) → judgedReading x .verdict ≡ Refused q → judgedReading x .group ≡ blankGroup
+    in-lines : (x : Header Function Grid) → judgedReading x .verdict ≡ Refused q → judgedReading x .group ≡ blankGroup
     in-lines (stopped r) f = refl
     in-lines (header h rs ds) f = in-verdict (groupOfLines h rs ds) (judged (groupOfLines h rs ds)) f
 

@@ -10,26 +10,26 @@ use lib.Seq.{length-take-le, getD-drop, ext-getD}
 use borrow.Author.Tests.{le-leb, lt-leb, not-false}
 use Rattle.numbers.specs.First.{first, some}
 use Rattle.numbers.proofs.FirstLaws.{passed-some}
-use Rattle.group.specs.Limits.{headFits, rampFits, rampBlank, gridFits, gridBlank}
-use Rattle.group.specs.Record.{noGrid, rampAt, gridAt}
+use Rattle.group.specs.Limits.{headFits, functionFits, functionBlank, gridFits, gridBlank}
+use Rattle.group.specs.Record.{noGrid, functionAt, gridAt}
 use Rattle.group.specs.Refusals.{refusal}
-use Rattle.group.specs.Blank.{blankRamp, blankGrid}
+use Rattle.group.specs.Blank.{blankFunction, blankGrid}
 use Rattle.group.specs.declared.Group.{Group}
 use Rattle.group.specs.declared.Verdict.the-variants.{Accepted, Refused}
-use Rattle.group.proofs.BlankLaws.{blank-ramp, blank-grid}
+use Rattle.group.proofs.BlankLaws.{blank-function, blank-grid}
 use Rattle.group.proofs.RefusalLaws.{if-here, if-past, first-here, first-past}
-use Rattle.judge.specs.Judge.{unusedRamp, unusedGrid, badRamp, badGrid, judgedLines, judgedLimits, judgedGrids, judgedRanks, judged}
-use Rattle.judge.proofs.LimitLaws.{ramps-most, grids-between}
+use Rattle.judge.specs.Judge.{unusedFunction, unusedGrid, badFunction, badGrid, judgedLines, judgedLimits, judgedGrids, judgedRanks, judged}
+use Rattle.judge.proofs.LimitLaws.{functions-most, grids-between}
 use Rattle.judge.proofs.Accepted.{accepted}
-use Rattle.line.specs.Lines.{rampLine, rampText, gridText}
-use Rattle.line.proofs.KindLaws.{RampFormed, HeadFormed, headWithin, ramp-kind, grid-name}
+use Rattle.line.specs.Lines.{functionLine, functionText, gridText}
+use Rattle.line.proofs.KindLaws.{FunctionFormed, HeadFormed, headWithin, function-kind, grid-name}
 use Rattle.header.specs.Items.{entries}
 use Rattle.header.specs.Whole.{stopped, gridLines, readLines, groupOfLines, acceptedReading, headOfGroup, headerText}
 use Rattle.header.specs.Header.{verdictReading, judgedReading, readHeader}
 use Rattle.header.specs.Demand2.{Shaped, Formed}
 use Rattle.header.proofs.ItemLaws.{All}
 use Rattle.header.proofs.LengthLaws.{head-parts}
-use Rattle.header.proofs.TripLaws.{Always, GridsFormed, grid-lines, head-stops, ramp-stops, grid-stops, all-read}
+use Rattle.header.proofs.TripLaws.{Always, GridsFormed, grid-lines, head-stops, function-stops, grid-stops, all-read}
 
 -- ---- blank entries
 
@@ -52,11 +52,11 @@ all-taken P m d (x ∷ xs) (suc n) h p = (p m 0 (omega arith), all-taken P (suc 
 
 module _ (g : Group) (f : Formed g) where
   -- nothing unused is refused
-  no-unused-ramp : some (unusedRamp g) 8 ≡ false
-  no-unused-ramp = sym (passed-some (unusedRamp g) 8 8 (record { bound = omega arith; clear = clear }) (omega arith))
+  no-unused-function : some (unusedFunction g) 8 ≡ false
+  no-unused-function = sym (passed-some (unusedFunction g) 8 8 (record { bound = omega arith; clear = clear }) (omega arith))
     where
-      clear : (k : ℕ) → k < 8 → unusedRamp g k ≡ false
-      clear k l = elim (decLt k (g .ramps)) [ yes u ↦ rw (lt-leb (g .ramps) k u) | no u ↦ rw (le-leb (g .ramps) k (omega arith), f .no-ramp k l (omega arith)) ]
+      clear : (k : ℕ) → k < 8 → unusedFunction g k ≡ false
+      clear k l = elim (decLt k (g .functions)) [ yes u ↦ rw (lt-leb (g .functions) k u) | no u ↦ rw (le-leb (g .functions) k (omega arith), f .no-function k l (omega arith)) ]
 
   no-unused-grid : some (unusedGrid g) 64 ≡ false
   no-unused-grid = sym (passed-some (unusedGrid g) 64 64 (record { bound = omega arith; clear = clear }) (omega arith))
@@ -73,20 +73,20 @@ module _ (g : Group) (f : Formed g) where
     unfolding judged judgedLimits
     judged-lines =
         if-past Refused (not (headFits g)) 2 1 _ (ap not e)
-        ∙ if-past Refused (some (unusedRamp g) 8) 2 1 _ no-unused-ramp
+        ∙ if-past Refused (some (unusedFunction g) 8) 2 1 _ no-unused-function
         ∙ if-past Refused (some (unusedGrid g) 64) 2 1 _ no-unused-grid
 
-    judged-ramp : some (badRamp g) (g .ramps) ≡ true → judged g ≡ Refused (refusal 2 (first (badRamp g) (g .ramps) + 2))
+    judged-function : some (badFunction g) (g .functions) ≡ true → judged g ≡ Refused (refusal 2 (first (badFunction g) (g .functions) + 2))
     unfolding judgedLines
-    judged-ramp s = judged-lines ∙ first-here Refused (badRamp g) (g .ramps) 2 2 _ s
+    judged-function s = judged-lines ∙ first-here Refused (badFunction g) (g .functions) 2 2 _ s
 
-    judged-grid : some (badRamp g) (g .ramps) ≡ false → some (badGrid g) (g .grids) ≡ true → judged g ≡ Refused (refusal 2 (first (badGrid g) (g .grids) + (2 + g .ramps)))
+    judged-grid : some (badFunction g) (g .functions) ≡ false → some (badGrid g) (g .grids) ≡ true → judged g ≡ Refused (refusal 2 (first (badGrid g) (g .grids) + (2 + g .functions)))
     unfolding judgedLines
     judged-grid s t =
-        let c : g .ramps + 2 ≡ 2 + g .ramps = omega arith in
+        let c : g .functions + 2 ≡ 2 + g .functions = omega arith in
         judged-lines
-        ∙ first-past Refused (badRamp g) (g .ramps) 2 2 _ s
-        ∙ first-here Refused (badGrid g) (g .grids) 2 (g .ramps + 2) _ t
+        ∙ first-past Refused (badFunction g) (g .functions) 2 2 _ s
+        ∙ first-here Refused (badGrid g) (g .grids) 2 (g .functions + 2) _ t
         ∙ ap (λ (m : ℕ). Refused (refusal 2 (first (badGrid g) (g .grids) + m))) c
 
   -- the group line is judged by its numbers
@@ -98,32 +98,32 @@ module _ (g : Group) (f : Formed g) where
   head-formed = record { name = f .name; room = f .shape .name }
 
   module _ (e : headFits g ≡ true) where
-    group-back : groupOfLines (headOfGroup g) (take (g .ramps) (g .ramp)) (take (g .grids) (g .grid)) ≡ g
+    group-back : groupOfLines (headOfGroup g) (take (g .functions) (g .function)) (take (g .grids) (g .grid)) ≡ g
     group-back =
-        let r = entries-back 8 blankRamp blankRamp (g .ramp) (g .ramps) (f .shape .ramp) (ramps-most g e) (λ k u v. blank-ramp (rampAt g k) (f .no-ramp k v u)) in
+        let r = entries-back 8 blankFunction blankFunction (g .function) (g .functions) (f .shape .function) (functions-most g e) (λ k u v. blank-function (functionAt g k) (f .no-function k v u)) in
         let d = entries-back 64 blankGrid noGrid (g .grid) (g .grids) (f .shape .grid) (grids-between g e .1) (λ k u v. blank-grid (gridAt g k) (f .shape .names k v) (f .no-grid k v u)) in
         λ i. record {
           name = g .name;
           unit = g .unit;
           quantum = g .quantum;
           parameters = g .parameters;
-          ramps = g .ramps;
+          functions = g .functions;
           grids = g .grids;
-          ramp = r i;
+          function = r i;
           grid = d i;
         }
 
-    ramps-formed : All RampFormed 2 (take (g .ramps) (g .ramp))
-    ramps-formed = let l = f .shape .ramp in let m = ramps-most g e in all-taken RampFormed 2 blankRamp (g .ramp) (g .ramps) (omega arith) (λ i k u. tt)
+    functions-formed : All FunctionFormed 2 (take (g .functions) (g .function))
+    functions-formed = let l = f .shape .function in let m = functions-most g e in all-taken FunctionFormed 2 blankFunction (g .function) (g .functions) (omega arith) (λ i k u. tt)
 
-    grids-formed : All (GridsFormed (headOfGroup g)) (2 + g .ramps) (take (g .grids) (g .grid))
+    grids-formed : All (GridsFormed (headOfGroup g)) (2 + g .functions) (take (g .grids) (g .grid))
     grids-formed =
         let l = f .shape .grid in let m = grids-between g e .1 in
-        all-taken (GridsFormed (headOfGroup g)) (2 + g .ramps) noGrid (g .grid) (g .grids) (omega arith)
+        all-taken (GridsFormed (headOfGroup g)) (2 + g .functions) noGrid (g .grid) (g .grids) (omega arith)
         (λ i k u. record { name = f .names k (omega arith) u; room = f .shape .names k (omega arith) })
 
-    ramps-room : g .ramps ≤ length (g .ramp)
-    ramps-room = let l = f .shape .ramp in let m = ramps-most g e in omega arith
+    functions-room : g .functions ≤ length (g .function)
+    functions-room = let l = f .shape .function in let m = functions-most g e in omega arith
 
     grids-room : g .grids ≤ length (g .grid)
     grids-room = let l = f .shape .grid in let m = grids-between g e .1 in omega arith
@@ -136,30 +136,30 @@ module _ (g : Group) (f : Formed g) where
       stop : (p : ℕ) → readLines (headerText g) ≡ stopped (refusal 2 p) → judged g ≡ Refused (refusal 2 p) → judgedReading (readLines (headerText g)) ≡ verdictReading g (judged g)
       stop p l v = ap judgedReading l ∙ ap (verdictReading g) (sym v)
 
-      in-grids : (e : headFits g ≡ true) → some (badRamp g) (g .ramps) ≡ false → (b : Bool) → some (badGrid g) (g .grids) ≡ b → judgedReading (readLines (headerText g)) ≡ verdictReading g (judged g)
+      in-grids : (e : headFits g ≡ true) → some (badFunction g) (g .functions) ≡ false → (b : Bool) → some (badGrid g) (g .grids) ≡ b → judgedReading (readLines (headerText g)) ≡ verdictReading g (judged g)
       in-grids e s true t =
-          stop (first (badGrid g) (g .grids) + (2 + g .ramps))
-          (grid-stops rampLine rampText RampFormed rampFits ramp-kind gridLines gridText GridsFormed gridFits Always grid-lines blankRamp noGrid (headOfGroup g) (g .ramp) (g .grid) head-formed (sym head-numbers ∙ e)
-          (ramps-room e) (ramps-formed e) s (grids-room e) (grids-formed e) t)
+          stop (first (badGrid g) (g .grids) + (2 + g .functions))
+          (grid-stops functionLine functionText FunctionFormed functionFits function-kind gridLines gridText GridsFormed gridFits Always grid-lines blankFunction noGrid (headOfGroup g) (g .function) (g .grid) head-formed (sym head-numbers ∙ e)
+          (functions-room e) (functions-formed e) s (grids-room e) (grids-formed e) t)
           (judged-grid e s t)
       in-grids e s false t =
           ap judgedReading
-          (all-read rampLine rampText RampFormed rampFits ramp-kind gridLines gridText GridsFormed gridFits Always grid-lines blankRamp noGrid (headOfGroup g) (g .ramp) (g .grid) head-formed (sym head-numbers ∙ e)
-          (ramps-room e) (ramps-formed e) s (grids-room e) (grids-formed e) t)
+          (all-read functionLine functionText FunctionFormed functionFits function-kind gridLines gridText GridsFormed gridFits Always grid-lines blankFunction noGrid (headOfGroup g) (g .function) (g .grid) head-formed (sym head-numbers ∙ e)
+          (functions-room e) (functions-formed e) s (grids-room e) (grids-formed e) t)
           ∙ (λ i. verdictReading (group-back e i) (judged (group-back e i)))
 
-      in-ramps : (e : headFits g ≡ true) (b : Bool) → some (badRamp g) (g .ramps) ≡ b → judgedReading (readLines (headerText g)) ≡ verdictReading g (judged g)
-      in-ramps e true s =
-          stop (first (badRamp g) (g .ramps) + 2)
-          (ramp-stops rampLine rampText RampFormed rampFits ramp-kind gridLines gridText GridsFormed gridFits Always grid-lines blankRamp noGrid (headOfGroup g) (g .ramp) (g .grid) head-formed (sym head-numbers ∙ e)
-          (ramps-room e) (ramps-formed e) s)
-          (judged-ramp e s)
-      in-ramps e false s = in-grids e s (some (badGrid g) (g .grids)) refl
+      in-functions : (e : headFits g ≡ true) (b : Bool) → some (badFunction g) (g .functions) ≡ b → judgedReading (readLines (headerText g)) ≡ verdictReading g (judged g)
+      in-functions e true s =
+          stop (first (badFunction g) (g .functions) + 2)
+          (function-stops functionLine functionText FunctionFormed functionFits function-kind gridLines gridText GridsFormed gridFits Always grid-lines blankFunction noGrid (headOfGroup g) (g .function) (g .grid) head-formed (sym head-numbers ∙ e)
+          (functions-room e) (functions-formed e) s)
+          (judged-function e s)
+      in-functions e false s = in-grids e s (some (badGrid g) (g .grids)) refl
 
       in-head : (b : Bool) → headFits g ≡ b → judgedReading (readLines (headerText g)) ≡ verdictReading g (judged g)
       in-head false e =
-          stop 1 (head-stops rampLine rampText RampFormed rampFits ramp-kind gridLines gridText GridsFormed gridFits Always grid-lines blankRamp noGrid (headOfGroup g) (g .ramp) (g .grid) head-formed (sym head-numbers ∙ e)) (judged-head e)
-      in-head true e = in-ramps e (some (badRamp g) (g .ramps)) refl
+          stop 1 (head-stops functionLine functionText FunctionFormed functionFits function-kind gridLines gridText GridsFormed gridFits Always grid-lines blankFunction noGrid (headOfGroup g) (g .function) (g .grid) head-formed (sym head-numbers ∙ e)) (judged-head e)
+      in-head true e = in-functions e (some (badFunction g) (g .functions)) refl
 
 -- ---- an accepted group's text reads back as that group
 
@@ -171,7 +171,7 @@ module _ (g : Group) (s : Shaped g) (e : judged g ≡ Accepted) where
         shape = s;
         name = head-parts g e .0;
         names = λ k l u. grid-name (gridAt g k) (a .grid k u);
-        no-ramp = λ k l u. not-false (rampBlank (rampAt g k)) (sym (ap (λ (b : Bool). b && not (rampBlank (rampAt g k))) (le-leb (g .ramps) k u)) ∙ a .no-ramp k l);
+        no-function = λ k l u. not-false (functionBlank (functionAt g k)) (sym (ap (λ (b : Bool). b && not (functionBlank (functionAt g k))) (le-leb (g .functions) k u)) ∙ a .no-function k l);
         no-grid = λ k l u. not-false (gridBlank (gridAt g k)) (sym (ap (λ (b : Bool). b && not (gridBlank (gridAt g k))) (le-leb (g .grids) k u)) ∙ a .no-grid k l);
       }
 

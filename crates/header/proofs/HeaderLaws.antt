@@ -9,7 +9,7 @@ use borrow.Author.Tests.{lt-ltb, le-ltb}
 use lib.Dec.{ltb}
 use Rattle.text.specs.Put.{put}
 use Rattle.text.specs.Wrote.{Wrote}
-use Rattle.group.specs.declared.Ramp.{Ramp}
+use Rattle.group.specs.declared.Function.{Function}
 use Rattle.group.specs.declared.Grid.{Grid}
 use Rattle.group.specs.declared.Group.{Group}
 use Rattle.header.specs.declared.Written.{Written}
@@ -17,7 +17,7 @@ use Rattle.header.specs.declared.Written.the-variants as W
 use Rattle.group.specs.Refusals.{refusal, noRefusal, refuseIf, lentAfter}
 use Rattle.group.proofs.RefusalLaws.{if-here, if-past, not-zero, lent-new, lent-kept, no-acceptance}
 use Rattle.header.specs.Items.{closed}
-use Rattle.line.specs.Lines.{headText, rampText, gridText}
+use Rattle.line.specs.Lines.{headText, functionText, gridText}
 use Rattle.group.specs.declared.Refusal.{Refusal}
 use Rattle.group.specs.declared.Verdict.{Verdict}
 use Rattle.group.specs.declared.Verdict.the-variants.{Accepted, Refused}
@@ -32,7 +32,7 @@ module _ (t : List ℕ) (q : Reading) (e : q ≡ linesReading (readLines t)) whe
   unfolding readHeader
   lines-refused r v = go (readLines t) e
     where
-      go : (x : Header Ramp Grid) → q ≡ linesReading x → q ≡ judgedReading x
+      go : (x : Header Function Grid) → q ≡ linesReading x → q ≡ judgedReading x
       go (stopped s) f = f
       go (header h rs ds) f = absurd (no-acceptance r (sym v ∙ ap (λ (a : Reading). a .verdict) f))
 
@@ -41,7 +41,7 @@ module _ (t : List ℕ) (q : Reading) (e : q ≡ linesReading (readLines t)) whe
     unfolding readHeader
     judged-as = go (readLines t) e
       where
-        go : (x : Header Ramp Grid) → q ≡ linesReading x → judgedReading x ≡ verdictReading (q .group) v
+        go : (x : Header Function Grid) → q ≡ linesReading x → judgedReading x ≡ verdictReading (q .group) v
         go (stopped s) f = absurd (no-acceptance s (sym (ap (λ (a : Reading). a .verdict) f) ∙ w))
         go (header h rs ds) f =
             let g : q .group ≡ groupOfLines h rs ds = ap (λ (a : Reading). a .group) f in
@@ -60,19 +60,19 @@ module _ (g : Group) where
   abbrev pub headRun : List ℕ
   headRun = headText (headOfGroup g) ++ (10 ∷ [])
 
-  abbrev pub rampRun : List ℕ
-  rampRun = closed rampText (take (g .ramps) (g .ramp))
+  abbrev pub functionRun : List ℕ
+  functionRun = closed functionText (take (g .functions) (g .function))
 
   abbrev pub gridRun : List ℕ
   gridRun = closed gridText (take (g .grids) (g .grid))
 
-  pub runs-room : (out : List ℕ) → length (headerText g) ≤ length out → 0 + length (headRun ++ (rampRun ++ gridRun)) ≤ length out
-  unfolding headerText
-  runs-room out h = omega arith
-
-  pub runs-wrote : (out : List ℕ) (n : ℕ) (after : List ℕ) → Wrote 0 (headRun ++ (rampRun ++ gridRun)) out n after → Wrote 0 (headerText g) out n after
+  pub runs-wrote : (out : List ℕ) (n : ℕ) (after : List ℕ) → Wrote 0 (headRun ++ (functionRun ++ gridRun)) out n after → Wrote 0 (headerText g) out n after
   unfolding headerText
   runs-wrote out n after w = w
+
+  pub runs-room : (out : List ℕ) → length (headerText g) ≤ length out → 0 + length (headRun ++ (functionRun ++ gridRun)) ≤ length out
+  unfolding headerText
+  runs-room out h = omega arith
 
 -- the bytes in front, after a text was written there
 pub front-of : (t out : List ℕ) (n : ℕ) (after : List ℕ) → Wrote 0 t out n after → take n after ≡ t

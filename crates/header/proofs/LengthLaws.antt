@@ -13,13 +13,16 @@ use Rattle.text.proofs.PutLaws.{line-length}
 use Rattle.text.proofs.DecimalLaws.{intText-length, posText-length}
 use Rattle.numbers.proofs.Bools.{and-parts}
 use Rattle.group.specs.Numbers.{nameMost}
-use Rattle.group.specs.Limits.{nameFits, headNumbersFit, headFits, rampFits, gridFits}
-use Rattle.group.specs.Blank.{blankRamp}
-use Rattle.group.specs.Record.{noGrid, rampAt, gridAt}
+use Rattle.group.specs.Limits.{nameFits, headNumbersFit, headFits, shapeFits, functionFits, gridFits}
+use Rattle.group.specs.Shapes.{shapeInts}
+use Rattle.group.specs.Blank.{blankFunction}
+use Rattle.group.specs.Record.{noGrid, functionAt, gridAt}
 use Rattle.group.specs.declared.Name.{Name}
 use Rattle.group.specs.declared.Unit as U
 use Rattle.group.specs.declared.Unit.the-variants.{ArcSecond, Metre}
-use Rattle.group.specs.declared.Ramp.{Ramp}
+use Rattle.group.specs.declared.Shape.{Shape}
+use Rattle.group.specs.declared.Shape.the-variants as S
+use Rattle.group.specs.declared.Function.{Function}
 use Rattle.group.specs.declared.Grid.{Grid}
 use Rattle.group.specs.declared.Group.{Group}
 use Rattle.group.specs.declared.Verdict.the-variants.{Accepted}
@@ -28,10 +31,10 @@ use Rattle.judge.proofs.Accepted.{accepted, accepted-head}
 use Rattle.line.specs.declared.Head.{Head}
 use Rattle.line.specs.Names.{nameText, unitText}
 use Rattle.header.specs.Items.{closed}
-use Rattle.line.specs.Lines.{groupKeyword, headInts, headText, rampKeyword, rampInts, rampText, gridKeyword, gridInts, gridText}
+use Rattle.line.specs.Lines.{groupKeyword, headInts, headText, rampKeyword, stepKeyword, ramp2Keyword, functionText, gridKeyword, gridInts, gridText}
 use Rattle.header.specs.Whole.{headOfGroup, headerText}
 use Rattle.header.specs.Writing.{Wide}
-use Rattle.line.proofs.LimitLaws.{head-sizes, ramp-sizes, origin-sizes, counts-sizes}
+use Rattle.line.proofs.LimitLaws.{head-sizes, ramp-sizes, step-sizes, ramp2-sizes, origin-sizes, counts-sizes}
 use Rattle.line.proofs.NameLaws.{name-len}
 use Rattle.line.proofs.KindLaws.{grid-name, grid-numbers}
 
@@ -44,16 +47,16 @@ unit-length : (u : U.Unit) → length (unitText u) ≤ 10
 unit-length ArcSecond = omega arith
 unit-length Metre = omega arith
 
--- ---- the three kinds of line, with their line feed
+-- ---- the lines, that of the group with its line feed
 
-head-length : (h : Head) → nameFits (h .name) ≡ true → headNumbersFit (pos (h .quantum)) (pos (h .parameters)) (pos (h .ramps)) (pos (h .grids)) ≡ true
+head-length : (h : Head) → nameFits (h .name) ≡ true → headNumbersFit (pos (h .quantum)) (pos (h .parameters)) (pos (h .functions)) (pos (h .grids)) ≡ true
     → length (headText h ++ (10 ∷ [])) ≤ 52
 head-length h m e =
-    let s = head-sizes (pos (h .quantum)) (pos (h .parameters)) (pos (h .ramps)) (pos (h .grids)) e in
+    let s = head-sizes (pos (h .quantum)) (pos (h .parameters)) (pos (h .functions)) (pos (h .grids)) e in
     let s₀ = s .0 .0 in let s₁ = s .1 .0 in let s₂ = s .2 .0 in let s₃ = s .3 .0 in
     let a = posText-length 1 (h .quantum) (omega arith) in
     let b = posText-length 0 (h .parameters) (omega arith) in
-    let c = posText-length 0 (h .ramps) (omega arith) in
+    let c = posText-length 0 (h .functions) (omega arith) in
     let d = posText-length 1 (h .grids) (omega arith) in
     let n = name-length (h .name) m in
     let u = unit-length (h .unit) in
@@ -61,16 +64,36 @@ head-length h m e =
     let q = line-length groupKeyword (nameText (h .name) ∷ unitText (h .unit) ∷ map intText (headInts h)) in
     omega arith
 
-ramp-length : (r : Ramp) → rampFits r ≡ true → length (rampText r) < 43
-ramp-length r e =
+shape-length : (s : Shape) → shapeFits s ≡ true → length (functionText (record { shape = s })) < 43
+shape-length (S.Ramp r) e =
     let s = ramp-sizes (r .a) (r .s0) (r .b) (r .s1) e in
     let s₀ = s .0 in let s₁ = s .1 in let s₂ = s .2 in let s₃ = s .3 in
     let a = intText-length 6 (r .a) (omega arith) in
     let b = intText-length 7 (r .s0) (omega arith) in
     let c = intText-length 6 (r .b) (omega arith) in
     let d = intText-length 7 (r .s1) (omega arith) in
-    let q = line-length rampKeyword (map intText (rampInts r)) in
+    let q = line-length rampKeyword (map intText (shapeInts (S.Ramp r))) in
     omega arith
+shape-length (S.Step r) e =
+    let s = step-sizes (r .event) (r .reference) (r .mult) e in
+    let s₀ = s .0 in let s₁ = s .1 in let s₂ = s .2 in
+    let a = intText-length 6 (r .event) (omega arith) in
+    let b = intText-length 6 (r .reference) (omega arith) in
+    let c = intText-length 7 (r .mult) (omega arith) in
+    let q = line-length stepKeyword (map intText (shapeInts (S.Step r))) in
+    omega arith
+shape-length (S.Ramp2 r) e =
+    let s = ramp2-sizes (r .start) (r .end) (r .reference) (r .mult) e in
+    let s₀ = s .0 in let s₁ = s .1 in let s₂ = s .2 in let s₃ = s .3 in
+    let a = intText-length 6 (r .start) (omega arith) in
+    let b = intText-length 6 (r .end) (omega arith) in
+    let c = intText-length 6 (r .reference) (omega arith) in
+    let d = intText-length 7 (r .mult) (omega arith) in
+    let q = line-length ramp2Keyword (map intText (shapeInts (S.Ramp2 r))) in
+    omega arith
+
+function-length : (f : Function) → functionFits f ≡ true → length (functionText f) < 43
+function-length f e = shape-length (f .shape) e
 
 grid-length : (g : Grid) → gridFits g ≡ true → length (gridText g) < 99
 grid-length g e =
@@ -110,9 +133,9 @@ taken-length text d m n xs h =
 -- ---- the whole text
 
 module _ (g : Group) (e : judged g ≡ Accepted) where
-  pub head-parts : (nameFits (g .name) ≡ true) × (headNumbersFit (pos (g .quantum)) (pos (g .parameters)) (pos (g .ramps)) (pos (g .grids)) ≡ true)
+  pub head-parts : (nameFits (g .name) ≡ true) × (headNumbersFit (pos (g .quantum)) (pos (g .parameters)) (pos (g .functions)) (pos (g .grids)) ≡ true)
   unfolding headFits
-  head-parts = and-parts (nameFits (g .name)) (headNumbersFit (pos (g .quantum)) (pos (g .parameters)) (pos (g .ramps)) (pos (g .grids))) (accepted g e .head)
+  head-parts = and-parts (nameFits (g .name)) (headNumbersFit (pos (g .quantum)) (pos (g .parameters)) (pos (g .functions)) (pos (g .grids))) (accepted g e .head)
 
   pub grids-wide : Wide (g .grid) (g .grids)
   grids-wide = record { most = accepted-head g e .grids; names = λ k l. name-len (gridAt g k .name) (grid-name (gridAt g k) (accepted g e .grid k l)) .1 }
@@ -121,11 +144,11 @@ module _ (g : Group) (e : judged g ≡ Accepted) where
   unfolding headerText
   length-most =
       let h = head-length (headOfGroup g) (head-parts .0) (head-parts .1) in
-      let r = taken-length rampText blankRamp 43 (g .ramps) (g .ramp) (λ k l. ramp-length (rampAt g k) (accepted g e .ramp k l)) in
+      let r = taken-length functionText blankFunction 43 (g .functions) (g .function) (λ k l. function-length (functionAt g k) (accepted g e .function k l)) in
       let d = taken-length gridText noGrid 99 (g .grids) (g .grid) (λ k l. grid-length (gridAt g k) (accepted g e .grid k l)) in
-      let m = accepted-head g e .ramps in let n = accepted-head g e .grids in
-      let x = length-take (g .ramps) (g .ramp) in
+      let m = accepted-head g e .functions in let n = accepted-head g e .grids in
+      let x = length-take (g .functions) (g .function) in
       let y = length-take (g .grids) (g .grid) in
-      let p = length-append (headText (headOfGroup g) ++ (10 ∷ [])) (closed rampText (take (g .ramps) (g .ramp)) ++ closed gridText (take (g .grids) (g .grid))) in
-      let q = length-append (closed rampText (take (g .ramps) (g .ramp))) (closed gridText (take (g .grids) (g .grid))) in
+      let p = length-append (headText (headOfGroup g) ++ (10 ∷ [])) (closed functionText (take (g .functions) (g .function)) ++ closed gridText (take (g .grids) (g .grid))) in
+      let q = length-append (closed functionText (take (g .functions) (g .function))) (closed gridText (take (g .grids) (g .grid))) in
       omega arith

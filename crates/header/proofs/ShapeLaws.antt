@@ -10,18 +10,18 @@ use Rattle.text.specs.Parts.{split}
 use Rattle.group.specs.declared.Refusal.{Refusal}
 use Rattle.group.specs.declared.Verdict.{Verdict}
 use Rattle.group.specs.declared.Verdict.the-variants.{Accepted, Refused}
-use Rattle.group.specs.declared.Ramp.{Ramp}
+use Rattle.group.specs.declared.Function.{Function}
 use Rattle.group.specs.declared.Grid.{Grid}
 use Rattle.group.specs.declared.Group.{Group}
 use Rattle.group.specs.Record.{noGrid}
-use Rattle.group.specs.Blank.{blankRamp, blankGrid, blankGroup}
+use Rattle.group.specs.Blank.{blankFunction, blankGrid, blankGroup}
 use Rattle.judge.specs.Judge.{judged}
 use Rattle.line.specs.declared.Head.{Head}
 use Rattle.line.specs.Line.{Line, bad, good}
-use Rattle.line.specs.Lines.{headLine, rampLine, gridLine}
+use Rattle.line.specs.Lines.{headLine, functionLine, gridLine}
 use Rattle.line.proofs.RoomLaws.{HeadRoom, head-room, grid-room}
 use Rattle.header.specs.Items.{Items, refused, items, onLine, readItems, entries}
-use Rattle.header.specs.Whole.{Header, stopped, header, ending, afterGrids, afterRampsOf, afterHeadOf, gridLines, readLines, groupOfLines}
+use Rattle.header.specs.Whole.{Header, stopped, header, ending, afterGrids, afterFunctionsOf, afterHeadOf, gridLines, readLines, groupOfLines}
 use Rattle.header.specs.Header.{verdictReading, judgedReading, readHeader}
 use Rattle.header.specs.Demand2.{Shaped}
 
@@ -59,32 +59,32 @@ module _ {A : Type 0} (P : A → Type 0) where
 abbrev GridRoom : Grid → Type 0
 GridRoom d = length (d .name .bytes) ≡ 24
 
-abbrev Room : Header Ramp Grid → Type 0
+abbrev Room : Header Function Grid → Type 0
 Room (stopped r) = Unit {0}
-Room (header h rs ds) = HeadRoom h × (length rs ≡ h .ramps) × (length ds ≡ h .grids) × Each GridRoom ds
+Room (header h rs ds) = HeadRoom h × (length rs ≡ h .functions) × (length ds ≡ h .grids) × Each GridRoom ds
 
-ending-room : (n : ℕ) (ls : List (List ℕ)) (x : Header Ramp Grid) → Room x → Room (ending n ls x)
+ending-room : (n : ℕ) (ls : List (List ℕ)) (x : Header Function Grid) → Room x → Room (ending n ls x)
 ending-room n [] x r = tt
 ending-room n ([] ∷ []) x r = r
 ending-room n ([] ∷ q ∷ ps) x r = tt
 ending-room n ((b ∷ bs) ∷ ps) x r = tt
 
-grids-room : (n : ℕ) (h : Head) (rs : List Ramp) (is : Items Grid) → HeadRoom h → length rs ≡ h .ramps → Read GridRoom (h .grids) is
+grids-room : (n : ℕ) (h : Head) (rs : List Function) (is : Items Grid) → HeadRoom h → length rs ≡ h .functions → Read GridRoom (h .grids) is
     → Room (afterGrids n h rs is)
 grids-room n h rs (refused r) a b c = tt
 grids-room n h rs (items ds ls) a b c = ending-room n ls (header h rs ds) (a, b, c .0, c .1)
 
-ramps-room : (h : Head) (is : Items Ramp) → HeadRoom h → Read (λ r. Unit {0}) (h .ramps) is → Room (afterRampsOf rampLine gridLines h is)
-ramps-room h (refused r) a b = tt
-ramps-room h (items rs ls) a b =
-    grids-room (2 + h .ramps + h .grids) h rs (readItems gridLine (h .grids) (2 + h .ramps) ls) a (b .0)
-    (read-each GridRoom gridLine grid-room (h .grids) (2 + h .ramps) ls)
+functions-room : (h : Head) (is : Items Function) → HeadRoom h → Read (λ r. Unit {0}) (h .functions) is → Room (afterFunctionsOf functionLine gridLines h is)
+functions-room h (refused r) a b = tt
+functions-room h (items rs ls) a b =
+    grids-room (2 + h .functions + h .grids) h rs (readItems gridLine (h .grids) (2 + h .functions) ls) a (b .0)
+    (read-each GridRoom gridLine grid-room (h .grids) (2 + h .functions) ls)
 
-head-room-of : (is : Items Head) → Read HeadRoom 1 is → Room (afterHeadOf rampLine gridLines is)
+head-room-of : (is : Items Head) → Read HeadRoom 1 is → Room (afterHeadOf functionLine gridLines is)
 head-room-of (refused r) a = tt
 head-room-of (items [] ls) a = tt
 head-room-of (items (h ∷ hs) ls) a =
-    ramps-room h (readItems rampLine (h .ramps) 2 ls) (a .1 .0) (read-each (λ r. Unit {0}) rampLine (λ n l r e. tt) (h .ramps) 2 ls)
+    functions-room h (readItems functionLine (h .functions) 2 ls) (a .1 .0) (read-each (λ r. Unit {0}) functionLine (λ n l r e. tt) (h .functions) 2 ls)
 
 lines-room : (t : List ℕ) → Room (readLines t)
 lines-room t = head-room-of (readItems headLine 1 1 (split 10 t)) (read-each HeadRoom headLine head-room 1 1 (split 10 t))
@@ -95,12 +95,12 @@ entries-length : {A : Type 0} (n : ℕ) (z : A) (xs : List A) → length xs ≤ 
 entries-length n z xs h =
     let r = length-replicate (n - length xs) z in length-append xs (replicate (n - length xs) z) ∙ omega arith
 
-group-shaped : (h : Head) (rs : List Ramp) (ds : List Grid) → Room (header h rs ds) → Shaped (groupOfLines h rs ds)
+group-shaped : (h : Head) (rs : List Function) (ds : List Grid) → Room (header h rs ds) → Shaped (groupOfLines h rs ds)
 group-shaped h rs ds r =
-    let a = r .0 in let m = a .ramps in let n = a .grids in let e = r .1 in let f = r .2 in
+    let a = r .0 in let m = a .functions in let n = a .grids in let e = r .1 in let f = r .2 in
     record {
       name = a .name;
-      ramp = entries-length 8 blankRamp rs (omega arith);
+      function = entries-length 8 blankFunction rs (omega arith);
       grid = entries-length 64 blankGrid ds (omega arith);
       names = λ k l.
           elim (decLt k (length ds)) [
@@ -120,7 +120,7 @@ blank-shaped : Shaped blankGroup
 blank-shaped =
     record {
       name = refl;
-      ramp = refl;
+      function = refl;
       grid = refl;
       names = λ k l. ap (λ (d : Grid). length (d .name .bytes)) (getD-replicate 64 k blankGrid noGrid l);
     }
@@ -133,6 +133,6 @@ read-shaped t = go (readLines t) (lines-room t)
     by-verdict g Accepted s = s
     by-verdict g (Refused r) s = blank-shaped
 
-    go : (x : Header Ramp Grid) → Room x → Shaped (judgedReading x .group)
+    go : (x : Header Function Grid) → Room x → Shaped (judgedReading x .group)
     go (stopped r) s = blank-shaped
     go (header h rs ds) s = by-verdict (groupOfLines h rs ds) (judged (groupOfLines h rs ds)) (group-shaped h rs ds s)

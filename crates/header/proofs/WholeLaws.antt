@@ -11,7 +11,7 @@ use lib.ListN.{length, take, drop, length-drop, drop-of-length-le}
 use Rattle.text.specs.Parts.{glue, split, upTo}
 use Rattle.text.proofs.PartLaws.{first-part}
 use Rattle.text.proofs.FieldLaws.{length-ints}
-use Rattle.group.specs.Numbers.{rampsMost, gridsMost}
+use Rattle.group.specs.Numbers.{functionsMost, gridsMost}
 use Rattle.group.specs.declared.Refusal.{Refusal}
 use Rattle.group.specs.declared.Verdict.{Verdict}
 use Rattle.group.specs.declared.Verdict.the-variants.{Accepted, Refused}
@@ -20,7 +20,7 @@ use Rattle.group.specs.Refusals.{refusal}
 use Rattle.line.specs.Line.{Line, bad, good}
 use Rattle.header.specs.Items.{Items, refused, items, onLine, readItems, verdictOf, foundOf, behindOf, Are}
 use Rattle.line.specs.Lines.{fields, groupKeyword, headTexts, headFit, headOf, headLine}
-use Rattle.header.specs.Whole.{Header, stopped, header, ending, afterGrids, afterRampsOf, afterHeadOf, readLinesOf}
+use Rattle.header.specs.Whole.{Header, stopped, header, ending, afterGrids, afterFunctionsOf, afterHeadOf, readLinesOf}
 use Rattle.line.proofs.LineLaws.{keyed-good, fields-good, four-of}
 use Rattle.line.proofs.LimitLaws.{head-sizes}
 use Rattle.header.proofs.ItemLaws.{none-closed, one-closed}
@@ -55,70 +55,70 @@ ending-more n (x ∷ xs) h l = let p = first-part 10 xs in rw (p .1 .1) (go (eqb
 -- ---- the lines behind the group line
 
 -- over any two kinds of line
-module _ {R D : Type 0} (ramp : ℕ → List ℕ → Line Refusal R) (grid : Head → List (List ℕ) → ℕ → List ℕ → Line Refusal D) where
-  module _ (rampSize gridSize : ℕ) (rampBlank : R) (gridBlank : D) where
+module _ {R D : Type 0} (function : ℕ → List ℕ → Line Refusal R) (grid : Head → List (List ℕ) → ℕ → List ℕ → Line Refusal D) where
+  module _ (functionSize gridSize : ℕ) (functionBlank : R) (gridBlank : D) where
     module _ (text : List ℕ) (at : ℕ) (h : Head) where
-      abbrev pub rampItems : Items R
-      rampItems = readItems ramp (h .ramps) 2 (split 10 (drop at text))
+      abbrev pub functionItems : Items R
+      functionItems = readItems function (h .functions) 2 (split 10 (drop at text))
 
       abbrev pub gridItems : ℕ → Items D
-      gridItems next = readItems (grid h (split 10 (drop next text))) (h .grids) (2 + h .ramps) (split 10 (drop next text))
+      gridItems next = readItems (grid h (split 10 (drop next text))) (h .grids) (2 + h .functions) (split 10 (drop next text))
 
-      module _ (v : Verdict) (rs : List R) (next : ℕ) (a : Are rampSize rampBlank text rampItems v rs next) where
-        pub ramps-stop : (r : Refusal) → v ≡ Refused r → afterRampsOf ramp grid h rampItems ≡ stopped r
-        ramps-stop r e = ap (afterRampsOf ramp grid h) (are-refused rampSize rampBlank text rampItems v rs next a r e)
+      module _ (v : Verdict) (rs : List R) (next : ℕ) (a : Are functionSize functionBlank text functionItems v rs next) where
+        pub functions-stop : (r : Refusal) → v ≡ Refused r → afterFunctionsOf function grid h functionItems ≡ stopped r
+        functions-stop r e = ap (afterFunctionsOf function grid h) (are-refused functionSize functionBlank text functionItems v rs next a r e)
 
         module _ (e : v ≡ Accepted) (w : Verdict) (ds : List D) (end : ℕ) (b : Are gridSize gridBlank text (gridItems next) w ds end) where
-          ramped : afterRampsOf ramp grid h rampItems ≡ afterGrids (2 + h .ramps + h .grids) h (foundOf rampItems) (gridItems next)
-          ramped = ap (afterRampsOf ramp grid h) (are-accepted rampSize rampBlank text rampItems v rs next a e)
+          functioned : afterFunctionsOf function grid h functionItems ≡ afterGrids (2 + h .functions + h .grids) h (foundOf functionItems) (gridItems next)
+          functioned = ap (afterFunctionsOf function grid h) (are-accepted functionSize functionBlank text functionItems v rs next a e)
 
-          pub grids-stop : (r : Refusal) → w ≡ Refused r → afterRampsOf ramp grid h rampItems ≡ stopped r
-          grids-stop r f = ramped ∙ ap (afterGrids (2 + h .ramps + h .grids) h (foundOf rampItems)) (are-refused gridSize gridBlank text (gridItems next) w ds end b r f)
+          pub grids-stop : (r : Refusal) → w ≡ Refused r → afterFunctionsOf function grid h functionItems ≡ stopped r
+          grids-stop r f = functioned ∙ ap (afterGrids (2 + h .functions + h .grids) h (foundOf functionItems)) (are-refused gridSize gridBlank text (gridItems next) w ds end b r f)
 
-          gridded : w ≡ Accepted → afterRampsOf ramp grid h rampItems ≡ ending (2 + h .ramps + h .grids) (split 10 (drop end text)) (header h (foundOf rampItems) (foundOf (gridItems next)))
-          gridded f = ramped ∙ ap (afterGrids (2 + h .ramps + h .grids) h (foundOf rampItems)) (are-accepted gridSize gridBlank text (gridItems next) w ds end b f)
+          gridded : w ≡ Accepted → afterFunctionsOf function grid h functionItems ≡ ending (2 + h .functions + h .grids) (split 10 (drop end text)) (header h (foundOf functionItems) (foundOf (gridItems next)))
+          gridded f = functioned ∙ ap (afterGrids (2 + h .functions + h .grids) h (foundOf functionItems)) (are-accepted gridSize gridBlank text (gridItems next) w ds end b f)
 
-          pub more-stops : w ≡ Accepted → (end ≡ length text → ⊥) → afterRampsOf ramp grid h rampItems ≡ stopped (refusal 1 (2 + h .ramps + h .grids))
+          pub more-stops : w ≡ Accepted → (end ≡ length text → ⊥) → afterFunctionsOf function grid h functionItems ≡ stopped (refusal 1 (2 + h .functions + h .grids))
           more-stops f q = gridded f ∙ ending-more _ (drop end text) _ left
             where
               left : 0 < length (drop end text)
               left = let r = b .room in let d = length-drop end text in elim (decLt end (length text)) [ yes l ↦ omega arith | no l ↦ absurd (q (omega arith)) ]
 
-          pub entries-done : w ≡ Accepted → end ≡ length text → afterRampsOf ramp grid h rampItems ≡ header h (foundOf rampItems) (foundOf (gridItems next))
+          pub entries-done : w ≡ Accepted → end ≡ length text → afterFunctionsOf function grid h functionItems ≡ header h (foundOf functionItems) (foundOf (gridItems next))
           entries-done f q =
               let l : length text ≤ end = omega arith in
               let d : drop end text ≡ [] = drop-of-length-le text l in
-              gridded f ∙ ap (λ (s : List ℕ). ending (2 + h .ramps + h .grids) (split 10 s) (header h (foundOf rampItems) (foundOf (gridItems next)))) d
+              gridded f ∙ ap (λ (s : List ℕ). ending (2 + h .functions + h .grids) (split 10 s) (header h (foundOf functionItems) (foundOf (gridItems next)))) d
 
   -- ---- the group line
 
   module _ (text : List ℕ) (e : ℕ) (found : e ≡ 0 + upTo 10 (drop 0 text)) where
-    pub head-unclosed : e ≡ length text → readLinesOf ramp grid text ≡ stopped (refusal 1 1)
-    head-unclosed q = ap (λ (ls : List (List ℕ)). afterHeadOf ramp grid (readItems headLine 1 1 ls)) (none-closed text 0 e found (omega arith) q)
+    pub head-unclosed : e ≡ length text → readLinesOf function grid text ≡ stopped (refusal 1 1)
+    head-unclosed q = ap (λ (ls : List (List ℕ)). afterHeadOf function grid (readItems headLine 1 1 ls)) (none-closed text 0 e found (omega arith) q)
 
     module _ (q : e ≡ length text → ⊥) where
-      head-line : readLinesOf ramp grid text ≡ afterHeadOf ramp grid (onLine (headLine 1 (take (e - 0) (drop 0 text))) (items [] (split 10 (drop (e + 1) text))))
+      head-line : readLinesOf function grid text ≡ afterHeadOf function grid (onLine (headLine 1 (take (e - 0) (drop 0 text))) (items [] (split 10 (drop (e + 1) text))))
       head-line =
           let p = first-part 10 (drop (e + 1) text) in
-          ap (λ (ls : List (List ℕ)). afterHeadOf ramp grid (readItems headLine 1 1 ls)) (one-closed text 0 e found (omega arith) q ∙ ap (λ (ls : List (List ℕ)). take (e - 0) (drop 0 text) ∷ ls) (p .1 .1))
-          ∙ ap (λ (ls : List (List ℕ)). afterHeadOf ramp grid (onLine (headLine 1 (take (e - 0) (drop 0 text))) (items [] ls))) (sym (p .1 .1))
+          ap (λ (ls : List (List ℕ)). afterHeadOf function grid (readItems headLine 1 1 ls)) (one-closed text 0 e found (omega arith) q ∙ ap (λ (ls : List (List ℕ)). take (e - 0) (drop 0 text) ∷ ls) (p .1 .1))
+          ∙ ap (λ (ls : List (List ℕ)). afterHeadOf function grid (onLine (headLine 1 (take (e - 0) (drop 0 text))) (items [] ls))) (sym (p .1 .1))
 
-      pub head-stops : (r : Refusal) → headLine 1 (take (e - 0) (drop 0 text)) ≡ bad r → readLinesOf ramp grid text ≡ stopped r
-      head-stops r b = head-line ∙ ap (λ (l : Line Refusal Head). afterHeadOf ramp grid (onLine l (items [] (split 10 (drop (e + 1) text))))) b
+      pub head-stops : (r : Refusal) → headLine 1 (take (e - 0) (drop 0 text)) ≡ bad r → readLinesOf function grid text ≡ stopped r
+      head-stops r b = head-line ∙ ap (λ (l : Line Refusal Head). afterHeadOf function grid (onLine l (items [] (split 10 (drop (e + 1) text))))) b
 
-      pub head-goes : (h : Head) → headLine 1 (take (e - 0) (drop 0 text)) ≡ good h → readLinesOf ramp grid text ≡ afterRampsOf ramp grid h (readItems ramp (h .ramps) 2 (split 10 (drop (e + 1) text)))
-      head-goes h g = head-line ∙ ap (λ (l : Line Refusal Head). afterHeadOf ramp grid (onLine l (items [] (split 10 (drop (e + 1) text))))) g
+      pub head-goes : (h : Head) → headLine 1 (take (e - 0) (drop 0 text)) ≡ good h → readLinesOf function grid text ≡ afterFunctionsOf function grid h (readItems function (h .functions) 2 (split 10 (drop (e + 1) text)))
+      head-goes h g = head-line ∙ ap (λ (l : Line Refusal Head). afterHeadOf function grid (onLine l (items [] (split 10 (drop (e + 1) text))))) g
 
 -- the counts of a group line that is read
-pub head-counts : (n : ℕ) (line : List ℕ) (h : Head) → headLine n line ≡ good h → (h .ramps ≤ rampsMost) × (h .grids ≤ gridsMost)
+pub head-counts : (n : ℕ) (line : List ℕ) (h : Head) → headLine n line ≡ good h → (h .functions ≤ functionsMost) × (h .grids ≤ gridsMost)
 head-counts n line h e = ⊎-elim (λ w. go (w .0) (w .2)) (λ w. let z : _≡_ {A = ℕ} 0 1 = cc in absurd (omega arith)) (keyed-good groupKeyword of (λ fs. bad (refusal 1 n)) (split 9 line) h e)
   where
     of : List (List ℕ) → Line Refusal Head
     of = fields 2 4 headTexts headFit headOf (refusal 1 n) (refusal 2 n)
 
-    go : (fs : List (List ℕ)) → of fs ≡ good h → (h .ramps ≤ rampsMost) × (h .grids ≤ gridsMost)
+    go : (fs : List (List ℕ)) → of fs ≡ good h → (h .functions ≤ functionsMost) × (h .grids ≤ gridsMost)
     go fs f =
         let g = fields-good 2 4 headTexts headFit headOf (refusal 1 n) (refusal 2 n) fs h f in
         let k : length (g .zs) ≡ 4 = length-ints (drop 2 fs) (g .zs) (g .numbered) ∙ length-drop 2 fs ∙ (let c = g .count in omega arith) in
-        subst (λ (x : Head). (x .ramps ≤ rampsMost) × (x .grids ≤ gridsMost)) (g .whole)
-        (four-of (λ zs. headFit zs ≡ true → (headOf (g .b) zs .ramps ≤ rampsMost) × (headOf (g .b) zs .grids ≤ gridsMost)) (λ a b c d f. let s = head-sizes a b c d f in (s .2 .0, s .3 .0)) (g .zs) k (g .fit))
+        subst (λ (x : Head). (x .functions ≤ functionsMost) × (x .grids ≤ gridsMost)) (g .whole)
+        (four-of (λ zs. headFit zs ≡ true → (headOf (g .b) zs .functions ≤ functionsMost) × (headOf (g .b) zs .grids ≤ gridsMost)) (λ a b c d f. let s = head-sizes a b c d f in (s .2 .0, s .3 .0)) (g .zs) k (g .fit))

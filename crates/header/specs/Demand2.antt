@@ -4,9 +4,9 @@ use mathlib.Core.Path.{_≡_}
 use mathlib.Core.Bool.{true}
 use mathlib.Core.List.{List}
 use lib.ListN.{length, take, drop}
-use Rattle.group.specs.Numbers.{nameMost, rampsMost, gridsMost}
-use Rattle.group.specs.Record.{rampAt, gridAt}
-use Rattle.group.specs.Limits.{nameFits, rampBlank, gridBlank}
+use Rattle.group.specs.Numbers.{nameMost, functionsMost, gridsMost}
+use Rattle.group.specs.Record.{functionAt, gridAt}
+use Rattle.group.specs.Limits.{nameFits, functionBlank, gridBlank}
 use Rattle.group.specs.Blank.{blankGroup}
 use Rattle.group.specs.declared.Group.{Group}
 use Rattle.group.specs.declared.Verdict.the-variants.{Accepted}
@@ -46,7 +46,7 @@ pub record TextWritten (g : Group) (out : List ℕ) (w : Written) (after : List 
 -- the arrays have their lengths, as in every record of the code
 pub record Shaped (g : Group) : Type 0 where
   pub name : length (g .name .bytes) ≡ nameMost
-  pub ramp : length (g .ramp) ≡ rampsMost
+  pub function : length (g .function) ≡ functionsMost
   pub grid : length (g .grid) ≡ gridsMost
   pub names : (k : ℕ) → k < gridsMost → length (gridAt g k .name .bytes) ≡ nameMost
 
@@ -55,7 +55,7 @@ pub record Formed (g : Group) : Type 0 where
   pub shape : Shaped g
   pub name : nameFits (g .name) ≡ true
   pub names : (k : ℕ) → k < gridsMost → k < g .grids → nameFits (gridAt g k .name) ≡ true
-  pub no-ramp : (k : ℕ) → k < rampsMost → g .ramps ≤ k → rampBlank (rampAt g k) ≡ true
+  pub no-function : (k : ℕ) → k < functionsMost → g .functions ≤ k → functionBlank (functionAt g k) ≡ true
   pub no-grid : (k : ℕ) → k < gridsMost → g .grids ≤ k → gridBlank (gridAt g k) ≡ true
 
 -- a group handed over as a record is judged as its text would be: the same verdict, and where accepted that group. A count beyond

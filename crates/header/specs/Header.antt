@@ -5,7 +5,7 @@ use lib.Dec.{ltb}
 use lib.ListN.{length}
 use Rattle.text.specs.Put.{put}
 use Rattle.group.specs.declared.Verdict.{Verdict}
-use Rattle.group.specs.declared.Ramp.{Ramp}
+use Rattle.group.specs.declared.Function.{Function}
 use Rattle.group.specs.declared.Grid.{Grid}
 use Rattle.group.specs.declared.Group.{Group}
 use Rattle.judge.specs.Judge.{judged}
@@ -21,7 +21,7 @@ abbrev pub verdictReading : Group → Verdict → Reading
 verdictReading g v = unlessRefused refusedReading v (acceptedReading g)
 
 -- the lines that were read: their refusal, else the group that they make, judged
-abbrev pub judgedReading : Header Ramp Grid → Reading
+abbrev pub judgedReading : Header Function Grid → Reading
 judgedReading (stopped r) = refusedReading r
 judgedReading (header h rs ds) = verdictReading (groupOfLines h rs ds) (judged (groupOfLines h rs ds))
 

@@ -2,33 +2,33 @@
 ghost use mathlib.Core.Path.{_≡_};
 ghost use Prim.Native.Nat.{_+_, _≤_};
 ghost use lib.ListN.{length, take, drop, replicate};
-ghost use Rattle.group.specs.Numbers.{rampsMost, gridsMost};
+ghost use Rattle.group.specs.Numbers.{functionsMost, gridsMost};
 ghost use Rattle.abi.specs.Abi.{groupOfWords};
 ghost use Rattle.text.specs.Parts.{split};
 ghost use Rattle.text.specs.Wrote.{Wrote};
 ghost use Rattle.judge.specs.Judge.{judged};
-ghost use Rattle.line.specs.Lines.{rampLine, rampText, gridText};
-ghost use Rattle.group.specs.Blank.{blankRamp, blankGrid};
-ghost use Rattle.header.specs.Items.{readItems, closed};
-ghost use Rattle.header.specs.Answers.{refusedRamps, refusedGrids, RampsAre, GridsAre};
-ghost use Rattle.header.specs.Whole.{refusedReading, linesReading, gridLines, afterRampsOf, readLines, headerText};
+ghost use Rattle.line.specs.Lines.{functionLine, functionText, gridText};
+ghost use Rattle.group.specs.Blank.{blankFunction, blankGrid};
+ghost use Rattle.header.specs.Items.{closed};
+ghost use Rattle.header.specs.Answers.{refusedFunctions, refusedGrids, FunctionsAre, GridsAre};
+ghost use Rattle.header.specs.Whole.{refusedReading, linesReading, gridLines, readEntriesOf, readLines, headerText};
 ghost use Rattle.header.specs.Header.{readHeader, written, bytesAfter};
 ghost use Rattle.header.specs.Writing.{Wide};
 use abi::GROUP_WORDS;
+use group::Function;
 use group::Grid;
 use group::Group;
-use group::Ramp;
 use group::Refusal;
 use group::Verdict;
+use group::blank_function;
 use group::blank_grid;
 use group::blank_group;
-use group::blank_ramp;
 use line::Head;
 
-// Lines read as ramps: the verdict, the entries (blank where none is read, and after a refusal), and the place behind the last.
-pub struct RampsRead {
+// Lines read as functions: the verdict, the entries (blank where none is read, and after a refusal), and the place behind the last.
+pub struct FunctionsRead {
     pub verdict: Verdict,
-    pub ramps: [Ramp; group::RAMPS_MOST],
+    pub functions: [Function; group::FUNCTIONS_MOST],
     pub next: usize,
 }
 
@@ -51,12 +51,12 @@ pub enum Written {
     Refused(Refusal),
 }
 
-// Eight ramps of zeros.
-fn blank_ramps() -> [Ramp; group::RAMPS_MOST]
-    ensures { λ r. ⌜ r ≡ replicate rampsMost blankRamp ⌝ }
+// Eight unused functions.
+fn blank_functions() -> [Function; group::FUNCTIONS_MOST]
+    ensures { λ r. ⌜ r ≡ replicate functionsMost blankFunction ⌝ }
 {
-    let ramp = blank_ramp();
-    [ramp; group::RAMPS_MOST]
+    let function = blank_function();
+    [function; group::FUNCTIONS_MOST]
 }
 
 // All grids of a record, of zeros.
@@ -67,14 +67,14 @@ fn blank_grids() -> [Grid; group::GRIDS_MOST]
     [grid; group::GRIDS_MOST]
 }
 
-// Ramp lines of which one is refused.
-fn refused_ramps(refusal: Refusal) -> RampsRead
-    ensures { λ r. ⌜ r ≡ refusedRamps refusal ⌝ }
+// Function lines of which one is refused.
+fn refused_functions(refusal: Refusal) -> FunctionsRead
+    ensures { λ r. ⌜ r ≡ refusedFunctions refusal ⌝ }
 {
-    let ramps = blank_ramps();
-    RampsRead {
+    let functions = blank_functions();
+    FunctionsRead {
         verdict: Verdict::Refused(refusal),
-        ramps,
+        functions,
         next: 0,
     }
 }
@@ -91,43 +91,43 @@ fn refused_grids(refusal: Refusal) -> GridsRead
     }
 }
 
-// The ramps of a header, from line 2 on, which begins at `at`.
-fn read_ramps(text: &[u8], at: usize, count: u64) -> RampsRead
-    requires { ⌜ (at ≤ length (now text)) × (count ≤ rampsMost) ⌝ }
-    ensures { λ r. ⌜ RampsAre (now (text .entry)) at count r ⌝ }
+// The functions of a header, from line 2 on, which begins at `at`.
+fn read_functions(text: &[u8], at: usize, count: u64) -> FunctionsRead
+    requires { ⌜ (at ≤ length (now text)) × (count ≤ functionsMost) ⌝ }
+    ensures { λ r. ⌜ FunctionsAre (now (text .entry)) at count r ⌝ }
 {
-    let mut ramps = blank_ramps();
+    let mut functions = blank_functions();
     let mut next = at;
     let mut k: u64 = 0;
     while k < count {
         let e = text::find_from(text, next, 10);
         if e == text.len() {
-            return refused_ramps(Refusal {
+            return refused_functions(Refusal {
                 number: 1,
                 place: 2 + k,
             });
         }
-        let read = line::ramp_line(&text[next..e], 2 + k);
+        let read = line::function_line(&text[next..e], 2 + k);
         let verdict = read.verdict;
         if let Verdict::Refused(refusal) = verdict {
-            return refused_ramps(refusal);
+            return refused_functions(refusal);
         }
         let i = k as usize;
-        let ramp = read.ramp;
-        ramps[i] = ramp;
+        let function = read.function;
+        functions[i] = function;
         next = e + 1;
         k += 1;
     }
-    RampsRead {
+    FunctionsRead {
         verdict: Verdict::Accepted,
-        ramps,
+        functions,
         next,
     }
 }
 
 // The grids of a header, from line `first` on, which begins at `at`.
 fn read_grids(text: &[u8], at: usize, count: u64, first: u64) -> GridsRead
-    requires { ⌜ (at ≤ length (now text)) × ((count ≤ gridsMost) × (first ≤ rampsMost + 2)) ⌝ }
+    requires { ⌜ (at ≤ length (now text)) × ((count ≤ gridsMost) × (first ≤ functionsMost + 2)) ⌝ }
     ensures { λ r. ⌜ GridsAre (now (text .entry)) at count first r ⌝ }
 {
     let mut grids = blank_grids();
@@ -172,15 +172,15 @@ fn refused_reading(refusal: Refusal) -> Reading
 
 // The lines behind the group line, from `at` on.
 fn read_entries(text: &[u8], at: usize, head: Head) -> Reading
-    requires { ⌜ (at ≤ length (now text)) × ((head .ramps ≤ rampsMost) × (head .grids ≤ gridsMost)) ⌝ }
-    ensures { λ r. ⌜ r ≡ linesReading (afterRampsOf rampLine gridLines head (readItems rampLine (head .ramps) 2 (split 10 (drop at (now (text .entry)))))) ⌝ }
+    requires { ⌜ (at ≤ length (now text)) × ((head .functions ≤ functionsMost) × (head .grids ≤ gridsMost)) ⌝ }
+    ensures { λ r. ⌜ r ≡ linesReading (readEntriesOf functionLine gridLines head (split 10 (drop at (now (text .entry))))) ⌝ }
 {
-    let ramps = read_ramps(text, at, head.ramps);
-    let verdict = ramps.verdict;
+    let functions = read_functions(text, at, head.functions);
+    let verdict = functions.verdict;
     if let Verdict::Refused(refusal) = verdict {
         return refused_reading(refusal);
     }
-    let grids = read_grids(text, ramps.next, head.grids, 2 + head.ramps);
+    let grids = read_grids(text, functions.next, head.grids, 2 + head.functions);
     let verdict = grids.verdict;
     if let Verdict::Refused(refusal) = verdict {
         return refused_reading(refusal);
@@ -188,21 +188,21 @@ fn read_entries(text: &[u8], at: usize, head: Head) -> Reading
     if grids.next != text.len() {
         return refused_reading(Refusal {
             number: 1,
-            place: 2 + head.ramps + head.grids,
+            place: 2 + head.functions + head.grids,
         });
     }
     let name = head.name;
     let unit = head.unit;
-    let ramp = ramps.ramps;
+    let function = functions.functions;
     let grid = grids.grids;
     let group = Group {
         name,
         unit,
         quantum: head.quantum,
         parameters: head.parameters,
-        ramps: head.ramps,
+        functions: head.functions,
         grids: head.grids,
-        ramp,
+        function,
         grid,
     };
     Reading {
@@ -248,17 +248,22 @@ pub fn read_header(text: &[u8]) -> Reading
     lines
 }
 
-// Writes the first ramps, as many as the count, a line each.
-fn put_ramps(ramps: [Ramp; group::RAMPS_MOST], count: u64, out: &mut [u8], at: usize) -> usize
-    requires { ⌜ (count ≤ rampsMost) × (at + length (closed rampText (take count ramps)) ≤ length (now out)) ⌝ }
-    ensures { λ r. ⌜ Wrote at (closed rampText (take count ramps)) (now (out .entry)) r (now (out .exit)) ⌝ }
+// Writes the first functions, as many as the count, a line each.
+fn put_functions(
+    functions: [Function; group::FUNCTIONS_MOST],
+    count: u64,
+    out: &mut [u8],
+    at: usize,
+) -> usize
+    requires { ⌜ (count ≤ functionsMost) × (at + length (closed functionText (take count functions)) ≤ length (now out)) ⌝ }
+    ensures { λ r. ⌜ Wrote at (closed functionText (take count functions)) (now (out .entry)) r (now (out .exit)) ⌝ }
 {
     let mut next = at;
     let mut k: u64 = 0;
     while k < count {
         let i = k as usize;
-        let ramp = ramps[i];
-        next = line::put_ramp(ramp, out, next);
+        let function = functions[i];
+        next = line::put_function(function, out, next);
         k += 1;
     }
     next
@@ -292,12 +297,12 @@ fn put_group(group: Group, out: &mut [u8]) -> usize
         unit,
         quantum: group.quantum,
         parameters: group.parameters,
-        ramps: group.ramps,
+        functions: group.functions,
         grids: group.grids,
     };
     let p = line::put_head(head, out, 0);
-    let ramp = group.ramp;
-    let q = put_ramps(ramp, group.ramps, out, p);
+    let function = group.function;
+    let q = put_functions(function, group.functions, out, p);
     let grid = group.grid;
     put_grids(grid, group.grids, out, q)
 }

@@ -129,10 +129,10 @@ module _ (g h : Group) (k t : ℕ) (e : judged g ≡ Accepted) (w : WrittenTurne
   sound =
       let s = accepted g e in let n = w .grids in
       record {
-        head = rw (w .name, w .quantum, w .parameters, w .ramps, w .grids) (s .head);
-        ramp = λ j l. rw (w .ramp) (s .ramp j (omega (arith, w .ramps)));
+        head = rw (w .name, w .quantum, w .parameters, w .functions, w .grids) (s .head);
+        function = λ j l. rw (w .function) (s .function j (omega (arith, w .functions)));
         grid = λ j l. fits j (omega arith);
-        no-ramp = λ j l. rw (w .ramp, w .ramps) (s .no-ramp j l);
+        no-function = λ j l. rw (w .function, w .functions) (s .no-function j l);
         no-grid = unused;
         edges = λ j l. rw (w .parameters) (insides j (omega arith));
         names = λ i j l m. (λ a. sameName (same-names j a) (same-names i a)) ∙ s .names i j (omega arith) m;

@@ -20,8 +20,8 @@ pub record WrittenTurned (g h : Group) (k t : ℕ) : Type 0 where
   pub name : h .name ≡ g .name
   pub quantum : h .quantum ≡ g .quantum
   pub parameters : h .parameters ≡ g .parameters
-  pub ramps : h .ramps ≡ g .ramps
-  pub ramp : h .ramp ≡ g .ramp
+  pub functions : h .functions ≡ g .functions
+  pub function : h .function ≡ g .function
   pub grids : h .grids ≡ g .grids
   -- 'where the limits allow it'
   pub near : lonEdgeFits (gridAt h k .lon .0) ≡ true

@@ -9,19 +9,19 @@ use lib.Dec.{leb}
 use lib.IntN.{ℤ}
 use Rattle.numbers.specs.First.{first, some}
 use Rattle.numbers.proofs.FirstLaws.{none-at, first-same, some-same}
-use Rattle.group.specs.declared.Ramp.{Ramp}
+use Rattle.group.specs.declared.Function.{Function}
 use Rattle.group.specs.declared.Group.{Group}
 use Rattle.group.specs.Record.{gridAt}
-use Rattle.group.specs.Numbers.{rampsMost, gridsMost}
-use Rattle.group.specs.Limits.{rampFits, rampBlank, gridBlank}
-use Rattle.abi.specs.Abi.{rampOfWords, gridOfWords, groupOfWords}
-use Rattle.abi.proofs.EntryLaws.{ramp-of-words, grid-of-words}
+use Rattle.group.specs.Numbers.{functionsMost, gridsMost}
+use Rattle.group.specs.Limits.{functionFits, functionBlank, gridBlank}
+use Rattle.abi.specs.Abi.{functionOfWords, gridOfWords, groupOfWords}
+use Rattle.abi.proofs.EntryLaws.{function-of-words, grid-of-words}
 use Rattle.extent.specs.Extent.{inside}
 use Rattle.flat.specs.Lists.{Sided}
-use Rattle.judge.specs.Judge.{unusedRamp, unusedGrid, badRamp, outside, sameName, sameRank, rankedEarlier}
-use Rattle.judge.specs.Rules.{rampTest, GridLimits}
+use Rattle.judge.specs.Judge.{unusedFunction, unusedGrid, badFunction, outside, sameName, sameRank, rankedEarlier}
+use Rattle.judge.specs.Rules.{functionTest, GridLimits}
 use Rattle.judge.specs.Keys.{keysOf, KeysListed, someReaches, rankRule, clash, sharesEarlier, Comparable}
-use Rattle.judge.specs.declared.RampRule.the-variants as R
+use Rattle.judge.specs.declared.FunctionRule.the-variants as R
 use Rattle.judge.specs.declared.Shared.{Shared}
 use Rattle.judge.specs.declared.Shared.the-variants as S
 use Rattle.judge.proofs.LimitLaws.{name-good, name-bytes, grid-edges}
@@ -30,19 +30,19 @@ use Rattle.judge.proofs.KeyLaws.{sided-listed, none-reaches, clash-name
 -- the entries of a group that a list of numbers stands for: what the loops over that list found is what is judged
 module _ (ns : List ℤ) where
   -- an entry before the count is no unused one
-  pub ramp-used : (m k : ℕ) → k < m → rampTest R.Unused (leb m k) (rampOfWords ns k) ≡ false
-  ramp-used m k l = rw (lt-leb m k l)
+  pub function-used : (m k : ℕ) → k < m → functionTest R.Unused (leb m k) (functionOfWords ns k) ≡ false
+  function-used m k l = rw (lt-leb m k l)
 
-  pub unused-ramps : {m i : ℕ} → m ≡ groupOfWords ns .ramps → i ≡ first (λ k. rampTest R.Unused (leb m k) (rampOfWords ns k)) rampsMost
-      → i ≡ first (unusedRamp (groupOfWords ns)) rampsMost
-  unused-ramps {m} e f =
-      f ∙ first-same _ _ rampsMost (λ k l. let r = sym (ramp-of-words ns k l) in λ j. leb (e j) k && not (rampBlank (r j)))
+  pub unused-functions : {m i : ℕ} → m ≡ groupOfWords ns .functions → i ≡ first (λ k. functionTest R.Unused (leb m k) (functionOfWords ns k)) functionsMost
+      → i ≡ first (unusedFunction (groupOfWords ns)) functionsMost
+  unused-functions {m} e f =
+      f ∙ first-same _ _ functionsMost (λ k l. let r = sym (function-of-words ns k l) in λ j. leb (e j) k && not (functionBlank (r j)))
 
-  pub bad-ramps : {m i : ℕ} → m ≡ groupOfWords ns .ramps → m ≤ rampsMost → i ≡ first (λ k. rampTest R.Limits (leb m k) (rampOfWords ns k)) m
-      → i ≡ first (badRamp (groupOfWords ns)) (groupOfWords ns .ramps)
-  bad-ramps {m} e h f =
-      f ∙ first-same _ (badRamp (groupOfWords ns)) m (λ k l. ap (λ (r : Ramp). not (rampFits r)) (sym (ramp-of-words ns k (omega arith))))
-      ∙ ap (first (badRamp (groupOfWords ns))) e
+  pub bad-functions : {m i : ℕ} → m ≡ groupOfWords ns .functions → m ≤ functionsMost → i ≡ first (λ k. functionTest R.Limits (leb m k) (functionOfWords ns k)) m
+      → i ≡ first (badFunction (groupOfWords ns)) (groupOfWords ns .functions)
+  bad-functions {m} e h f =
+      f ∙ first-same _ (badFunction (groupOfWords ns)) m (λ k l. ap (λ (r : Function). not (functionFits r)) (sym (function-of-words ns k (omega arith))))
+      ∙ ap (first (badFunction (groupOfWords ns))) e
 
   pub unused-grids : {n i : ℕ} → n ≡ groupOfWords ns .grids → i ≡ first (λ k. leb n k && not (gridBlank (gridOfWords ns k))) gridsMost
       → i ≡ first (unusedGrid (groupOfWords ns)) gridsMost

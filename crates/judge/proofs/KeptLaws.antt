@@ -1,4 +1,4 @@
--- An accepted group of 8 ramps, 64 grids and names of 24 bytes is read back as it was stored.
+-- An accepted group of 8 functions, 64 grids and names of 24 bytes is read back as it was stored.
 use Prim.Native.Nat.{ℕ, _<_}
 use mathlib.Core.Path.{_≡_, refl, sym, ap, subst, _∙_}
 use mathlib.Core.Bool.{Bool, true, false, not, _&&_, _||_}
@@ -10,7 +10,7 @@ use lib.ListN.{length, getD, length-replicate, getD-replicate}
 use Rattle.numbers.specs.First.{every}
 use Rattle.numbers.proofs.Bools.{and-left, and-right, or-cases}
 use Rattle.numbers.proofs.FirstLaws.{every-at}
-use Rattle.group.specs.Numbers.{nameMost, rampsMost, gridsMost}
+use Rattle.group.specs.Numbers.{nameMost, functionsMost, gridsMost}
 use Rattle.group.specs.declared.Name.{Name}
 use Rattle.group.specs.declared.Grid.{Grid}
 use Rattle.group.specs.declared.Group.{Group}
@@ -21,7 +21,7 @@ use Rattle.group.specs.Record.{gridAt}
 use Rattle.group.proofs.BlankLaws.{blank-grid}
 use Rattle.judge.specs.Judge.{unusedGrid, judged}
 use Rattle.judge.proofs.Accepted.{accepted}
-use Rattle.judge.proofs.LimitLaws.{name-good, ni-between, nj-between, rank-between, start-most, quantum-most, parameters-between, ramps-most, grids-between}
+use Rattle.judge.proofs.LimitLaws.{name-good, ni-between, nj-between, rank-between, start-most, quantum-most, parameters-between, functions-most, grids-between}
 use Rattle.abi.specs.Abi.{KeptName, KeptGrid, KeptHead, KeptGroup}
 
 letter : (b : ℕ) → nameByte b ≡ true → b < 127
@@ -89,7 +89,7 @@ head-kept g b h =
       name = fitting-name (g .name) b (head-name g h);
       quantum = omega (arith, quantum-most g h);
       parameters = omega (arith, parameters-between g h);
-      ramps = omega (arith, ramps-most g h);
+      functions = omega (arith, functions-most g h);
       grids = omega (arith, grids-between g h);
     }
 
@@ -104,13 +104,13 @@ grid-kept g k b u f = go (leb (g .grids) k) refl
         (not-false (gridBlank (gridAt g k)) (sym (ap (λ (t : Bool). t && not (gridBlank (gridAt g k))) q) ∙ u))
     go false q = fitting-kept (gridAt g k) b (f (leb-false (g .grids) k q))
 
-pub accepted-kept : (g : Group) → judged g ≡ Accepted → length (g .name .bytes) ≡ nameMost → length (g .ramp) ≡ rampsMost → length (g .grid) ≡ gridsMost
+pub accepted-kept : (g : Group) → judged g ≡ Accepted → length (g .name .bytes) ≡ nameMost → length (g .function) ≡ functionsMost → length (g .grid) ≡ gridsMost
     → ((k : ℕ) → k < gridsMost → length (gridAt g k .name .bytes) ≡ nameMost) → KeptGroup g
 accepted-kept g e b r d n =
     let s = accepted g e in
     record {
       head = head-kept g b (s .head);
-      ramp = r;
+      function = r;
       grid = d;
       kept = λ k l. grid-kept g k (n k l) (s .no-grid k l) (s .grid k);
     }

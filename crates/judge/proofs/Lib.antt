@@ -9,3 +9,4 @@ pub mod TableLaws
 pub mod KeptLaws
 pub mod StoredLaws
 pub mod Order5
+pub mod Order7

@@ -16,7 +16,7 @@ use Rattle.numbers.proofs.OrderLaws.{within-size}
 use Rattle.group.specs.declared.Name.{Name}
 use Rattle.group.specs.declared.Grid.{Grid}
 use Rattle.group.specs.declared.Group.{Group}
-use Rattle.group.specs.Numbers.{lonEdgeMost, latEdgeMost, lonEdgeFits, latEdgeFits, nameMost, quantumMost, parametersMost, rampsMost, gridsMost, nodesLeast, nodesMost, rankMost, startMost}
+use Rattle.group.specs.Numbers.{lonEdgeMost, latEdgeMost, lonEdgeFits, latEdgeFits, nameMost, quantumMost, parametersMost, functionsMost, gridsMost, nodesLeast, nodesMost, rankMost, startMost}
 use Rattle.group.specs.Limits.{nameByte, byteFits, nameFits, spacingFits, originFits, countsFit, gridFits, headNumbersFit, headFits}
 use Rattle.group.proofs.LimitLaws.{spacing-size}
 use Rattle.extent.specs.Extent.{inside}
@@ -159,7 +159,7 @@ name-bytes n e k l =
 
 -- a group line within its limits
 module _ (g : Group) (e : headFits g ≡ true) where
-  numbers-good : headNumbersFit (pos (g .quantum)) (pos (g .parameters)) (pos (g .ramps)) (pos (g .grids)) ≡ true
+  numbers-good : headNumbersFit (pos (g .quantum)) (pos (g .parameters)) (pos (g .functions)) (pos (g .grids)) ≡ true
   unfolding headFits
   numbers-good = and-right (nameFits (g .name)) _ e
 
@@ -170,7 +170,7 @@ module _ (g : Group) (e : headFits g ≡ true) where
   h2 = between (pos 1) (pos parametersMost) (pos (g .parameters))
 
   abbrev h3 : Bool
-  h3 = between (pos 0) (pos rampsMost) (pos (g .ramps))
+  h3 = between (pos 0) (pos functionsMost) (pos (g .functions))
 
   abbrev h4 : Bool
   h4 = between (pos 1) (pos gridsMost) (pos (g .grids))
@@ -181,11 +181,11 @@ module _ (g : Group) (e : headFits g ≡ true) where
   pub parameters-between : (1 ≤ g .parameters) × (g .parameters ≤ parametersMost)
   parameters-between = count-between 1 parametersMost (g .parameters) (two-of-3 h1 h2 h3 (first-three h1 h2 h3 h4 numbers-good))
 
-  pub ramps-most : g .ramps ≤ rampsMost
-  ramps-most = count-between 0 rampsMost (g .ramps) (three-of-3 h1 h2 h3 (first-three h1 h2 h3 h4 numbers-good)) .1
+  pub functions-most : g .functions ≤ functionsMost
+  functions-most = count-between 0 functionsMost (g .functions) (three-of-3 h1 h2 h3 (first-three h1 h2 h3 h4 numbers-good)) .1
 
   pub grids-between : (1 ≤ g .grids) × (g .grids ≤ gridsMost)
   grids-between = count-between 1 gridsMost (g .grids) (four-of-4 h1 h2 h3 h4 numbers-good)
 
   pub head-sized : HeadLimits g
-  head-sized = record { ramps = ramps-most; grids = grids-between .1; parameters = parameters-between .1 }
+  head-sized = record { functions = functions-most; grids = grids-between .1; parameters = parameters-between .1 }

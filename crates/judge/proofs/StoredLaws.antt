@@ -14,27 +14,27 @@ use Rattle.numbers.specs.First.{some, every}
 use Rattle.numbers.specs.Order.{beyond, countOf}
 use Rattle.numbers.proofs.Bools.{and-left, and-right, same-test}
 use Rattle.numbers.proofs.FirstLaws.{none-by, some-same, every-at}
-use Rattle.group.specs.Numbers.{nameMost, rampsMost, gridsMost, nodesMost, rankMost, startMost, quantumMost, parametersMost}
+use Rattle.group.specs.Numbers.{nameMost, functionsMost, gridsMost, nodesMost, rankMost, startMost, quantumMost, parametersMost}
 use Rattle.group.specs.declared.Name.{Name}
 use Rattle.group.specs.declared.Grid.{Grid}
 use Rattle.group.specs.declared.Group.{Group}
 use Rattle.group.specs.declared.Refusal.{Refusal}
 use Rattle.group.specs.declared.Verdict.{Verdict}
 use Rattle.group.specs.declared.Verdict.the-variants.{Accepted, Refused}
-use Rattle.group.specs.Limits.{byteFits, nameFits, nameBlank, rampFits, rampBlank, gridFits, gridBlank, headNumbersFit, headFits}
-use Rattle.group.specs.Record.{rampAt, gridAt}
+use Rattle.group.specs.Limits.{byteFits, nameFits, nameBlank, functionFits, functionBlank, gridFits, gridBlank, headNumbersFit, headFits}
+use Rattle.group.specs.Record.{functionAt, gridAt}
 use Rattle.group.specs.Refusals.{refuseIf, unlessRefused}
 use Rattle.group.proofs.RefusalLaws.{if-same, stage-same}
 use Rattle.group.proofs.BlankLaws.{name-blank}
-use Rattle.judge.specs.Judge.{unusedRamp, unusedGrid, badRamp, badGrid, judgedLines, judgedLimits, judgedGrids, judgedRanks, judged}
-use Rattle.judge.proofs.LimitLaws.{name-good, ni-between, nj-between, rank-between, start-most, quantum-most, parameters-between, ramps-most, grids-between}
+use Rattle.judge.specs.Judge.{unusedFunction, unusedGrid, badFunction, badGrid, judgedLines, judgedLimits, judgedGrids, judgedRanks, judged}
+use Rattle.judge.proofs.LimitLaws.{name-good, ni-between, nj-between, rank-between, start-most, quantum-most, parameters-between, functions-most, grids-between}
 use Rattle.abi.specs.Words.{nameWords, quantumIndex, gridIndex}
 use Rattle.abi.specs.Abi.{numberAt, countAt, byteAt, byteOf, nameOfWords, gridOfWords, groupOfWords, signedMost, stored, wordOf, nameNumber, numbersOf, KeptName, KeptGrid, KeptHead, MachineName, MachineGroup}
 use Rattle.abi.proofs.ListLaws.{getD-listOf}
 use Rattle.abi.proofs.ClearLaws.{blank-words}
 use Rattle.abi.proofs.WordLaws.{word-byte}
-use Rattle.abi.proofs.EntryLaws.{ramp-of-words, grid-of-words}
-use Rattle.abi.proofs.BackLaws.{head-number, grid-number, head-word, grid-word, unit-number-known, ramp-back, grid-back, head-name-back, quantum-back, parameters-back, ramps-back, grids-back, group-back}
+use Rattle.abi.proofs.EntryLaws.{function-of-words, grid-of-words}
+use Rattle.abi.proofs.BackLaws.{head-number, grid-number, head-word, grid-word, unit-number-known, function-back, grid-back, head-name-back, quantum-back, parameters-back, functions-back, grids-back, group-back}
 use Rattle.judge.proofs.KeptLaws.{plain-byte, head-name, fitting-kept, blank-kept, head-kept, grid-kept, accepted-kept}
 
 -- ---- numbers that were cut
@@ -157,8 +157,8 @@ module _ (g : Group) (h : MachineGroup g) where
   blank-same : (k : ℕ) → k < gridsMost → gridBlank (gridAt again k) ≡ gridBlank (gridAt g k)
   blank-same = grid-same gridBlank blank-uncut blank-kept
 
-  ramp-same : (k : ℕ) → k < rampsMost → rampAt again k ≡ rampAt g k
-  ramp-same k l = ramp-of-words ns k l ∙ ramp-back g k l
+  function-same : (k : ℕ) → k < functionsMost → functionAt again k ≡ functionAt g k
+  function-same k l = function-of-words ns k l ∙ function-back g k l
 
   -- the group line
   head-uncut : headFits again ≡ true → KeptHead g
@@ -169,7 +169,7 @@ module _ (g : Group) (h : MachineGroup g) where
         name = fitting-kept-name ns 0 (g .name) _ (h .name) (head-word g) (head-number g 3 (omega arith)) (head-name again e);
         quantum = uncut _ (g .quantum) quantumMost (head-number g 5 (omega arith)) (subst (λ (t : Bool). cond t (countAt ns quantumIndex) beyond ≤ quantumMost) (unit-number-known g) q) (omega arith);
         parameters = uncut _ (g .parameters) parametersMost (head-number g 6 (omega arith)) (parameters-between again e .1) (omega arith);
-        ramps = uncut _ (g .ramps) rampsMost (head-number g 7 (omega arith)) (ramps-most again e) (omega arith);
+        functions = uncut _ (g .functions) functionsMost (head-number g 7 (omega arith)) (functions-most again e) (omega arith);
         grids = uncut _ (g .grids) gridsMost (head-number g 8 (omega arith)) (grids-between again e .1) (omega arith);
       }
 
@@ -179,7 +179,7 @@ module _ (g : Group) (h : MachineGroup g) where
       let n = head-name-back g k in
       let q = quantum-back g k in
       let p = parameters-back g k in
-      let r = ramps-back g k in
+      let r = functions-back g k in
       let c = grids-back g k in
       λ i. nameFits (n i) && headNumbersFit (pos (q i)) (pos (p i)) (pos (r i)) (pos (c i))
 
@@ -194,14 +194,14 @@ module _ (g : Group) (h : MachineGroup g) where
     abbrev kept : KeptHead g
     kept = head-kept g (h .name .bytes) head
 
-    no-ramp-same : (k : ℕ) → k < rampsMost → unusedRamp again k ≡ unusedRamp g k
-    no-ramp-same k l = λ i. leb (ramps-back g kept i) k && not (rampBlank (ramp-same k l i))
+    no-function-same : (k : ℕ) → k < functionsMost → unusedFunction again k ≡ unusedFunction g k
+    no-function-same k l = λ i. leb (functions-back g kept i) k && not (functionBlank (function-same k l i))
 
     no-grid-same : (k : ℕ) → k < gridsMost → unusedGrid again k ≡ unusedGrid g k
     no-grid-same k l = λ i. leb (grids-back g kept i) k && not (blank-same k l i)
 
-    bad-ramp-same : (k : ℕ) → k < g .ramps → badRamp again k ≡ badRamp g k
-    bad-ramp-same k l = let m = ramps-most g head in λ i. not (rampFits (ramp-same k (omega arith) i))
+    bad-function-same : (k : ℕ) → k < g .functions → badFunction again k ≡ badFunction g k
+    bad-function-same k l = let m = functions-most g head in λ i. not (functionFits (function-same k (omega arith) i))
 
     bad-grid-same : (k : ℕ) → k < g .grids → badGrid again k ≡ badGrid g k
     bad-grid-same k l = let m = grids-between g head in λ i. not (fits-same k (omega arith) i)
@@ -210,7 +210,7 @@ module _ (g : Group) (h : MachineGroup g) where
     all-kept u f =
         group-back g (record {
           head = kept;
-          ramp = h .ramp;
+          function = h .function;
           grid = h .grid;
           kept = λ k l.
               grid-kept g k (h .names k l .bytes) (none-by (unusedGrid g) gridsMost k u l)
@@ -221,17 +221,17 @@ module _ (g : Group) (h : MachineGroup g) where
         → judgedLines again (judgedGrids again (judgedRanks again Accepted)) ≡ judgedLines g (judgedGrids g (judgedRanks g Accepted))
     unfolding judgedLines
     lines-same u =
-        stage-same Refused (badRamp again) (badRamp g) (again .ramps) (g .ramps) 2 2 2 _ _ (ramps-back g kept) refl bad-ramp-same
+        stage-same Refused (badFunction again) (badFunction g) (again .functions) (g .functions) 2 2 2 _ _ (functions-back g kept) refl bad-function-same
         (λ a.
-        stage-same Refused (badGrid again) (badGrid g) (again .grids) (g .grids) 2 (again .ramps + 2) (g .ramps + 2) _ _ (grids-back g kept) (ap (λ (n : ℕ). n + 2) (ramps-back g kept)) bad-grid-same
+        stage-same Refused (badGrid again) (badGrid g) (again .grids) (g .grids) 2 (again .functions + 2) (g .functions + 2) _ _ (grids-back g kept) (ap (λ (n : ℕ). n + 2) (functions-back g kept)) bad-grid-same
         (λ f. ap (λ (x : Group). judgedGrids x (judgedRanks x Accepted)) (all-kept u f)))
 
-    unused-same : refuseIf Refused (some (unusedRamp again) rampsMost) 2 1
+    unused-same : refuseIf Refused (some (unusedFunction again) functionsMost) 2 1
         (refuseIf Refused (some (unusedGrid again) gridsMost) 2 1 (judgedLines again (judgedGrids again (judgedRanks again Accepted))))
-        ≡ refuseIf Refused (some (unusedRamp g) rampsMost) 2 1
+        ≡ refuseIf Refused (some (unusedFunction g) functionsMost) 2 1
         (refuseIf Refused (some (unusedGrid g) gridsMost) 2 1 (judgedLines g (judgedGrids g (judgedRanks g Accepted))))
     unused-same =
-        if-same Refused _ _ 2 1 _ _ (some-same (unusedRamp again) (unusedRamp g) rampsMost no-ramp-same)
+        if-same Refused _ _ 2 1 _ _ (some-same (unusedFunction again) (unusedFunction g) functionsMost no-function-same)
         (λ a. if-same Refused _ _ 2 1 _ _ (some-same (unusedGrid again) (unusedGrid g) gridsMost no-grid-same) lines-same)
 
   pub stored-judged : judged again ≡ judged g
@@ -239,7 +239,7 @@ module _ (g : Group) (h : MachineGroup g) where
   stored-judged = if-same Refused _ _ 2 1 _ _ (ap not head-same) (λ a. unused-same (not-false (headFits g) a))
 
   pub stored-back : judged g ≡ Accepted → again ≡ g
-  stored-back e = group-back g (accepted-kept g e (h .name .bytes) (h .ramp) (h .grid) (λ k l. h .names k l .bytes))
+  stored-back e = group-back g (accepted-kept g e (h .name .bytes) (h .function) (h .grid) (λ k l. h .names k l .bytes))
 
   -- so is every call that judges first
   pub stored-told : {A : Type 0} (refused : Refusal → A) (next : Group → A) → unlessRefused refused (judged again) (next again) ≡ unlessRefused refused (judged g) (next g)

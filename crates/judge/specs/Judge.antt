@@ -10,22 +10,22 @@ use Rattle.group.specs.declared.Grid.{Grid}
 use Rattle.group.specs.declared.Group.{Group}
 use Rattle.group.specs.declared.Verdict.{Verdict}
 use Rattle.group.specs.declared.Verdict.the-variants.{Accepted, Refused}
-use Rattle.group.specs.Record.{rampAt, gridAt}
+use Rattle.group.specs.Record.{functionAt, gridAt}
 use Rattle.group.specs.Refusals.{refuseIf, refuseFirst}
-use Rattle.group.specs.Numbers.{nameMost, rampsMost, gridsMost}
-use Rattle.group.specs.Limits.{rampFits, rampBlank, gridFits, gridBlank, headFits}
+use Rattle.group.specs.Numbers.{nameMost, functionsMost, gridsMost}
+use Rattle.group.specs.Limits.{functionFits, functionBlank, gridFits, gridBlank, headFits}
 use Rattle.extent.specs.Extent.{meet, inside}
 
--- 2: an entry behind its count is not all zero
-abbrev pub unusedRamp : Group → ℕ → Bool
-unusedRamp g k = leb (g .ramps) k && not (rampBlank (rampAt g k))
+-- 2: an entry behind its count is not an unused one: a ramp of zeros, or a grid of zeros without a name
+abbrev pub unusedFunction : Group → ℕ → Bool
+unusedFunction g k = leb (g .functions) k && not (functionBlank (functionAt g k))
 
 abbrev pub unusedGrid : Group → ℕ → Bool
 unusedGrid g k = leb (g .grids) k && not (gridBlank (gridAt g k))
 
--- 2: a number of a ramp or grid line is outside its limit, A is above B, or the name is malformed
-abbrev pub badRamp : Group → ℕ → Bool
-badRamp g k = not (rampFits (rampAt g k))
+-- 2: a number of a function or grid line is outside its limit, A is above B, START is not below END, or the name is malformed
+abbrev pub badFunction : Group → ℕ → Bool
+badFunction g k = not (functionFits (functionAt g k))
 
 abbrev pub badGrid : Group → ℕ → Bool
 badGrid g k = not (gridFits (gridAt g k))
@@ -51,18 +51,18 @@ sameRank f g = eqb (f .rank) (g .rank) && meet f g
 abbrev pub rankedEarlier : Group → ℕ → Bool
 rankedEarlier g k = some (λ j. sameRank (gridAt g j) (gridAt g k)) k
 
--- 2 of the ramp and grid lines: places are lines; the first ramp's is 2
+-- 2 of the function and grid lines: places are lines; the first function's is 2
 unfoldable pub judgedLines : Group → Verdict → Verdict
 judgedLines g next =
-    refuseFirst Refused (badRamp g) (g .ramps) 2 2
-    (refuseFirst Refused (badGrid g) (g .grids) 2 (g .ramps + 2)
+    refuseFirst Refused (badFunction g) (g .functions) 2 2
+    (refuseFirst Refused (badGrid g) (g .grids) 2 (g .functions + 2)
     next)
 
 -- 2: at line 1 the group line and every entry behind its count, then the lines behind it
 unfoldable pub judgedLimits : Group → Verdict → Verdict
 judgedLimits g next =
     refuseIf Refused (not (headFits g)) 2 1
-    (refuseIf Refused (some (unusedRamp g) rampsMost) 2 1
+    (refuseIf Refused (some (unusedFunction g) functionsMost) 2 1
     (refuseIf Refused (some (unusedGrid g) gridsMost) 2 1
     (judgedLines g next)))
 
@@ -84,9 +84,9 @@ judged g = judgedLimits g (judgedGrids g (judgedRanks g Accepted))
 -- what an accepted group is known to be
 pub record Sound (g : Group) : Type 0 where
   pub head : headFits g ≡ true
-  pub ramp : (k : ℕ) → k < g .ramps → rampFits (rampAt g k) ≡ true
+  pub function : (k : ℕ) → k < g .functions → functionFits (functionAt g k) ≡ true
   pub grid : (k : ℕ) → k < g .grids → gridFits (gridAt g k) ≡ true
-  pub no-ramp : (k : ℕ) → k < rampsMost → unusedRamp g k ≡ false
+  pub no-function : (k : ℕ) → k < functionsMost → unusedFunction g k ≡ false
   pub no-grid : (k : ℕ) → k < gridsMost → unusedGrid g k ≡ false
   pub edges : (k : ℕ) → k < g .grids → inside (g .parameters) (gridAt g k) ≡ true
   pub names : (i k : ℕ) → i < g .grids → k < i → sameName (gridAt g k .name) (gridAt g i .name) ≡ false

@@ -3,3 +3,4 @@ pub mod Judge
 pub mod Keys
 pub mod Rules
 pub mod Order5
+pub mod Order7

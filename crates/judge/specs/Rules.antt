@@ -1,29 +1,29 @@
--- The tests of ramp entries that one loop serves, by their rule; what the pass over the grids may rely on, and what it finds and leaves.
+-- The tests of function entries that one loop serves, by their rule; what the pass over the grids may rely on, and what it finds and leaves.
 use Prim.Native.Nat.{ℕ, _*_, _<_, _≤_}
 use mathlib.Core.Path.{_≡_}
 use mathlib.Core.Bool.{Bool, true, not, _&&_}
 use mathlib.Core.List.{List}
 use lib.ListN.{length}
 use Rattle.numbers.specs.First.{first}
-use Rattle.group.specs.declared.Ramp.{Ramp}
+use Rattle.group.specs.declared.Function.{Function}
 use Rattle.group.specs.declared.Group.{Group}
 use Rattle.group.specs.declared.Verdict.{Verdict}
 use Rattle.group.specs.declared.Verdict.the-variants.{Accepted, Refused}
 use Rattle.group.specs.Record.{gridAt}
 use Rattle.group.specs.Refusals.{refuseFirst}
-use Rattle.group.specs.Numbers.{parametersMost, rampsMost, gridsMost}
-use Rattle.group.specs.Limits.{rampFits, rampBlank, gridFits}
+use Rattle.group.specs.Numbers.{parametersMost, functionsMost, gridsMost}
+use Rattle.group.specs.Limits.{functionFits, functionBlank, gridFits}
 use Rattle.extent.specs.Extent.{inside}
 use Rattle.flat.specs.Lists.{Flat}
-use Rattle.judge.specs.declared.RampRule.{RampRule}
-use Rattle.judge.specs.declared.RampRule.the-variants as R
+use Rattle.judge.specs.declared.FunctionRule.{FunctionRule}
+use Rattle.judge.specs.declared.FunctionRule.the-variants as R
 use Rattle.judge.specs.Judge.{badGrid, judgedGrids, judgedRanks}
 use Rattle.judge.specs.Keys.{nameKeys, KeysListed}
 
--- one ramp, behind the count or not
-abbrev pub rampTest : RampRule → Bool → Ramp → Bool
-rampTest R.Unused behind r = behind && not (rampBlank r)
-rampTest R.Limits behind r = not (rampFits r)
+-- one function, behind the count or not
+abbrev pub functionTest : FunctionRule → Bool → Function → Bool
+functionTest R.Unused behind f = behind && not (functionBlank f)
+functionTest R.Limits behind f = not (functionFits f)
 
 -- 2 of the grid lines, of which the first is line `from`, then 3 to 5
 unfoldable pub judgedFrom : ℕ → Group → Verdict
@@ -31,7 +31,7 @@ judgedFrom from g = refuseFirst Refused (badGrid g) (g .grids) 2 from (judgedGri
 
 -- what a group line within its limits says of the loops behind it
 pub record HeadLimits (g : Group) : Type 0 where
-  pub ramps : g .ramps ≤ rampsMost
+  pub functions : g .functions ≤ functionsMost
   pub grids : g .grids ≤ gridsMost
   pub parameters : g .parameters ≤ parametersMost
 

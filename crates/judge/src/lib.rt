@@ -5,41 +5,41 @@ ghost use Prim.Native.Nat.{ℕ, _+_, _-_, _*_, _<_, _≤_};
 ghost use lib.Dec.{leb, eqb};
 ghost use lib.ListN.{length, set};
 ghost use Rattle.numbers.specs.First.{first, some};
-ghost use Rattle.group.specs.Numbers.{parametersMost, rampsMost, gridsMost};
+ghost use Rattle.group.specs.Numbers.{parametersMost, functionsMost, gridsMost};
 ghost use Rattle.group.specs.Limits.{gridFits, gridBlank, headFits};
-ghost use Rattle.abi.specs.Abi.{rampOfWords, gridOfWords, groupOfWords};
+ghost use Rattle.abi.specs.Abi.{functionOfWords, gridOfWords, groupOfWords};
 ghost use Rattle.extent.specs.Extent.{inside};
 ghost use Rattle.extent.specs.Sides.{ahead};
 ghost use Rattle.flat.specs.Lists.{FlatRoom, Flattened};
 ghost use Rattle.judge.specs.Judge.{badGrid, judged};
-ghost use Rattle.judge.specs.Rules.{rampTest, HeadLimits, judgedFrom, KeyRoom, Scanned, Left};
+ghost use Rattle.judge.specs.Rules.{functionTest, HeadLimits, judgedFrom, KeyRoom, Scanned, Left};
 ghost use Rattle.judge.specs.Keys.{wordAt, nameKeys, putFour, agree, someReaches, rankRule, clash};
 use abi::GROUP_WORDS;
 use flat::LON_FIRST;
 use flat::LON_LAST;
+use group::Function;
 use group::Grid;
 use group::Group;
 use group::LON_TURN;
 use group::Name;
-use group::Ramp;
 use group::Refusal;
 use group::Verdict;
+use group::function_blank;
+use group::function_fits;
 use group::grid_fits;
 use group::head_numbers_fit;
 use group::name_fits;
-use group::ramp_blank;
-use group::ramp_fits;
 
 // The entries of a record, used or not.
-const RAMPS: u64 = group::RAMPS_MOST as u64;
+const FUNCTIONS: u64 = group::FUNCTIONS_MOST as u64;
 
 const GRIDS: u64 = group::GRIDS_MOST as u64;
 
 // Four numbers of each, by which grids are compared.
 const FOURS: usize = group::GRIDS_MOST * 4;
 
-// What a ramp entry can break.
-enum RampRule {
+// What a function entry can break.
+enum FunctionRule {
     Unused,
     Limits,
 }
@@ -68,29 +68,35 @@ struct Scan {
     edge: u64,
 }
 
-// Whether a ramp breaks a rule.
-fn ramp_breaks(rule: RampRule, r: Ramp, behind: bool) -> bool
-    ensures { λ t. ⌜ t ≡ rampTest rule behind r ⌝ }
+// Whether a function breaks a rule.
+fn function_breaks(rule: FunctionRule, r: Function, behind: bool) -> bool
+    ensures { λ t. ⌜ t ≡ functionTest rule behind r ⌝ }
 {
     match rule {
-        RampRule::Unused => {
-            let blank = ramp_blank(r);
+        FunctionRule::Unused => {
+            let blank = function_blank(r);
             behind & !blank
         }
-        RampRule::Limits => !ramp_fits(r),
+        FunctionRule::Limits => !function_fits(r),
     }
 }
 
-// The first of n ramp entries that breaks a rule, n if none does; those before one are known to keep it.
-fn first_ramp(rule: RampRule, words: &[i64; GROUP_WORDS], used: u64, from: u64, n: u64) -> u64
-    requires { ⌜ (from ≤ n) × (n ≤ rampsMost) × ((k : ℕ) → k < from → rampTest rule (leb used k) (rampOfWords (now words) k) ≡ false) ⌝ }
-    ensures { λ r. ⌜ r ≡ first (λ k. rampTest rule (leb used k) (rampOfWords (now (words .entry)) k)) n ⌝ }
+// The first of n function entries that breaks a rule, n if none does; those before one are known to keep it.
+fn first_function(
+    rule: FunctionRule,
+    words: &[i64; GROUP_WORDS],
+    used: u64,
+    from: u64,
+    n: u64,
+) -> u64
+    requires { ⌜ (from ≤ n) × (n ≤ functionsMost) × ((k : ℕ) → k < from → functionTest rule (leb used k) (functionOfWords (now words) k) ≡ false) ⌝ }
+    ensures { λ r. ⌜ r ≡ first (λ k. functionTest rule (leb used k) (functionOfWords (now (words .entry)) k)) n ⌝ }
 {
     let mut i: u64 = from;
     while i < n {
         let at = i as usize;
-        let r = abi::ramp_of_words(words, at);
-        if ramp_breaks(rule, r, used <= i) {
+        let r = abi::function_of_words(words, at);
+        if function_breaks(rule, r, used <= i) {
             return i;
         }
         i += 1;
@@ -353,7 +359,7 @@ fn judge_grids(
     ranks: &mut [u64],
     frames: &mut [u64],
 ) -> Verdict
-    requires { ⌜ HeadLimits (groupOfWords (now words)) × (from ≤ rampsMost + 2) × FlatRoom (now sides) (now ranks) (now frames) gridsMost ⌝ }
+    requires { ⌜ HeadLimits (groupOfWords (now words)) × (from ≤ functionsMost + 2) × FlatRoom (now sides) (now ranks) (now frames) gridsMost ⌝ }
     ensures { λ r. ⌜ (r ≡ judgedFrom from (groupOfWords (now (words .entry))))
         × Left r (groupOfWords (now (words .entry))) (now (sides .exit)) (now (ranks .exit)) (now (frames .exit)) ⌝ }
 {
@@ -399,7 +405,7 @@ fn head_fits(words: &[i64; GROUP_WORDS]) -> bool
     let numbers = head_numbers_fit(
         abi::quantum_of(words),
         abi::parameter_count(words),
-        abi::ramp_count(words),
+        abi::function_count(words),
         abi::grid_count(words),
     );
     name & numbers
@@ -423,8 +429,8 @@ pub fn judge_into(
             place: 1,
         });
     }
-    let m = abi::ramp_count(words);
-    if first_ramp(RampRule::Unused, words, m, m, RAMPS) < RAMPS {
+    let m = abi::function_count(words);
+    if first_function(FunctionRule::Unused, words, m, m, FUNCTIONS) < FUNCTIONS {
         return Verdict::Refused(Refusal {
             number: 2,
             place: 1,
@@ -436,11 +442,11 @@ pub fn judge_into(
             place: 1,
         });
     }
-    let ramp = first_ramp(RampRule::Limits, words, m, 0, m);
-    if ramp < m {
+    let function = first_function(FunctionRule::Limits, words, m, 0, m);
+    if function < m {
         return Verdict::Refused(Refusal {
             number: 2,
-            place: ramp + 2,
+            place: function + 2,
         });
     }
     judge_grids(words, m + 2, sides, ranks, frames)

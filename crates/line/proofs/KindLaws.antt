@@ -1,4 +1,4 @@
--- The three kinds of line are written and read again, as far as their numbers are within their limits, and read and written again.
+-- The lines are written and read again, as far as their numbers are within their limits, and read and written again.
 use Prim.Native.Nat.{ℕ, _<_}
 use mathlib.Core.Path.{_≡_, refl, sym, ap, _∙_}
 use mathlib.Core.Bool.{Bool, true, cond, _&&_}
@@ -11,52 +11,105 @@ use borrow.Author.Tests.{ne-eqb}
 use Rattle.numbers.proofs.Bools.{and-left, and-right}
 use Rattle.text.specs.Decimal.{intText}
 use Rattle.text.proofs.PartLaws.{Free}
+use Rattle.text.proofs.FieldLaws.{ints-free}
 use Rattle.group.specs.Numbers.{nameMost}
-use Rattle.group.specs.Limits.{nameFits, originFits, countsFit, rampFits, gridFits}
+use Rattle.group.specs.Limits.{nameFits, originFits, countsFit, shapeFits, functionFits, gridFits}
+use Rattle.group.specs.Shapes.{shapeInts, rampOf, stepOf, ramp2Of}
 use Rattle.group.specs.declared.Name.{Name}
 use Rattle.group.specs.declared.Unit as U
-use Rattle.group.specs.declared.Ramp.{Ramp}
+use Rattle.group.specs.declared.Shape.{Shape}
+use Rattle.group.specs.declared.Shape.the-variants as S
+use Rattle.group.specs.declared.Function.{Function}
 use Rattle.group.specs.declared.Grid.{Grid}
 use Rattle.line.specs.declared.Head.{Head}
 use Rattle.line.specs.Names.{nameText, readName, unitText, readUnit}
 use Rattle.group.specs.Refusals.{refusal}
 use Rattle.line.specs.Line.{good, bad}
-use Rattle.line.specs.Lines.{fields, groupKeyword, headTexts, paired, headFit, headOf, headInts, headLine, headText, rampKeyword, rampTexts, rampFit, rampOf, rampInts, rampLine, rampText, gridKeyword, gridTexts, gridFit, gridOf, gridInts, gridLine, gridText}
-use Rattle.line.proofs.LineLaws.{four-of, eight-of, WellFormed, fielded-free, fields-back, fields-same, limited, Kind, Body, body-kind}
+use Rattle.line.specs.Lines.{fields, groupKeyword, headTexts, paired, headFit, headOf, headInts, headLine, headText, gridKeyword, gridTexts, gridFit, gridOf, gridInts, gridLine, gridText}
+use Rattle.line.specs.Lines.{rampKeyword, stepKeyword, ramp2Keyword, noTexts, ofShape, shapeFit, shapeFields, functionFields, functionLine, shapeKeyword, functionText}
+use Rattle.line.proofs.LineLaws.{three-of, four-of, eight-of, WellFormed, fielded-free, fields-good, fields-back, fields-same, limited, Kind, Body, Parted, keyed-same, none-same, parted-kind, body-kind}
 use Rattle.line.proofs.NameLaws.{fits-isName, readName-text, name-read, name-free, readUnit-text, unit-read, unit-free}
 use Rattle.line.proofs.LimitLaws.{head-sizes, counts-sizes}
 
--- ---- ramps
+-- ---- functions
 
-ramp-free : (c : ℕ) → c < 45 → Free c rampKeyword
-ramp-free c l = (ne-eqb 114 c (omega arith), (ne-eqb 97 c (omega arith), (ne-eqb 109 c (omega arith), (ne-eqb 112 c (omega arith), tt))))
+-- a kind of function: the shape that numbers make has its keyword and these numbers
+pub record ShapeKind (word : List ℕ) (numbers : ℕ) (make : List ℤ → Shape) : Type 0 where
+  pub keyword : (zs : List ℤ) → shapeKeyword (make zs) ≡ word
+  pub ints : (zs : List ℤ) → length zs ≡ numbers → shapeInts (make zs) ≡ zs
+
+pub ramp-shape : ShapeKind rampKeyword 4 rampOf
+ramp-shape = record { keyword = λ zs. refl; ints = four-of (λ zs. shapeInts (rampOf zs) ≡ zs) (λ a b c d. refl) }
+
+pub step-shape : ShapeKind stepKeyword 3 stepOf
+step-shape = record { keyword = λ zs. refl; ints = three-of (λ zs. shapeInts (stepOf zs) ≡ zs) (λ a b c. refl) }
+
+pub ramp2-shape : ShapeKind ramp2Keyword 4 ramp2Of
+ramp2-shape = record { keyword = λ zs. refl; ints = four-of (λ zs. shapeInts (ramp2Of zs) ≡ zs) (λ a b c d. refl) }
 
 no-texts : Unit {0} → List (List ℕ)
 no-texts t = []
 
-no-part : Ramp → Unit {0}
-no-part r = tt
+no-part : Function → Unit {0}
+no-part f = tt
 
--- every ramp is well formed
-abbrev pub RampFormed : ℕ → Ramp → Type 0
-RampFormed n r = Unit {0}
+abbrev functionInts : Function → List ℤ
+functionInts f = shapeInts (f .shape)
 
-ramp-formed : (r : Ramp) → WellFormed 0 4 rampTexts rampFit rampOf no-texts no-part rampInts r
+abbrev functionParts : Function → List (List ℕ)
+functionParts f = shapeKeyword (f .shape) ∷ map intText (functionInts f)
+
+-- read, and written again
+module _ {word : List ℕ} {numbers : ℕ} {make : List ℤ → Shape} (k : ShapeKind word numbers make) where
+  function-same : (n : ℕ) (f : Function) (fs : List (List ℕ)) → shapeFields numbers make n fs ≡ good f → functionParts f ≡ word ∷ fs
+  unfolding no-texts no-part
+  function-same n f fs e =
+      let g = fields-good 0 numbers noTexts (shapeFit make) (ofShape make) (refusal 1 n) (refusal 2 n) fs f e in
+      let w : shapeKeyword (f .shape) ≡ word = ap (λ (h : Function). shapeKeyword (h .shape)) (sym (g .whole)) ∙ k .keyword (g .zs) in
+      let s = fields-same 0 numbers noTexts (shapeFit make) (ofShape make) no-texts no-part functionInts (refusal 1 n) (refusal 2 n) (λ gs b l r. refl) (λ b zs. refl) (λ b zs l t. k .ints zs l) fs f e in
+      λ i. w i ∷ s i
+
+-- written, and read again
+function-back : (n numbers : ℕ) (make : List ℤ → Shape) (s : Shape) → length (shapeInts s) ≡ numbers → make (shapeInts s) ≡ s
+    → shapeFields numbers make n (map intText (shapeInts s)) ≡ limited functionFits (refusal 2) n (record { shape = s })
 unfolding no-texts no-part
-ramp-formed r = record { lead-free = λ c l. tt; lead-count = refl; lead-back = refl; ints-count = refl; whole = refl }
+function-back n numbers make s l e =
+    fields-back 0 numbers noTexts (shapeFit make) (ofShape make) no-texts no-part functionInts (refusal 1 n) (refusal 2 n) (record { shape = s })
+    (record { lead-free = λ c l. tt; lead-count = refl; lead-back = refl; ints-count = l; whole = (λ i. record { shape = e i }) })
+    ∙ ap (λ (t : Shape). cond (shapeFits t) (good (record { shape = s })) (bad (refusal 2 n))) e
 
-pub ramp-body : Body (λ n. fields 0 4 rampTexts rampFit rampOf (refusal 1 n) (refusal 2 n)) rampKeyword (λ r. map intText (rampInts r)) RampFormed (limited rampFits (refusal 2))
-unfolding no-texts no-part
-ramp-body =
+-- every function is well formed
+abbrev pub FunctionFormed : ℕ → Function → Type 0
+FunctionFormed n f = Unit {0}
+
+function-parts : Parted functionFields functionParts FunctionFormed (limited functionFits (refusal 2))
+function-parts =
     record {
-      word-free = ramp-free;
-      free = λ c l n a e. fielded-free 0 4 rampTexts rampFit rampOf no-texts no-part rampInts c l a (ramp-formed a);
-      back = λ n a e. fields-back 0 4 rampTexts rampFit rampOf no-texts no-part rampInts (refusal 1 n) (refusal 2 n) a (ramp-formed a);
-      same = λ n. fields-same 0 4 rampTexts rampFit rampOf no-texts no-part rampInts (refusal 1 n) (refusal 2 n) (λ fs b l r. refl) (λ b zs. refl) (λ b zs l e. four-of (λ ys. rampInts (rampOf b ys) ≡ ys) (λ p q r s. refl) zs l);
+      some-part = λ n f e. omega arith;
+      free = λ c l n f e. (free c l (f .shape), ints-free c (functionInts f) l);
+      back = λ n f e. back n (f .shape);
+      same = same;
     }
+  where
+    free : (c : ℕ) → c < 45 → (s : Shape) → Free c (shapeKeyword s)
+    free c l (S.Ramp r) = (ne-eqb 114 c (omega arith), (ne-eqb 97 c (omega arith), (ne-eqb 109 c (omega arith), (ne-eqb 112 c (omega arith), tt))))
+    free c l (S.Step s) = (ne-eqb 115 c (omega arith), (ne-eqb 116 c (omega arith), (ne-eqb 101 c (omega arith), (ne-eqb 112 c (omega arith), tt))))
+    free c l (S.Ramp2 r) = (ne-eqb 114 c (omega arith), (ne-eqb 97 c (omega arith), (ne-eqb 109 c (omega arith), (ne-eqb 112 c (omega arith), (ne-eqb 50 c (omega arith), tt)))))
 
-pub ramp-kind : Kind rampLine rampText RampFormed (limited rampFits (refusal 2))
-ramp-kind = body-kind (limited rampFits (refusal 2)) (λ n. fields 0 4 rampTexts rampFit rampOf (refusal 1 n) (refusal 2 n)) rampKeyword (λ r. map intText (rampInts r)) RampFormed ramp-body (refusal 1)
+    back : (n : ℕ) (s : Shape) → functionFields n (shapeKeyword s ∷ map intText (shapeInts s)) ≡ limited functionFits (refusal 2) n (record { shape = s })
+    back n (S.Ramp r) = function-back n 4 rampOf (S.Ramp r) refl refl
+    back n (S.Step s) = function-back n 3 stepOf (S.Step s) refl refl
+    back n (S.Ramp2 r) = function-back n 4 ramp2Of (S.Ramp2 r) refl refl
+
+    same : (n : ℕ) (ps : List (List ℕ)) (f : Function) → functionFields n ps ≡ good f → functionParts f ≡ ps
+    same n ps f =
+        keyed-same f (functionParts f) rampKeyword (shapeFields 4 rampOf n) _ (function-same ramp-shape n f)
+        (keyed-same f (functionParts f) stepKeyword (shapeFields 3 stepOf n) _ (function-same step-shape n f)
+        (keyed-same f (functionParts f) ramp2Keyword (shapeFields 4 ramp2Of n) _ (function-same ramp2-shape n f)
+        (none-same f (functionParts f) (refusal 1 n)))) ps
+
+pub function-kind : Kind functionLine functionText FunctionFormed (limited functionFits (refusal 2))
+function-kind = parted-kind (limited functionFits (refusal 2)) functionFields functionParts FunctionFormed function-parts
 
 -- ---- grids
 

@@ -2,6 +2,7 @@
 pub mod LineLaws
 pub mod NameLaws
 pub mod LimitLaws
-pub mod ReadLaws
 pub mod KindLaws
+pub mod NumberLaws
+pub mod ReadLaws
 pub mod RoomLaws

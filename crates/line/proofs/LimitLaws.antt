@@ -7,18 +7,21 @@ use native.Mathlib.Omega.{arith}
 use lib.Dec.{leb}
 use lib.ListN.{length}
 use lib.IntN.{ℤ, pos, negsuc, natAbs}
-use lib.Signed.{leZ}
+use lib.Signed.{leZ, ltZ}
 use borrow.Author.Tests.{leb-true, lt-leb}
 use Rattle.numbers.specs.Order.{between, beyond, countOf}
 use Rattle.numbers.proofs.Bools.{and-right, and-parts}
 use Rattle.numbers.proofs.OrderLaws.{within-size}
 use Rattle.text.proofs.FieldLaws.{false-not-true}
-use Rattle.group.specs.Numbers.{lonEdgeMost, latEdgeMost, lonEdgeFits, latEdgeFits, quantumMost, parametersMost, rampsMost, gridsMost, spacingMost, nodesLeast, nodesMost, rankMost, startMost, dayMost, dayFits, rampFactorMost, rampFactorFits}
+use Rattle.group.specs.Numbers.{lonEdgeMost, latEdgeMost, lonEdgeFits, latEdgeFits, quantumMost, parametersMost, functionsMost, gridsMost, spacingMost, nodesLeast, nodesMost, rankMost, startMost, dayMost, dayFits, functionFactorMost, functionFactorFits}
 use Rattle.group.proofs.LimitLaws.{spacing-size}
-use Rattle.group.specs.Limits.{spacingFits, headNumbersFit, rampNumbersFit, originFits, countsFit, nameFits, gridFits}
+use Rattle.group.specs.Limits.{spacingFits, headNumbersFit, rampNumbersFit, stepNumbersFit, ramp2NumbersFit, originFits, countsFit, nameFits, shapeFits, gridFits}
+use Rattle.group.specs.Shapes.{shapeInts}
 use Rattle.group.specs.declared.Name.{Name}
 use Rattle.group.specs.declared.Unit as U
-use Rattle.line.specs.Lines.{headFit, headOf, rampFit, gridFit, gridOf}
+use Rattle.group.specs.declared.Shape.{Shape}
+use Rattle.group.specs.declared.Shape.the-variants as S
+use Rattle.line.specs.Lines.{headFit, headOf, gridFit, gridOf}
 use Rattle.line.specs.Counted.{countedHead, countedGrid}
 use Rattle.line.proofs.LineLaws.{Small, four-of, eight-of}
 
@@ -28,20 +31,28 @@ count-in lo hi (pos n) e = (leb-true n hi (and-right (leb lo n) (leb n hi) e), r
 count-in lo hi (negsuc n) e = false-not-true e
 
 module _ (a b c d : ℤ) where
-  pub head-sizes : headNumbersFit a b c d ≡ true → ((natAbs a ≤ quantumMost) × (pos (natAbs a) ≡ a)) × ((natAbs b ≤ parametersMost) × (pos (natAbs b) ≡ b)) × ((natAbs c ≤ rampsMost) × (pos (natAbs c) ≡ c)) × ((natAbs d ≤ gridsMost) × (pos (natAbs d) ≡ d))
+  pub head-sizes : headNumbersFit a b c d ≡ true → ((natAbs a ≤ quantumMost) × (pos (natAbs a) ≡ a)) × ((natAbs b ≤ parametersMost) × (pos (natAbs b) ≡ b)) × ((natAbs c ≤ functionsMost) × (pos (natAbs c) ≡ c)) × ((natAbs d ≤ gridsMost) × (pos (natAbs d) ≡ d))
   head-sizes e =
-      let p = and-parts (between (pos 0) (pos quantumMost) a && between (pos 1) (pos parametersMost) b && between (pos 0) (pos rampsMost) c) (between (pos 1) (pos gridsMost) d) e in
-      let q = and-parts (between (pos 0) (pos quantumMost) a && between (pos 1) (pos parametersMost) b) (between (pos 0) (pos rampsMost) c) (p .0) in
+      let p = and-parts (between (pos 0) (pos quantumMost) a && between (pos 1) (pos parametersMost) b && between (pos 0) (pos functionsMost) c) (between (pos 1) (pos gridsMost) d) e in
+      let q = and-parts (between (pos 0) (pos quantumMost) a && between (pos 1) (pos parametersMost) b) (between (pos 0) (pos functionsMost) c) (p .0) in
       let r = and-parts (between (pos 0) (pos quantumMost) a) (between (pos 1) (pos parametersMost) b) (q .0) in
-      (count-in 0 quantumMost a (r .0), count-in 1 parametersMost b (r .1), count-in 0 rampsMost c (q .1), count-in 1 gridsMost d (p .1))
+      (count-in 0 quantumMost a (r .0), count-in 1 parametersMost b (r .1), count-in 0 functionsMost c (q .1), count-in 1 gridsMost d (p .1))
 
-  pub ramp-sizes : rampNumbersFit a b c d ≡ true → (natAbs a ≤ dayMost) × (natAbs b ≤ rampFactorMost) × (natAbs c ≤ dayMost) × (natAbs d ≤ rampFactorMost)
+  pub ramp-sizes : rampNumbersFit a b c d ≡ true → (natAbs a ≤ dayMost) × (natAbs b ≤ functionFactorMost) × (natAbs c ≤ dayMost) × (natAbs d ≤ functionFactorMost)
   ramp-sizes e =
-      let o = and-parts (dayFits a && rampFactorFits b && dayFits c && rampFactorFits d) (leZ a c) e in
-      let p = and-parts (dayFits a && rampFactorFits b && dayFits c) (rampFactorFits d) (o .0) in
-      let q = and-parts (dayFits a && rampFactorFits b) (dayFits c) (p .0) in
-      let r = and-parts (dayFits a) (rampFactorFits b) (q .0) in
-      (within-size dayMost a (r .0), within-size rampFactorMost b (r .1), within-size dayMost c (q .1), within-size rampFactorMost d (p .1))
+      let o = and-parts (dayFits a && functionFactorFits b && dayFits c && functionFactorFits d) (leZ a c) e in
+      let p = and-parts (dayFits a && functionFactorFits b && dayFits c) (functionFactorFits d) (o .0) in
+      let q = and-parts (dayFits a && functionFactorFits b) (dayFits c) (p .0) in
+      let r = and-parts (dayFits a) (functionFactorFits b) (q .0) in
+      (within-size dayMost a (r .0), within-size functionFactorMost b (r .1), within-size dayMost c (q .1), within-size functionFactorMost d (p .1))
+
+  pub ramp2-sizes : ramp2NumbersFit a b c d ≡ true → (natAbs a ≤ dayMost) × (natAbs b ≤ dayMost) × (natAbs c ≤ dayMost) × (natAbs d ≤ functionFactorMost)
+  ramp2-sizes e =
+      let o = and-parts (dayFits a && dayFits b && dayFits c && functionFactorFits d) (ltZ a b) e in
+      let p = and-parts (dayFits a && dayFits b && dayFits c) (functionFactorFits d) (o .0) in
+      let q = and-parts (dayFits a && dayFits b) (dayFits c) (p .0) in
+      let r = and-parts (dayFits a) (dayFits b) (q .0) in
+      (within-size dayMost a (r .0), within-size dayMost b (r .1), within-size dayMost c (q .1), within-size functionFactorMost d (p .1))
 
   pub origin-sizes : originFits a b c d ≡ true → (natAbs a ≤ lonEdgeMost) × (natAbs b ≤ latEdgeMost) × (natAbs c ≤ spacingMost) × (natAbs d ≤ spacingMost)
   origin-sizes e =
@@ -57,6 +68,12 @@ module _ (a b c d : ℤ) where
       let r = and-parts (between (pos nodesLeast) (pos nodesMost) a) (between (pos nodesLeast) (pos nodesMost) b) (q .0) in
       (count-in nodesLeast nodesMost a (r .0), count-in nodesLeast nodesMost b (r .1), count-in 1 rankMost c (q .1), count-in 0 startMost d (p .1))
 
+pub step-sizes : (a b c : ℤ) → stepNumbersFit a b c ≡ true → (natAbs a ≤ dayMost) × (natAbs b ≤ dayMost) × (natAbs c ≤ functionFactorMost)
+step-sizes a b c e =
+    let p = and-parts (dayFits a && dayFits b) (functionFactorFits c) e in
+    let q = and-parts (dayFits a) (dayFits b) (p .0) in
+    (within-size dayMost a (q .0), within-size dayMost b (q .1), within-size functionFactorMost c (p .1))
+
 -- ---- the numbers of a line within its limits are told apart
 
 pub head-small : (zs : List ℤ) → length zs ≡ 4 → headFit zs ≡ true → Small zs
@@ -64,10 +81,16 @@ head-small =
     four-of (λ zs. headFit zs ≡ true → Small zs)
     (λ a b c d e. let s = head-sizes a b c d e in let u = s .0 .0 in let v = s .1 .0 in let w = s .2 .0 in let x = s .3 .0 in (omega arith, (omega arith, (omega arith, (omega arith, tt)))))
 
-pub ramp-small : (zs : List ℤ) → length zs ≡ 4 → rampFit zs ≡ true → Small zs
-ramp-small =
-    four-of (λ zs. rampFit zs ≡ true → Small zs)
-    (λ a b c d e. let s = ramp-sizes a b c d e in let u = s .0 in let v = s .1 in let w = s .2 in let x = s .3 in (omega arith, (omega arith, (omega arith, (omega arith, tt)))))
+pub shape-small : (s : Shape) → shapeFits s ≡ true → Small (shapeInts s)
+shape-small (S.Ramp r) e =
+    let s = ramp-sizes (r .a) (r .s0) (r .b) (r .s1) e in let u = s .0 in let v = s .1 in let w = s .2 in let x = s .3 in
+    (omega arith, (omega arith, (omega arith, (omega arith, tt))))
+shape-small (S.Step r) e =
+    let s = step-sizes (r .event) (r .reference) (r .mult) e in let u = s .0 in let v = s .1 in let w = s .2 in
+    (omega arith, (omega arith, (omega arith, tt)))
+shape-small (S.Ramp2 r) e =
+    let s = ramp2-sizes (r .start) (r .end) (r .reference) (r .mult) e in let u = s .0 in let v = s .1 in let w = s .2 in let x = s .3 in
+    (omega arith, (omega arith, (omega arith, (omega arith, tt))))
 
 pub grid-small : (zs : List ℤ) → length zs ≡ 8 → gridFit zs ≡ true → Small zs
 grid-small =
@@ -90,7 +113,7 @@ counted-in (negsuc n) e = let x : _≡_ {A = ℕ} 0 1 = cc in absurd (omega arit
 
 module _ (a b c d : ℤ) where
   pub head-counted : headNumbersFit (pos (countOf a)) (pos (countOf b)) (pos (countOf c)) (pos (countOf d)) ≡ headNumbersFit a b c d
-  head-counted = rw (between-counted 0 quantumMost a (omega arith), between-counted 1 parametersMost b (omega arith), between-counted 0 rampsMost c (omega arith), between-counted 1 gridsMost d (omega arith))
+  head-counted = rw (between-counted 0 quantumMost a (omega arith), between-counted 1 parametersMost b (omega arith), between-counted 0 functionsMost c (omega arith), between-counted 1 gridsMost d (omega arith))
 
   counts-counted : countsFit (pos (countOf a)) (pos (countOf b)) (pos (countOf c)) (pos (countOf d)) ≡ countsFit a b c d
   counts-counted = rw (between-counted nodesLeast nodesMost a (omega arith), between-counted nodesLeast nodesMost b (omega arith), between-counted 1 rankMost c (omega arith), between-counted 0 startMost d (omega arith))
@@ -98,7 +121,7 @@ module _ (a b c d : ℤ) where
   pub head-made : (n : Name) (u : U.Unit) → headNumbersFit a b c d ≡ true → countedHead n u a b c d ≡ headOf (n, u) (a ∷ b ∷ c ∷ d ∷ [])
   head-made n u e =
       let s = head-sizes a b c d e in
-      λ i. record { name = n; unit = u; quantum = counted-in a (s .0 .1) i; parameters = counted-in b (s .1 .1) i; ramps = counted-in c (s .2 .1) i; grids = counted-in d (s .3 .1) i }
+      λ i. record { name = n; unit = u; quantum = counted-in a (s .0 .1) i; parameters = counted-in b (s .1 .1) i; functions = counted-in c (s .2 .1) i; grids = counted-in d (s .3 .1) i }
 
 module _ (n : Name) (a b c d e f g h : ℤ) where
   pub grid-judged : nameFits n ≡ true → gridFits (countedGrid n a b c d e f g h) ≡ gridFit (a ∷ b ∷ c ∷ d ∷ e ∷ f ∷ g ∷ h ∷ [])

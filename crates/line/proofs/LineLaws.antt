@@ -43,14 +43,23 @@ length-map : {A B : Type 0} (f : A → B) (xs : List A) → length (map f xs) �
 length-map f [] = refl
 length-map f (x ∷ xs) = ap suc (length-map f xs)
 
--- a list of four, and of eight
+-- a list of so many
+one-of : {A : Type 0} (P : List A → Type 0) → ((a : A) → P (a ∷ [])) → (zs : List A) → length zs ≡ 1 → P zs
+one-of P f [] h = absurd (omega arith)
+one-of P f (a ∷ []) h = f a
+one-of P f (a ∷ b ∷ zs) h = absurd (omega arith)
+
+two-of : {A : Type 0} (P : List A → Type 0) → ((a b : A) → P (a ∷ b ∷ [])) → (zs : List A) → length zs ≡ 2 → P zs
+two-of P f [] h = absurd (omega arith)
+two-of P f (a ∷ zs) h = one-of (λ ys. P (a ∷ ys)) (f a) zs (omega arith)
+
+pub three-of : {A : Type 0} (P : List A → Type 0) → ((a b c : A) → P (a ∷ b ∷ c ∷ [])) → (zs : List A) → length zs ≡ 3 → P zs
+three-of P f [] h = absurd (omega arith)
+three-of P f (a ∷ zs) h = two-of (λ ys. P (a ∷ ys)) (f a) zs (omega arith)
+
 pub four-of : {A : Type 0} (P : List A → Type 0) → ((a b c d : A) → P (a ∷ b ∷ c ∷ d ∷ [])) → (zs : List A) → length zs ≡ 4 → P zs
 four-of P f [] h = absurd (omega arith)
-four-of P f (a ∷ []) h = absurd (omega arith)
-four-of P f (a ∷ b ∷ []) h = absurd (omega arith)
-four-of P f (a ∷ b ∷ c ∷ []) h = absurd (omega arith)
-four-of P f (a ∷ b ∷ c ∷ d ∷ []) h = f a b c d
-four-of P f (a ∷ b ∷ c ∷ d ∷ e ∷ zs) h = absurd (omega arith)
+four-of P f (a ∷ zs) h = three-of (λ ys. P (a ∷ ys)) (f a) zs (omega arith)
 
 pub eight-of : {A : Type 0} (P : List A → Type 0) → ((a b c d e f g h : A) → P (a ∷ b ∷ c ∷ d ∷ e ∷ f ∷ g ∷ h ∷ [])) → (zs : List A) → length zs ≡ 8 → P zs
 eight-of P f (a ∷ b ∷ c ∷ d ∷ zs) h = four-of (λ ys. P (a ∷ b ∷ c ∷ d ∷ ys)) (f a b c d) zs (omega arith)
@@ -114,6 +123,15 @@ module _ {B A : Type 0} (texts numbers : ℕ) (read : List (List ℕ) → Option
     unnumbered none = refl
     unnumbered (some b) = refl
 
+    -- numbers beyond those that the code tells apart are judged as these
+    pub clamped : ((zs : List ℤ) → length zs ≡ numbers → fits zs ≡ true → Small zs) → (b : B) (zs : List ℤ) → length zs ≡ numbers → made b (map clamp zs) ≡ made b zs
+    clamped small b zs l = go (fits zs) (fits (map clamp zs)) refl refl
+      where
+        go : (p q : Bool) → fits zs ≡ p → fits (map clamp zs) ≡ q → made b (map clamp zs) ≡ made b zs
+        go true q u v = ap (made b) (small-clamp zs (small zs l u))
+        go false true u v = ap (made b) (clamp-small zs (small (map clamp zs) (length-map clamp zs ∙ l) v))
+        go false false u v = rw (u, v)
+
     -- ---- what the code meets on a line whose parts are ps
 
     pub fields-count : (line : List ℕ) → (length (split 9 line) ≡ suc (texts + numbers) → ⊥) → of (drop 1 (split 9 line)) ≡ bad form
@@ -142,23 +160,15 @@ module _ {B A : Type 0} (texts numbers : ℕ) (read : List (List ℕ) → Option
           opened ∙ ap (form-of (read (drop 1 ps))) (ints-bad ps (suc texts) k l (omega arith) (malformed (readInt (getD ps k [])) f))
           ∙ unnumbered (read (drop 1 ps))
 
-      module _ (small : (zs : List ℤ) → length zs ≡ numbers → fits zs ≡ true → Small zs) where
-        clamped : (b : B) (zs : List ℤ) → length zs ≡ numbers → made b (map clamp zs) ≡ made b zs
-        clamped b zs l = go (fits zs) (fits (map clamp zs)) refl refl
-          where
-            go : (p q : Bool) → fits zs ≡ p → fits (map clamp zs) ≡ q → made b (map clamp zs) ≡ made b zs
-            go true q u v = ap (made b) (small-clamp zs (small zs l u))
-            go false true u v = ap (made b) (clamp-small zs (small (map clamp zs) (length-map clamp zs ∙ l) v))
-            go false false u v = rw (u, v)
-
-        -- all fields are read
-        pub fields-numbers : (b : B) (ys : List ℤ) → length ys ≡ numbers → read (drop 1 ps) ≡ some b → Numbers ps (suc texts) ys → of (drop 1 ps) ≡ made b ys
-        fields-numbers b ys h r f =
-            let x = numbers-read ps (suc texts) ys (omega arith) f in
-            let l = length-ints (drop (suc texts) ps) (x .0) (x .1 .0) in
-            let d = length-drop (suc texts) ps in
-            opened ∙ ap (λ (o : Option B). form-of o (readInts (drop (suc texts) ps))) r
-            ∙ ap (form-of (some b)) (x .1 .0) ∙ sym (clamped b (x .0) (omega arith)) ∙ ap (made b) (x .1 .1)
+      -- all fields are read
+      pub fields-numbers : ((zs : List ℤ) → length zs ≡ numbers → fits zs ≡ true → Small zs)
+          → (b : B) (ys : List ℤ) → length ys ≡ numbers → read (drop 1 ps) ≡ some b → Numbers ps (suc texts) ys → of (drop 1 ps) ≡ made b ys
+      fields-numbers small b ys h r f =
+          let x = numbers-read ps (suc texts) ys (omega arith) f in
+          let l = length-ints (drop (suc texts) ps) (x .0) (x .1 .0) in
+          let d = length-drop (suc texts) ps in
+          opened ∙ ap (λ (o : Option B). form-of o (readInts (drop (suc texts) ps))) r
+          ∙ ap (form-of (some b)) (x .1 .0) ∙ sym (clamped small b (x .0) (omega arith)) ∙ ap (made b) (x .1 .1)
 
     pub fields-good : (fs : List (List ℕ)) (a : A) → of fs ≡ good a → Good fs a
     fields-good fs a e = in-count (eqb (length fs) (texts + numbers)) refl e
@@ -250,48 +260,16 @@ pub record Parted {E A : Type 0} (read : ℕ → List (List ℕ) → Line E A) (
   pub back : (n : ℕ) (a : A) → P n a → read n (parts a) ≡ answer n a
   pub same : (n : ℕ) (ps : List (List ℕ)) (a : A) → read n ps ≡ good a → parts a ≡ ps
 
--- of one kind, or of the others
-abbrev pub Either : {A : Type 0} → (ℕ → A → Type 0) → (ℕ → A → Type 0) → Bool → ℕ → A → Type 0
-Either P Q true n a = P n a
-Either P Q false n a = Q n a
+-- parts that are read are those written: of one kind, or else of the others
+pub keyed-same : {E A : Type 0} (a : A) (parts : List (List ℕ)) (word : List ℕ) (these others : List (List ℕ) → Line E A)
+    → ((fs : List (List ℕ)) → these fs ≡ good a → parts ≡ word ∷ fs) → ((ps : List (List ℕ)) → others ps ≡ good a → parts ≡ ps)
+    → (ps : List (List ℕ)) → keyed word these others ps ≡ good a → parts ≡ ps
+keyed-same a parts word these others k o ps e = ⊎-elim (λ w. k (w .0) (w .2) ∙ sym (w .1)) (λ w. o ps w) (keyed-good word these others ps a e)
 
-abbrev pub either : {A : Type 0} → List ℕ → (A → List (List ℕ)) → (A → List (List ℕ)) → Bool → A → List (List ℕ)
-either word fielded parts true a = word ∷ fielded a
-either word fielded parts false a = parts a
+pub none-same : {E A : Type 0} (a : A) (parts : List (List ℕ)) (form : E) (ps : List (List ℕ)) → bad form ≡ good a → parts ≡ ps
+none-same a parts form ps e = let z : _≡_ {A = ℕ} 0 1 = cc in absurd (omega arith)
 
 module _ {E A : Type 0} where
-  -- no kind
-  pub no-parts : (form : ℕ → E) (answer : ℕ → A → Line E A) → Parted {E = E} {A = A} (λ n ps. bad (form n)) (λ a. []) (λ n a. ⊥) answer
-  no-parts form answer = record { some-part = λ n a p. absurd p; free = λ c l n a p. absurd p; back = λ n a p. absurd p; same = λ n ps a e. let z : _≡_ {A = ℕ} 0 1 = cc in absurd (omega arith) }
-
-  -- one kind more, whose records `is` tells from the others'
-  module _ (answer : ℕ → A → Line E A)
-      (these : ℕ → List (List ℕ) → Line E A) (word : List ℕ) (fielded : A → List (List ℕ)) (P : ℕ → A → Type 0) (k : Body these word fielded P answer)
-      (others : ℕ → List (List ℕ) → Line E A) (parts : A → List (List ℕ)) (Q : ℕ → A → Type 0) (o : Parted others parts Q answer)
-      (is : A → Bool) (these-are : (n : ℕ) (fs : List (List ℕ)) (a : A) → these n fs ≡ good a → is a ≡ true)
-      (others-are : (n : ℕ) (ps : List (List ℕ)) (a : A) → others n ps ≡ good a → is a ≡ false)
-      (apart : (n : ℕ) (a : A) → Q n a → same (getD (parts a) 0 []) word ≡ false) where
-    pub more-parts : Parted (λ n. keyed word (these n) (others n)) (λ a. either word fielded parts (is a) a) (λ n a. Either P Q (is a) n a) answer
-    more-parts = record { some-part = λ n a. some (is a) n a; free = λ c l n a. free c l (is a) n a; back = λ n a. back (is a) n a; same = same′ }
-      where
-        some : (t : Bool) (n : ℕ) (a : A) → Either P Q t n a → 0 < length (either word fielded parts t a)
-        some true n a p = omega arith
-        some false n a p = o .some-part n a p
-
-        free : (c : ℕ) → c < 45 → (t : Bool) (n : ℕ) (a : A) → Either P Q t n a → AllFree c (either word fielded parts t a)
-        free c l true n a p = (k .word-free c l, k .free c l n a p)
-        free c l false n a p = o .free c l n a p
-
-        back : (t : Bool) (n : ℕ) (a : A) → Either P Q t n a → keyed word (these n) (others n) (either word fielded parts t a) ≡ answer n a
-        back true n a p = ap (λ (b : Bool). cond b (these n (fielded a)) (others n (word ∷ fielded a))) (same-refl word) ∙ k .back n a p
-        back false n a p = keyed-miss word (these n) (others n) (parts a) (apart n a p) ∙ o .back n a p
-
-        same′ : (n : ℕ) (ps : List (List ℕ)) (a : A) → keyed word (these n) (others n) ps ≡ good a → either word fielded parts (is a) a ≡ ps
-        same′ n ps a e =
-            ⊎-elim (λ w. ap (λ (t : Bool). either word fielded parts t a) (these-are n (w .0) a (w .2)) ∙ ap (λ (fs : List (List ℕ)). word ∷ fs) (k .same n (w .0) a (w .2)) ∙ sym (w .1))
-            (λ w. ap (λ (t : Bool). either word fielded parts t a) (others-are n ps a w) ∙ o .same n ps a w)
-            (keyed-good word (these n) (others n) ps a e)
-
   -- the parts with tabs between them
   pub parted-kind : (answer : ℕ → A → Line E A) (read : ℕ → List (List ℕ) → Line E A) (parts : A → List (List ℕ)) (P : ℕ → A → Type 0) → Parted read parts P answer
       → Kind (λ n l. read n (split 9 l)) (λ a. join 9 (parts a)) P answer
@@ -311,4 +289,9 @@ module _ {E A : Type 0} where
       → (form : ℕ → E) → Kind (λ n l. keyed word (these n) (λ fs. bad (form n)) (split 9 l)) (λ a. join 9 (word ∷ fielded a)) P answer
   body-kind answer these word fielded P k form =
       parted-kind answer (λ n. keyed word (these n) (λ fs. bad (form n))) (λ a. word ∷ fielded a) P
-      (more-parts answer these word fielded P k (λ n fs. bad (form n)) (λ a. []) (λ n a. ⊥) (no-parts form answer) (λ a. true) (λ n fs a e. refl) (λ n ps a e. let z : _≡_ {A = ℕ} 0 1 = cc in absurd (omega arith)) (λ n a q. absurd q))
+      (record {
+        some-part = λ n a p. omega arith;
+        free = λ c l n a p. (k .word-free c l, k .free c l n a p);
+        back = λ n a p. ap (λ (b : Bool). cond b (these n (fielded a)) (bad (form n))) (same-refl word) ∙ k .back n a p;
+        same = λ n ps a. keyed-same a (word ∷ fielded a) word (these n) (λ fs. bad (form n)) (λ fs e. ap (λ (gs : List (List ℕ)). word ∷ gs) (k .same n fs a e)) (none-same a (word ∷ fielded a) (form n)) ps;
+      })

@@ -1,6 +1,6 @@
--- What the code meets on the three kinds of line, in terms of what its callees answer.
+-- What the code meets on a line, in terms of what its callees answer.
 use Prim.Native.Nat.{ℕ, suc, _+_}
-use mathlib.Core.Path.{_≡_, refl, sym, ap, _∙_}
+use mathlib.Core.Path.{_≡_, refl, sym, ap, subst, _∙_}
 use mathlib.Core.Bool.{Bool, true, false, cond, _&&_}
 use mathlib.Core.List.{List, []}
 use mathlib.Core.Option.{Option, none, some}
@@ -15,22 +15,25 @@ use lib.IntN.{ℤ}
 use borrow.Author.Tests.{eqb-true, eq-eqb}
 use Rattle.numbers.proofs.Bools.{and-left, and-right, true-false}
 use Rattle.text.specs.Parts.{split, fieldOf}
-use Rattle.text.specs.Fields.{same}
+use Rattle.text.specs.Fields.{same, readInts}
 use Rattle.text.specs.Decimal.{readInt}
 use Rattle.text.specs.Number.{numberOf}
 use Rattle.text.specs.declared.Number.{Number}
 use Rattle.text.specs.declared.Number.the-variants as N
 use Rattle.text.proofs.PartLaws.{field-split}
 use Rattle.text.proofs.FieldLaws.{answer}
+use Rattle.group.specs.Limits.{functionFits}
+use Rattle.group.specs.Refusals.{refusal}
 use Rattle.group.specs.declared.Name.{Name}
 use Rattle.group.specs.declared.Unit as U
-use Rattle.group.specs.declared.Ramp.{Ramp}
+use Rattle.group.specs.declared.Shape.{Shape}
+use Rattle.group.specs.declared.Function.{Function}
 use Rattle.group.specs.declared.Grid.{Grid}
 use Rattle.group.specs.declared.Refusal.{Refusal}
 use Rattle.group.specs.declared.Verdict.the-variants.{Accepted, Refused}
 use Rattle.line.specs.declared.Head.{Head}
 use Rattle.line.specs.declared.HeadRead.{HeadRead}
-use Rattle.line.specs.declared.RampRead.{RampRead}
+use Rattle.line.specs.declared.FunctionRead.{FunctionRead}
 use Rattle.line.specs.declared.GridRead.{GridRead}
 use Rattle.line.specs.Line.{Line, bad, good}
 use Rattle.line.specs.declared.Form.{Form}
@@ -38,11 +41,18 @@ use Rattle.line.specs.declared.Form.the-variants.{Malformed, Named}
 use Rattle.line.specs.declared.UnitRead.{UnitRead}
 use Rattle.line.specs.declared.UnitRead.the-variants.{Unknown, Known}
 use Rattle.line.specs.Names.{isName, nameOf, readName, readUnit}
-use Rattle.line.specs.Lines.{fields, lineOf, headTexts, gridTexts, paired}
-use Rattle.line.specs.Answers.{formOf, unitAnswer, headAnswer, rampAnswer, gridAnswer}
-use Rattle.line.proofs.LineLaws.{keyed-miss, keyed-hit, fields-count}
+use Rattle.line.specs.Lines.{formed, fields, lineOf, headTexts, noTexts, ofShape, shapeFit, shapeFields, gridTexts, paired}
+use Rattle.line.specs.Numbers.{readCount, NumbersRead}
+use Rattle.line.specs.Answers.{formOf, unitAnswer, headAnswer, functionAnswer, gridAnswer}
+use Rattle.line.proofs.LineLaws.{Small, keyed-miss, keyed-hit, clamped, fields-count, limited}
+use Rattle.line.proofs.LimitLaws.{shape-small}
+use Rattle.line.proofs.NumberLaws.{count-length}
+use Rattle.line.proofs.KindLaws.{ShapeKind}
 
--- the test of a line's keyword and of the count of its fields
+-- the test of a line's keyword, alone and with the count of its fields
+pub keyword-told : (word line f : List ℕ) (r : Bool) → r ≡ same f word → f ≡ fieldOf line 0 → same (getD (split 9 line) 0 []) word ≡ r
+keyword-told word line f r e g = sym (e ∙ ap (λ (l : List ℕ). same l word) (g ∙ field-split line 0))
+
 pub kind-counted : (word line : List ℕ) (n : ℕ) (r : Bool) → r ≡ (same (fieldOf line 0) word && eqb (length (split 9 line)) n) → r ≡ true → length (split 9 line) ≡ n
 kind-counted word line n r e t = eqb-true (length (split 9 line)) n (and-right (same (fieldOf line 0) word) (eqb (length (split 9 line)) n) (sym e ∙ t))
 
@@ -141,6 +151,38 @@ module _ (line : List ℕ) (k : ℕ) (f : List ℕ) (r : Number) (e : r ≡ numb
   pub field-number : (z : ℤ) → r ≡ N.Whole z → SFits w64 z → numberOf (readInt (getD (split 9 line) k [])) ≡ N.Whole (bits z)
   field-number z h s = answer line k f r e g ∙ h ∙ ap N.Whole (sym (toZ-ofZ s))
 
+-- ---- a function line, by what the reading of its numbers tells
+
+module _ {word : List ℕ} {numbers : ℕ} {make : List ℤ → Shape} (k : ShapeKind word numbers make)
+    (n : ℕ) (fs : List (List ℕ)) (r : Bool) (ys : List ℤ) (w : NumbersRead (readCount numbers fs) r ys) where
+  abbrev made : Option (List ℤ) → Line Refusal Function
+  made = formed 0 numbers noTexts (shapeFit make) (ofShape make) (refusal 1 n) (refusal 2 n) (some tt)
+
+  counted : shapeFields numbers make n fs ≡ made (readCount numbers fs)
+  counted = ap (λ (m : ℕ). cond (eqb (length fs) m) (made (readInts fs)) (bad (refusal 1 n))) none-more ∙ go (eqb (length fs) numbers)
+    where
+      none-more : 0 + numbers ≡ numbers
+      none-more = omega arith
+
+      go : (t : Bool) → cond t (made (readInts fs)) (bad (refusal 1 n)) ≡ made (cond t (readInts fs) none)
+      go true = refl
+      go false = refl
+
+  small : (zs : List ℤ) → length zs ≡ numbers → shapeFit make zs ≡ true → Small zs
+  small zs l e = subst Small (k .ints zs l) (shape-small (make zs) e)
+
+  pub shape-unread : r ≡ false → functionAnswer (bad (refusal 1 n)) ≡ functionAnswer (shapeFields numbers make n fs)
+  shape-unread e = sym (ap functionAnswer (counted ∙ ap made (w .bad e)))
+
+  pub shape-read : r ≡ true → (s : Shape) → s ≡ make ys → functionAnswer (limited functionFits (refusal 2) n (record { shape = s })) ≡ functionAnswer (shapeFields numbers make n fs)
+  shape-read e s q =
+      let z = w .good e in
+      ap (λ (t : Shape). functionAnswer (limited functionFits (refusal 2) n (record { shape = t }))) q
+      ∙ sym (ap functionAnswer
+      (counted ∙ ap made (z .1)
+      ∙ sym (clamped 0 numbers noTexts (shapeFit make) (ofShape make) (refusal 1 n) (refusal 2 n) small tt (z .0) (count-length numbers fs (z .0) (z .1)))
+      ∙ ap (λ (xs : List ℤ). made (some xs)) (z .2)))
+
 -- ---- the answer of a line, by its verdict
 
 pub head-refused : (q : HeadRead) (l : Line Refusal Head) (r : Refusal) → q ≡ headAnswer l → q .verdict ≡ Refused r → l ≡ bad r
@@ -151,13 +193,13 @@ pub head-accepted : (q : HeadRead) (l : Line Refusal Head) → q ≡ headAnswer 
 head-accepted q (bad s) e v = let x : Refused s ≡ Accepted = sym (ap (λ (a : HeadRead). a .verdict) e) ∙ v in absurd (let y : _≡_ {A = ℕ} 0 1 = cc in omega arith)
 head-accepted q (good a) e v = ap good (sym (ap (λ (b : HeadRead). b .head) e))
 
-pub ramp-refused : (q : RampRead) (l : Line Refusal Ramp) (r : Refusal) → q ≡ rampAnswer l → q .verdict ≡ Refused r → l ≡ bad r
-ramp-refused q (bad s) r e v = let x : Refused s ≡ Refused r = sym (ap (λ (a : RampRead). a .verdict) e) ∙ v in let y : s ≡ r = cc in ap bad y
-ramp-refused q (good a) r e v = let x : Accepted ≡ Refused r = sym (ap (λ (b : RampRead). b .verdict) e) ∙ v in absurd (let y : _≡_ {A = ℕ} 0 1 = cc in omega arith)
+pub function-refused : (q : FunctionRead) (l : Line Refusal Function) (r : Refusal) → q ≡ functionAnswer l → q .verdict ≡ Refused r → l ≡ bad r
+function-refused q (bad s) r e v = let x : Refused s ≡ Refused r = sym (ap (λ (a : FunctionRead). a .verdict) e) ∙ v in let y : s ≡ r = cc in ap bad y
+function-refused q (good a) r e v = let x : Accepted ≡ Refused r = sym (ap (λ (b : FunctionRead). b .verdict) e) ∙ v in absurd (let y : _≡_ {A = ℕ} 0 1 = cc in omega arith)
 
-pub ramp-accepted : (q : RampRead) (l : Line Refusal Ramp) → q ≡ rampAnswer l → q .verdict ≡ Accepted → l ≡ good (q .ramp)
-ramp-accepted q (bad s) e v = let x : Refused s ≡ Accepted = sym (ap (λ (a : RampRead). a .verdict) e) ∙ v in absurd (let y : _≡_ {A = ℕ} 0 1 = cc in omega arith)
-ramp-accepted q (good a) e v = ap good (sym (ap (λ (b : RampRead). b .ramp) e))
+pub function-accepted : (q : FunctionRead) (l : Line Refusal Function) → q ≡ functionAnswer l → q .verdict ≡ Accepted → l ≡ good (q .function)
+function-accepted q (bad s) e v = let x : Refused s ≡ Accepted = sym (ap (λ (a : FunctionRead). a .verdict) e) ∙ v in absurd (let y : _≡_ {A = ℕ} 0 1 = cc in omega arith)
+function-accepted q (good a) e v = ap good (sym (ap (λ (b : FunctionRead). b .function) e))
 
 pub grid-refused : (q : GridRead) (l : Line Refusal Grid) (r : Refusal) → q ≡ gridAnswer l → q .verdict ≡ Refused r → l ≡ bad r
 grid-refused q (bad s) r e v = let x : Refused s ≡ Refused r = sym (ap (λ (a : GridRead). a .verdict) e) ∙ v in let y : s ≡ r = cc in ap bad y

@@ -1,4 +1,4 @@
--- The record of a line that is read has a name of 24 bytes, and counts of ramps and grids within the two arrays.
+-- The record of a line that is read has a name of 24 bytes, and counts of functions and grids within the two arrays.
 use Prim.Native.Nat.{ℕ, _-_, _≤_}
 use mathlib.Core.Path.{_≡_, refl, sym, ap, _∙_, subst}
 use mathlib.Core.Bool.{Bool, true, false, cond}
@@ -12,10 +12,11 @@ use Rattle.text.specs.Parts.{split}
 use Rattle.group.specs.declared.Name.{Name}
 use Rattle.group.specs.declared.Grid.{Grid}
 use Rattle.group.specs.Refusals.{refusal}
+use Rattle.group.specs.Shapes.{intAt}
 use Rattle.line.specs.declared.Head.{Head}
 use Rattle.line.specs.Line.{bad, good}
 use Rattle.line.specs.Names.{isName, nameOf, readName, readUnit}
-use Rattle.line.specs.Lines.{fields, lineOf, intAt, groupKeyword, headTexts, headFit, headOf, headLine, gridKeyword, gridTexts, gridFit, gridOf, gridLine}
+use Rattle.line.specs.Lines.{fields, lineOf, groupKeyword, headTexts, headFit, headOf, headLine, gridKeyword, gridTexts, gridFit, gridOf, gridLine}
 use Rattle.line.proofs.LineLaws.{keyed-good, Good, fields-good}
 use Rattle.line.proofs.NameLaws.{name-length}
 use Rattle.line.proofs.KindLaws.{paired-both}
@@ -44,7 +45,7 @@ module _ {B A E : Type 0} (texts numbers : ℕ) (read : List (List ℕ) → Opti
 
 pub record HeadRoom (h : Head) : Type 0 where
   pub name : length (h .name .bytes) ≡ 24
-  pub ramps : h .ramps ≤ 8
+  pub functions : h .functions ≤ 8
   pub grids : h .grids ≤ 64
 
 pub head-room : (n : ℕ) (l : List ℕ) (h : Head) → headLine n l ≡ good h → HeadRoom h
@@ -53,7 +54,7 @@ head-room n l h e =
     let fs = w .0 in let g = w .1 in let zs = g .zs in
     let s = head-sizes (intAt zs 0) (intAt zs 1) (intAt zs 2) (intAt zs 3) (g .fit) in
     let t = paired-both (readName (getD fs 0 [])) (readUnit (getD fs 1 [])) (g .b) (g .texted) in
-    subst HeadRoom (g .whole) (record { name = name-room (getD fs 0 []) (g .b .0) (t .0); ramps = s .2 .0; grids = s .3 .0 })
+    subst HeadRoom (g .whole) (record { name = name-room (getD fs 0 []) (g .b .0) (t .0); functions = s .2 .0; grids = s .3 .0 })
 
 pub grid-room : (n : ℕ) (l : List ℕ) (d : Grid) → gridLine n l ≡ good d → length (d .name .bytes) ≡ 24
 grid-room n l d e =

@@ -4,4 +4,4 @@ use Rattle.group.specs.Blank.{blankName}
 use Rattle.line.specs.declared.Head.{Head}
 
 abbrev pub blankHead : Head
-blankHead = record { name = blankName; unit = ArcSecond; quantum = 0; parameters = 0; ramps = 0; grids = 0 }
+blankHead = record { name = blankName; unit = ArcSecond; quantum = 0; parameters = 0; functions = 0; grids = 0 }

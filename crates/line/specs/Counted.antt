@@ -8,7 +8,7 @@ use Rattle.line.specs.declared.Head.{Head}
 
 abbrev pub countedHead : Name → U.Unit → ℤ → ℤ → ℤ → ℤ → Head
 countedHead n u a b c d =
-    record { name = n; unit = u; quantum = countOf a; parameters = countOf b; ramps = countOf c; grids = countOf d }
+    record { name = n; unit = u; quantum = countOf a; parameters = countOf b; functions = countOf c; grids = countOf d }
 
 abbrev pub countedGrid : Name → ℤ → ℤ → ℤ → ℤ → ℤ → ℤ → ℤ → ℤ → Grid
 countedGrid n a b c d e f g h =

@@ -2,6 +2,7 @@
 pub mod Names
 pub mod Line
 pub mod Lines
+pub mod Numbers
 pub mod Counted
 pub mod Blank
 pub mod Answers

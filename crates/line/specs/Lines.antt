@@ -1,4 +1,4 @@
--- The three kinds of line: a keyword, some texts, and numbers.
+-- The lines of a header: a keyword, some texts, and numbers.
 use Prim.Native.Nat.{ℕ, _+_}
 use mathlib.Core.Bool.{Bool, cond, _&&_}
 use mathlib.Core.List.{List, [], _∷_, map}
@@ -9,11 +9,14 @@ use lib.IntN.{ℤ, pos, natAbs}
 use Rattle.text.specs.Parts.{split, join}
 use Rattle.text.specs.Decimal.{intText}
 use Rattle.text.specs.Fields.{same, readInts}
-use Rattle.group.specs.Limits.{headNumbersFit, rampNumbersFit, originFits, countsFit}
+use Rattle.group.specs.Limits.{headNumbersFit, shapeFits, originFits, countsFit}
+use Rattle.group.specs.Shapes.{shapeInts, intAt, rampOf, stepOf, ramp2Of}
 use Rattle.group.specs.declared.Refusal.{Refusal}
 use Rattle.group.specs.declared.Name.{Name}
 use Rattle.group.specs.declared.Unit as U
-use Rattle.group.specs.declared.Ramp.{Ramp}
+use Rattle.group.specs.declared.Shape.{Shape}
+use Rattle.group.specs.declared.Shape.the-variants as S
+use Rattle.group.specs.declared.Function.{Function}
 use Rattle.group.specs.declared.Grid.{Grid}
 use Rattle.line.specs.declared.Head.{Head}
 use Rattle.line.specs.Names.{readName, nameText, readUnit, unitText}
@@ -44,10 +47,7 @@ module _ {B A E : Type 0} (texts numbers : ℕ) (read : List (List ℕ) → Opti
   abbrev pub lineOf : List ℕ → List ℕ → Line E A
   lineOf word line = keyed word fields (λ fs. bad form) (split 9 line)
 
-abbrev pub intAt : List ℤ → ℕ → ℤ
-intAt zs k = getD zs k (pos 0)
-
--- ---- `group` NAME UNIT Q NP ramps grids
+-- ---- `group` NAME UNIT Q NP functions grids
 
 abbrev pub groupKeyword : List ℕ
 groupKeyword = 103 ∷ 114 ∷ 111 ∷ 117 ∷ 112 ∷ []
@@ -70,7 +70,7 @@ headOf t zs =
       unit = t .1;
       quantum = natAbs (intAt zs 0);
       parameters = natAbs (intAt zs 1);
-      ramps = natAbs (intAt zs 2);
+      functions = natAbs (intAt zs 2);
       grids = natAbs (intAt zs 3);
     }
 
@@ -78,35 +78,55 @@ abbrev pub headLine : ℕ → List ℕ → Line Refusal Head
 headLine n = lineOf 2 4 headTexts headFit headOf (refusal 1 n) (refusal 2 n) groupKeyword
 
 abbrev pub headInts : Head → List ℤ
-headInts h = pos (h .quantum) ∷ pos (h .parameters) ∷ pos (h .ramps) ∷ pos (h .grids) ∷ []
+headInts h = pos (h .quantum) ∷ pos (h .parameters) ∷ pos (h .functions) ∷ pos (h .grids) ∷ []
 
 -- a group line, without the line feed
 abbrev pub headText : Head → List ℕ
 headText h = join 9 (groupKeyword ∷ nameText (h .name) ∷ unitText (h .unit) ∷ map intText (headInts h))
 
--- ---- `ramp` A S0 B S1
+-- ---- `ramp` A S0 B S1, `step` EVENT REF MULT, `ramp2` START END REF MULT
 
 abbrev pub rampKeyword : List ℕ
 rampKeyword = 114 ∷ 97 ∷ 109 ∷ 112 ∷ []
 
-abbrev pub rampTexts : List (List ℕ) → Option (Unit {0})
-rampTexts fs = some tt
+abbrev pub stepKeyword : List ℕ
+stepKeyword = 115 ∷ 116 ∷ 101 ∷ 112 ∷ []
 
-abbrev pub rampFit : List ℤ → Bool
-rampFit zs = rampNumbersFit (intAt zs 0) (intAt zs 1) (intAt zs 2) (intAt zs 3)
+abbrev pub ramp2Keyword : List ℕ
+ramp2Keyword = 114 ∷ 97 ∷ 109 ∷ 112 ∷ 50 ∷ []
 
-abbrev pub rampOf : Unit {0} → List ℤ → Ramp
-rampOf t zs = record { a = intAt zs 0; s0 = intAt zs 1; b = intAt zs 2; s1 = intAt zs 3 }
+abbrev pub noTexts : List (List ℕ) → Option (Unit {0})
+noTexts fs = some tt
 
-abbrev pub rampLine : ℕ → List ℕ → Line Refusal Ramp
-rampLine n = lineOf 0 4 rampTexts rampFit rampOf (refusal 1 n) (refusal 2 n) rampKeyword
+abbrev pub ofShape : (List ℤ → Shape) → Unit {0} → List ℤ → Function
+ofShape shape t zs = record { shape = shape zs }
 
-abbrev pub rampInts : Ramp → List ℤ
-rampInts r = r .a ∷ r .s0 ∷ r .b ∷ r .s1 ∷ []
+abbrev pub shapeFit : (List ℤ → Shape) → List ℤ → Bool
+shapeFit shape zs = shapeFits (shape zs)
 
--- a ramp line, without the line feed
-abbrev pub rampText : Ramp → List ℕ
-rampText r = join 9 (rampKeyword ∷ map intText (rampInts r))
+-- the fields behind the keyword of one kind: so many numbers, and the shape that they make
+abbrev pub shapeFields : ℕ → (List ℤ → Shape) → ℕ → List (List ℕ) → Line Refusal Function
+shapeFields numbers shape n = fields 0 numbers noTexts (shapeFit shape) (ofShape shape) (refusal 1 n) (refusal 2 n)
+
+-- a line's first word decides its kind
+abbrev pub functionFields : ℕ → List (List ℕ) → Line Refusal Function
+functionFields n =
+    keyed rampKeyword (shapeFields 4 rampOf n)
+    (keyed stepKeyword (shapeFields 3 stepOf n)
+    (keyed ramp2Keyword (shapeFields 4 ramp2Of n)
+    (λ fs. bad (refusal 1 n))))
+
+abbrev pub functionLine : ℕ → List ℕ → Line Refusal Function
+functionLine n line = functionFields n (split 9 line)
+
+abbrev pub shapeKeyword : Shape → List ℕ
+shapeKeyword (S.Ramp r) = rampKeyword
+shapeKeyword (S.Step s) = stepKeyword
+shapeKeyword (S.Ramp2 r) = ramp2Keyword
+
+-- a function line, without the line feed
+abbrev pub functionText : Function → List ℕ
+functionText f = join 9 (shapeKeyword (f .shape) ∷ map intText (shapeInts (f .shape)))
 
 -- ---- `grid` NAME LON LAT DLON DLAT NI NJ RANK START
 

@@ -1,43 +1,50 @@
 // The lines of a header: reading one and writing one.
 ghost use mathlib.Core.Path.{_≡_};
 ghost use mathlib.Core.Bool.{cond, _&&_};
-ghost use mathlib.Core.List.{_∷_, [], _++_};
-ghost use Prim.Native.Nat.{_+_, _≤_};
+ghost use mathlib.Core.List.{_∷_, [], _++_, map};
+ghost use Prim.Native.Nat.{_+_, _≤_, _<_};
 ghost use lib.Dec.{eqb};
-ghost use lib.ListN.{length, take};
-ghost use Rattle.text.specs.Parts.{split, fieldOf};
+ghost use lib.ListN.{length, take, drop};
+ghost use Rattle.text.specs.Parts.{split, led, join, fieldOf};
 ghost use Rattle.text.specs.Cuts.{fieldsMost, Cuts};
-ghost use Rattle.text.specs.Fields.{same};
+ghost use Rattle.text.specs.Decimal.{intText};
+ghost use Rattle.text.specs.Fields.{same, readInts};
 ghost use Rattle.text.specs.Wrote.{Wrote};
 ghost use Rattle.group.specs.Numbers.{nameMost};
-ghost use Rattle.group.specs.Limits.{gridFits};
+ghost use Rattle.group.specs.Limits.{functionFits, gridFits};
 ghost use Rattle.line.specs.Names.{isName, nameOf, nameText, readUnit, unitText};
 ghost use Rattle.group.specs.Refusals.{refusal};
+ghost use Rattle.group.specs.Shapes.{rampOf, stepOf, ramp2Of};
 ghost use Rattle.line.specs.Line.{bad, good};
-ghost use Rattle.line.specs.Lines.{headLine, headText, rampLine, rampText, gridLine, gridText};
+ghost use Rattle.line.specs.Lines.{headLine, headText, shapeFields, functionLine, functionText, gridLine, gridText};
+ghost use Rattle.line.specs.Numbers.{readCount, NumbersRead};
 ghost use Rattle.line.specs.Counted.{countedHead, countedGrid};
 ghost use Rattle.line.specs.Blank.{blankHead};
-ghost use Rattle.line.specs.Answers.{formOf, unitAnswer, headAnswer, rampAnswer, gridAnswer};
+ghost use Rattle.line.specs.Answers.{formOf, unitAnswer, headAnswer, functionAnswer, gridAnswer};
+use group::Function;
 use group::Grid;
 use group::Latitude;
 use group::Longitude;
 use group::Name;
 use group::Ramp;
+use group::Ramp2;
 use group::Refusal;
+use group::Shape;
+use group::Step;
 use group::Unit;
 use group::Verdict;
+use group::blank_function;
 use group::blank_grid;
 use group::blank_name;
-use group::blank_ramp;
 use text::Number;
 
-// A group line: all of a group but its ramps and grids.
+// A group line: all of a group but its functions and grids.
 pub struct Head {
     pub name: Name,
     pub unit: Unit,
     pub quantum: u64,
     pub parameters: u64,
-    pub ramps: u64,
+    pub functions: u64,
     pub grids: u64,
 }
 
@@ -59,10 +66,10 @@ pub struct HeadRead {
     pub head: Head,
 }
 
-// A line read as a ramp.
-pub struct RampRead {
+// A line read as a function.
+pub struct FunctionRead {
     pub verdict: Verdict,
-    pub ramp: Ramp,
+    pub function: Function,
 }
 
 // A line read as a grid.
@@ -81,7 +88,7 @@ fn blank_head() -> Head
         unit: Unit::ArcSecond,
         quantum: 0,
         parameters: 0,
-        ramps: 0,
+        functions: 0,
         grids: 0,
     }
 }
@@ -147,20 +154,57 @@ pub fn cut_as(line: &[u8], cuts: &mut [usize; text::CUTS], word: &[u8], count: u
     keyed & (n == count)
 }
 
+// Reads the fields from `first` on: whether each is a number, and then the numbers.
+pub fn read_numbers(
+    line: &[u8],
+    cuts: &[usize; text::CUTS],
+    first: usize,
+    numbers: &mut [i64],
+) -> bool
+    requires { ⌜ Cuts (now line) (now cuts) × (first + length (now numbers) ≤ fieldsMost) × (first + length (now numbers) ≤ length (split 9 (now line))) ⌝ }
+    ensures { λ r. ⌜ NumbersRead (readInts (take (length (now (numbers .entry))) (drop first (split 9 (now (line .entry)))))) r (now (numbers .exit)) ⌝ }
+{
+    let mut k = 0;
+    while k < numbers.len() {
+        let Number::Whole(z) = text::read_number(text::cut_field(line, cuts, first + k)) else {
+            return false;
+        };
+        numbers[k] = z;
+        k += 1;
+    }
+    true
+}
+
+// Reads all fields behind a line's first: whether they are as many as the numbers, each a number, and then the numbers.
+fn numbers_behind(
+    line: &[u8],
+    cuts: &[usize; text::CUTS],
+    count: usize,
+    numbers: &mut [i64],
+) -> bool
+    requires { ⌜ Cuts (now line) (now cuts) × (count ≡ length (split 9 (now line))) × (length (now numbers) < fieldsMost) ⌝ }
+    ensures { λ r. ⌜ NumbersRead (readCount (length (now (numbers .entry))) (drop 1 (split 9 (now (line .entry))))) r (now (numbers .exit)) ⌝ }
+{
+    if count != 1 + numbers.len() {
+        return false;
+    }
+    read_numbers(line, cuts, 1, numbers)
+}
+
 // The group line of a name, a unit and four numbers.
 fn head_made(name: Name, unit: Unit, a: i64, b: i64, c: i64, d: i64) -> Head
     ensures { λ r. ⌜ r ≡ countedHead name unit a b c d ⌝ }
 {
     let quantum = numbers::count_of(a);
     let parameters = numbers::count_of(b);
-    let ramps = numbers::count_of(c);
+    let functions = numbers::count_of(c);
     let grids = numbers::count_of(d);
     Head {
         name,
         unit,
         quantum,
         parameters,
-        ramps,
+        functions,
         grids,
     }
 }
@@ -197,14 +241,14 @@ fn refused_head(number: u64, place: u64) -> HeadRead
     }
 }
 
-// A ramp line that is refused.
-fn refused_ramp(number: u64, place: u64) -> RampRead
-    ensures { λ r. ⌜ r ≡ rampAnswer (bad (refusal number place)) ⌝ }
+// A function line that is refused.
+fn refused_function(number: u64, place: u64) -> FunctionRead
+    ensures { λ r. ⌜ r ≡ functionAnswer (bad (refusal number place)) ⌝ }
 {
-    let ramp = blank_ramp();
-    RampRead {
+    let function = blank_function();
+    FunctionRead {
         verdict: Verdict::Refused(Refusal { number, place }),
-        ramp,
+        function,
     }
 }
 
@@ -216,6 +260,19 @@ fn refused_grid(number: u64, place: u64) -> GridRead
     GridRead {
         verdict: Verdict::Refused(Refusal { number, place }),
         grid,
+    }
+}
+
+// Line n, whose fields make this function: refused by 2 where a number is outside its limit, A above B or START not below END.
+fn function_judged(function: Function, n: u64) -> FunctionRead
+    ensures { λ r. ⌜ r ≡ functionAnswer (cond (functionFits function) (good function) (bad (refusal 2 n))) ⌝ }
+{
+    if !group::function_fits(function) {
+        return refused_function(2, n);
+    }
+    FunctionRead {
+        verdict: Verdict::Accepted,
+        function,
     }
 }
 
@@ -252,15 +309,15 @@ pub fn group_line(line: &[u8]) -> HeadRead
     let Number::Whole(np) = text::read_number(text::cut_field(line, &cuts, 4)) else {
         return refused_head(1, 1);
     };
-    let Number::Whole(ramps) = text::read_number(text::cut_field(line, &cuts, 5)) else {
+    let Number::Whole(functions) = text::read_number(text::cut_field(line, &cuts, 5)) else {
         return refused_head(1, 1);
     };
     let Number::Whole(grids) = text::read_number(text::cut_field(line, &cuts, 6)) else {
         return refused_head(1, 1);
     };
     let name = read_name(text::cut_field(line, &cuts, 1));
-    let head = head_made(name, unit, q, np, ramps, grids);
-    if !group::head_numbers_fit(head.quantum, head.parameters, head.ramps, head.grids) {
+    let head = head_made(name, unit, q, np, functions, grids);
+    if !group::head_numbers_fit(head.quantum, head.parameters, head.functions, head.grids) {
         return refused_head(2, 1);
     }
     HeadRead {
@@ -269,34 +326,82 @@ pub fn group_line(line: &[u8]) -> HeadRead
     }
 }
 
-// Line n as a ramp.
-pub fn ramp_line(line: &[u8], n: u64) -> RampRead
-    ensures { λ r. ⌜ r ≡ rampAnswer (rampLine n (now (line .entry))) ⌝ }
+// Line n, cut into its fields, as a ramp.
+fn ramp_line(line: &[u8], cuts: &[usize; text::CUTS], count: usize, n: u64) -> FunctionRead
+    requires { ⌜ Cuts (now line) (now cuts) × (count ≡ length (split 9 (now line))) ⌝ }
+    ensures { λ r. ⌜ r ≡ functionAnswer (shapeFields 4 rampOf n (drop 1 (split 9 (now (line .entry))))) ⌝ }
+{
+    let mut z = [0i64; 4];
+    if !numbers_behind(line, cuts, count, &mut z) {
+        return refused_function(1, n);
+    }
+    let a = z[0];
+    let s0 = z[1];
+    let b = z[2];
+    let s1 = z[3];
+    let shape = Shape::Ramp(Ramp { a, s0, b, s1 });
+    function_judged(Function { shape }, n)
+}
+
+// Line n, cut into its fields, as a step.
+fn step_line(line: &[u8], cuts: &[usize; text::CUTS], count: usize, n: u64) -> FunctionRead
+    requires { ⌜ Cuts (now line) (now cuts) × (count ≡ length (split 9 (now line))) ⌝ }
+    ensures { λ r. ⌜ r ≡ functionAnswer (shapeFields 3 stepOf n (drop 1 (split 9 (now (line .entry))))) ⌝ }
+{
+    let mut z = [0i64; 3];
+    if !numbers_behind(line, cuts, count, &mut z) {
+        return refused_function(1, n);
+    }
+    let event = z[0];
+    let reference = z[1];
+    let mult = z[2];
+    let shape = Shape::Step(Step {
+        event,
+        reference,
+        mult,
+    });
+    function_judged(Function { shape }, n)
+}
+
+// Line n, cut into its fields, as a ramp2.
+fn ramp2_line(line: &[u8], cuts: &[usize; text::CUTS], count: usize, n: u64) -> FunctionRead
+    requires { ⌜ Cuts (now line) (now cuts) × (count ≡ length (split 9 (now line))) ⌝ }
+    ensures { λ r. ⌜ r ≡ functionAnswer (shapeFields 4 ramp2Of n (drop 1 (split 9 (now (line .entry))))) ⌝ }
+{
+    let mut z = [0i64; 4];
+    if !numbers_behind(line, cuts, count, &mut z) {
+        return refused_function(1, n);
+    }
+    let start = z[0];
+    let end = z[1];
+    let reference = z[2];
+    let mult = z[3];
+    let shape = Shape::Ramp2(Ramp2 {
+        start,
+        end,
+        reference,
+        mult,
+    });
+    function_judged(Function { shape }, n)
+}
+
+// Line n as a function.
+pub fn function_line(line: &[u8], n: u64) -> FunctionRead
+    ensures { λ r. ⌜ r ≡ functionAnswer (functionLine n (now (line .entry))) ⌝ }
 {
     let mut cuts = [0; text::CUTS];
-    if !cut_as(line, &mut cuts, b"ramp", 5) {
-        return refused_ramp(1, n);
+    let count = text::cut_fields(line, &mut cuts);
+    let word = text::cut_field(line, &cuts, 0);
+    if text::same_bytes(word, b"ramp") {
+        return ramp_line(line, &cuts, count, n);
     }
-    let Number::Whole(a) = text::read_number(text::cut_field(line, &cuts, 1)) else {
-        return refused_ramp(1, n);
-    };
-    let Number::Whole(s0) = text::read_number(text::cut_field(line, &cuts, 2)) else {
-        return refused_ramp(1, n);
-    };
-    let Number::Whole(b) = text::read_number(text::cut_field(line, &cuts, 3)) else {
-        return refused_ramp(1, n);
-    };
-    let Number::Whole(s1) = text::read_number(text::cut_field(line, &cuts, 4)) else {
-        return refused_ramp(1, n);
-    };
-    let ramp = Ramp { a, s0, b, s1 };
-    if !group::ramp_fits(ramp) {
-        return refused_ramp(2, n);
+    if text::same_bytes(word, b"step") {
+        return step_line(line, &cuts, count, n);
     }
-    RampRead {
-        verdict: Verdict::Accepted,
-        ramp,
+    if text::same_bytes(word, b"ramp2") {
+        return ramp2_line(line, &cuts, count, n);
     }
+    refused_function(1, n)
 }
 
 // Line n as a grid.
@@ -389,22 +494,46 @@ pub fn put_head(head: Head, out: &mut [u8], at: usize) -> usize
     let r = put_unit(unit, out, q);
     let s = text::put_count(head.quantum, out, r);
     let t = text::put_count(head.parameters, out, s);
-    let u = text::put_count(head.ramps, out, t);
+    let u = text::put_count(head.functions, out, t);
     let v = text::put_count(head.grids, out, u);
     text::put_byte(10, out, v)
 }
 
-// Writes a ramp line with its line feed.
-pub fn put_ramp(ramp: Ramp, out: &mut [u8], at: usize) -> usize
-    requires { ⌜ at + length (rampText ramp ++ (10 ∷ [])) ≤ length (now out) ⌝ }
-    ensures { λ r. ⌜ Wrote at (rampText ramp ++ (10 ∷ [])) (now (out .entry)) r (now (out .exit)) ⌝ }
+// Writes the first n numbers, each behind a tab.
+pub fn put_numbers(numbers: &[i64], n: usize, out: &mut [u8], at: usize) -> usize
+    requires { ⌜ (n ≤ length (now numbers)) × (at + length (led 9 (map intText (take n (now numbers)))) ≤ length (now out)) ⌝ }
+    ensures { λ r. ⌜ Wrote at (led 9 (map intText (take n (now (numbers .entry))))) (now (out .entry)) r (now (out .exit)) ⌝ }
 {
-    let p = text::put_bytes(b"ramp", out, at);
-    let q = text::put_number(ramp.a, out, p);
-    let r = text::put_number(ramp.s0, out, q);
-    let s = text::put_number(ramp.b, out, r);
-    let t = text::put_number(ramp.s1, out, s);
-    text::put_byte(10, out, t)
+    let mut next = at;
+    let mut k = 0;
+    while k < n {
+        next = text::put_number(numbers[k], out, next);
+        k += 1;
+    }
+    next
+}
+
+// Writes a line of a word and numbers, with its line feed.
+fn put_line(word: &[u8], numbers: &[i64], out: &mut [u8], at: usize) -> usize
+    requires { ⌜ at + length (join 9 (now word ∷ map intText (now numbers)) ++ (10 ∷ [])) ≤ length (now out) ⌝ }
+    ensures { λ r. ⌜ Wrote at (join 9 (now (word .entry) ∷ map intText (now (numbers .entry))) ++ (10 ∷ [])) (now (out .entry)) r (now (out .exit)) ⌝ }
+{
+    let p = text::put_bytes(word, out, at);
+    let q = put_numbers(numbers, numbers.len(), out, p);
+    text::put_byte(10, out, q)
+}
+
+// Writes a function line with its line feed.
+pub fn put_function(function: Function, out: &mut [u8], at: usize) -> usize
+    requires { ⌜ at + length (functionText function ++ (10 ∷ [])) ≤ length (now out) ⌝ }
+    ensures { λ r. ⌜ Wrote at (functionText function ++ (10 ∷ [])) (now (out .entry)) r (now (out .exit)) ⌝ }
+{
+    let shape = function.shape;
+    match shape {
+        Shape::Ramp(r) => put_line(b"ramp", &[r.a, r.s0, r.b, r.s1], out, at),
+        Shape::Step(s) => put_line(b"step", &[s.event, s.reference, s.mult], out, at),
+        Shape::Ramp2(r) => put_line(b"ramp2", &[r.start, r.end, r.reference, r.mult], out, at),
+    }
 }
 
 // Writes a grid line with its line feed.

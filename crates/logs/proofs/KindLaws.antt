@@ -19,8 +19,8 @@ use Rattle.group.specs.declared.Position.{Position}
 use Rattle.group.specs.declared.Refusal.{Refusal}
 use Rattle.group.specs.Record.{gridAt}
 use Rattle.group.specs.Refusals.{noRefusal}
+use Rattle.group.specs.Shapes.{intAt}
 use Rattle.line.specs.Names.{nameText}
-use Rattle.line.specs.Lines.{intAt}
 use Rattle.fix.specs.declared.Fix.{Fix}
 use Rattle.fix.specs.declared.Lookup.{Lookup}
 use Rattle.fix.specs.declared.Lookup.the-variants as L

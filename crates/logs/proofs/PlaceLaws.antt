@@ -15,7 +15,7 @@ use Rattle.group.specs.declared.Point.{Point}
 use Rattle.group.specs.declared.Verdict.{Verdict}
 use Rattle.group.specs.declared.Verdict.the-variants.{Accepted, Refused}
 use Rattle.group.specs.Numbers.{lonMost, latMost, dayMost, lonAdmitted, latAdmitted, dayFits}
-use Rattle.line.specs.Lines.{intAt}
+use Rattle.group.specs.Shapes.{intAt}
 use Rattle.judge.specs.Judge.{judged}
 use Rattle.lookup.specs.Lookup.{pointFits, lookedIn, looked}
 use Rattle.lookup.proofs.StageLaws.{looked-group, looked-accepted, looked-6, looked-9}

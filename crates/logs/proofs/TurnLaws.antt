@@ -18,8 +18,8 @@ use Rattle.group.specs.declared.Refusal.{Refusal}
 use Rattle.group.specs.declared.Verdict.the-variants.{Accepted}
 use Rattle.group.specs.Numbers.{nameMost, gridsMost}
 use Rattle.group.specs.Record.{gridAt}
+use Rattle.group.specs.Shapes.{intAt}
 use Rattle.line.specs.Names.{nameText}
-use Rattle.line.specs.Lines.{intAt}
 use Rattle.line.proofs.NameLaws.{name-len}
 use Rattle.line.proofs.KindLaws.{grid-name}
 use Rattle.abi.specs.Abi.{numberAt, gridOfWords, groupOfWords}

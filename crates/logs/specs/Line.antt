@@ -14,8 +14,8 @@ use Rattle.text.specs.Fields.{same, readInts}
 use Rattle.group.specs.declared.Group.{Group}
 use Rattle.group.specs.declared.Position.{Position}
 use Rattle.group.specs.Record.{gridAt}
+use Rattle.group.specs.Shapes.{intAt}
 use Rattle.line.specs.Names.{isName, nameText}
-use Rattle.line.specs.Lines.{intAt}
 use Rattle.fix.specs.declared.Lookup.{Lookup}
 use Rattle.fix.specs.declared.Lookup.the-variants as L
 use Rattle.fix.specs.Answers.{resultIn}

@@ -14,8 +14,8 @@ use Rattle.group.specs.declared.Position.{Position}
 use Rattle.group.specs.declared.Refusal.{Refusal}
 use Rattle.group.specs.Record.{gridAt}
 use Rattle.group.specs.Refusals.{noRefusal}
+use Rattle.group.specs.Shapes.{intAt}
 use Rattle.line.specs.Names.{isName, nameText}
-use Rattle.line.specs.Lines.{intAt}
 use Rattle.abi.specs.Abi.{joined}
 use Rattle.fix.specs.declared.Lookup.{Lookup}
 use Rattle.fix.specs.Answers.{lookupRefusal, lookupGrid, resultsOf}

@@ -9,7 +9,6 @@ use lib.ListN.{take}
 use Rattle.text.specs.Parts.{fieldOf}
 use Rattle.text.specs.Cuts.{Cut}
 use Rattle.text.specs.Number.{clamp}
-use Rattle.text.specs.Fields.{readInts}
 use Rattle.group.specs.declared.Group.{Group}
 use Rattle.group.specs.declared.Position.{Position}
 use Rattle.group.specs.Numbers.{lonMost, latMost, dayMost, resultMost}
@@ -23,11 +22,6 @@ use Rattle.exercise.specs.declared.Scale.{Scale}
 use Rattle.exercise.specs.Tables.{CallReady, scaleFor}
 use Rattle.logs.specs.declared.Turn.{Turn}
 use Rattle.logs.specs.Line.{positionOf, readEntry, lineKind}
-
--- these fields as numbers: whether each is one, and then the numbers as the code tells them apart
-pub record NumbersRead (fs : List (List ℕ)) (r : Bool) (numbers : List ℤ) : Type 0 where
-  pub good : r ≡ true → (zs : List ℤ) × (readInts fs ≡ some zs) × (map clamp zs ≡ numbers)
-  pub bad : r ≡ false → readInts fs ≡ none
 
 -- what a line of the form says: the numbers of its position and its shifts, and its name's field
 pub record Said (np : ℕ) (line cuts : List ℕ) (place values : List ℤ) : Type 0 where

@@ -14,7 +14,6 @@ use group::Verdict;
 use header::Written;
 use line::Form;
 use text::CUTS;
-use text::Number;
 ghost use mathlib.Core.Path.{_≡_};
 ghost use mathlib.Core.List.{map};
 ghost use Prim.Native.Nat.{_+_, _≤_, _<_};
@@ -32,7 +31,7 @@ ghost use Rattle.exercise.specs.Tables.{CallReady};
 ghost use Rattle.logs.specs.Line.{sameShifts, foundKind};
 ghost use Rattle.logs.specs.Log.{logFault, logJudged};
 ghost use Rattle.logs.specs.Writing.{lineText, foundWritten, foundAfter, lineWritten, lineAfter};
-ghost use Rattle.logs.specs.Reading.{NumbersRead, EntryRead, FoundIn, TurnReady, TurnTaken, FixFound};
+ghost use Rattle.logs.specs.Reading.{EntryRead, FoundIn, TurnReady, TurnTaken, FixFound};
 
 // The first bad line of a log, from 1, and its kind: 1 form, 2 lookup refused, 3 other grid, 4 other shift; 0 and 0 if the log passes.
 pub struct Fault {
@@ -76,22 +75,6 @@ const SHIFTS: usize = group::PARAMETERS_MOST as usize;
 // The most bytes of a written line.
 const LINE_MOST: usize = 102;
 
-// Reads as many fields of a cut line as there is room for, from field `first` on, as numbers: whether each is one.
-fn read_numbers(line: &[u8], cuts: &[usize; CUTS], first: usize, numbers: &mut [i64]) -> bool
-    requires { ⌜ Cuts (now line) (now cuts) × (first + length (now numbers) ≤ fieldsMost) × (first + length (now numbers) ≤ length (split 9 (now line))) ⌝ }
-    ensures { λ r. ⌜ NumbersRead (take (length (now (numbers .entry))) (drop first (split 9 (now (line .entry))))) r (now (numbers .exit)) ⌝ }
-{
-    let mut k = 0;
-    while k < numbers.len() {
-        let Number::Whole(z) = text::read_number(text::cut_field(line, cuts, first + k)) else {
-            return false;
-        };
-        numbers[k] = z;
-        k += 1;
-    }
-    true
-}
-
 // Reads a line with so many shifts: whether it is of the form, and then where its fields are cut and the numbers that it says.
 fn read_entry(
     line: &[u8],
@@ -109,10 +92,10 @@ fn read_entry(
     let Form::Named = line::name_form(text::cut_field(line, cuts, GRID_FIELD)) else {
         return false;
     };
-    if !read_numbers(line, cuts, PLACE_FIELD, place) {
+    if !line::read_numbers(line, cuts, PLACE_FIELD, place) {
         return false;
     }
-    read_numbers(line, cuts, SHIFT_FIELD, &mut values[..np])
+    line::read_numbers(line, cuts, SHIFT_FIELD, &mut values[..np])
 }
 
 // Whether grid k of a group's numbers has this name.
@@ -292,26 +275,12 @@ pub fn log_words(words: &[i64; GROUP_WORDS], nodes: &[i32], log: &[u8]) -> Judge
 // Judges a log, one line for each position: `fix` LON LAT DAY GRID V1 .. VNP, parted by tabs, each line closed by its line feed.
 // Answers the first bad line, from 1, and its kind: 1 not of this form, 2 the lookup is refused, 3 another grid is chosen, 4 the shifts
 // are others; 0 and 0 if the log passes, as an empty one does. Refusals 2 to 5 (the group), then 13 (the node list ends before some
-// grid's range does). With document 01's grid `basin` and no ramps, `fix 5 5 0 basin 55` passes, with tabs for the spaces.
+// grid's range does). With document 01's grid `basin` and no functions, `fix 5 5 0 basin 55` passes, with tabs for the spaces.
 pub fn judge_log(group: Group, nodes: &[i32], log: &[u8]) -> Judgement
     ensures { λ r. ⌜ r ≡ logJudged group (now (nodes .entry)) (now (log .entry)) ⌝ }
 {
     let words = abi::numbers_of(group);
     log_words(&words, nodes, log)
-}
-
-// Writes the first n numbers, each behind a tab.
-fn put_numbers(numbers: &[i64], n: usize, out: &mut [u8], at: usize) -> usize
-    requires { ⌜ (n ≤ length (now numbers)) × (at + length (led 9 (map intText (take n (now numbers)))) ≤ length (now out)) ⌝ }
-    ensures { λ r. ⌜ Wrote at (led 9 (map intText (take n (now (numbers .entry))))) (now (out .entry)) r (now (out .exit)) ⌝ }
-{
-    let mut next = at;
-    let mut k = 0;
-    while k < n {
-        next = text::put_number(numbers[k], out, next);
-        k += 1;
-    }
-    next
 }
 
 // Writes the line of a fix at a position, with its line feed.
@@ -327,7 +296,7 @@ fn put_line(words: &[i64; GROUP_WORDS], position: Position, f: Fix, out: &mut [u
     let name = grid.name;
     let t = line::put_name(name, out, s);
     let results = [f.first, f.second, f.third];
-    let u = put_numbers(&results, abi::parameter_count(words) as usize, out, t);
+    let u = line::put_numbers(&results, abi::parameter_count(words) as usize, out, t);
     text::put_byte(10, out, u)
 }
 

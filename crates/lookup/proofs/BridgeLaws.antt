@@ -120,7 +120,7 @@ module _ (g : Group) (nodes : List ℤ) (p : Point) (t : ℤ) (r : LookupReady g
             (λ z. let q : c ≡ suc (c - 1) = omega arith in chosen-holds g lon lat (c - 1) (sym told ∙ q) .1)
             (λ z. told-used (c - 1) (omega arith))
 
-        pub told-fix : {f : ℤ} → f ≡ factorOf (g .ramp) (g .ramps) t
+        pub told-fix : {f : ℤ} → f ≡ factorOf (g .function) (g .functions) t
             → fixAt c (λ k. offsetIn (frameAt frames k) (g .parameters) a b) nodes f ≡ fixOf g nodes p t
         told-fix ef = fix-here c a told told-used ef
 

@@ -42,7 +42,7 @@ pub record Found (g : Group) (nodes : List ℤ) (p : Point) (t : ℤ) (f : Fix) 
   pub no-mark : cornerSome isMark (offsetOf (gridAt g k) (g .parameters) p) nodes ≡ false
   pub no-beyond : cornerSome isBeyond (offsetOf (gridAt g k) (g .parameters) p) nodes ≡ false
   pub number : f .grid ≡ suc k
-  pub results : (q : ℕ) → q < 3 → resultIn f q ≡ resultAt (offsetOf (gridAt g k) (g .parameters) p) nodes (factorOf (g .ramp) (g .ramps) t) q
+  pub results : (q : ℕ) → q < 3 → resultIn f q ≡ resultAt (offsetOf (gridAt g k) (g .parameters) p) nodes (factorOf (g .function) (g .functions) t) q
 
 same-fix : (e f : Fix) → L.Fix e ≡ L.Fix f → e ≡ f
 same-fix e f h = cc
@@ -60,7 +60,7 @@ found g nodes p t f e =
     let b = passed-if L.Refused (L.Fix f) (no-fix f) (not (pointFits p)) 6 0 _ (a .1) in
     let c = passed-if L.Refused (L.Fix f) (no-fix f) (not (dayFits t)) 9 0 _ (b .1) in
     let d = passed-first L.Refused (L.Fix f) (no-fix f) (endsEarly g (length nodes)) (g .grids) 13 1 _ (c .1) in
-    let s = choice-stage (chosenIn g (p .lon .0) (p .lat .0)) (λ k. offsetOf (gridAt g k) (g .parameters) p) nodes (factorOf (g .ramp) (g .ramps) t) f (d .1) in
+    let s = choice-stage (chosenIn g (p .lon .0) (p .lat .0)) (λ k. offsetOf (gridAt g k) (g .parameters) p) nodes (factorOf (g .function) (g .functions) t) f (d .1) in
     let k = s .0 in let l = offsetOf (gridAt g k) (g .parameters) p in
     let m = passed-if L.Refused (L.Fix f) (no-fix f) (cornerSome isMark l nodes) 8 0 _ (s .1 .1) in
     let n = passed-if L.Refused (L.Fix f) (no-fix f) (cornerSome isBeyond l nodes) 11 0 _ (m .1) in
@@ -78,5 +78,5 @@ found g nodes p t f e =
       no-mark = m .0;
       no-beyond = n .0;
       number = ap (λ (x : Fix). x .grid) (sym w);
-      results = each f (resultAt l nodes (factorOf (g .ramp) (g .ramps) t)) (suc k) w;
+      results = each f (resultAt l nodes (factorOf (g .function) (g .functions) t)) (suc k) w;
     }

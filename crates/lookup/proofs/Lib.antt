@@ -2,7 +2,7 @@
 pub mod OffsetLaws
 pub mod FixAtLaws
 pub mod BridgeLaws
-pub mod RampLaws
+pub mod FunctionLaws
 pub mod StageLaws
 pub mod TableLaws
 pub mod BestLaws
@@ -15,3 +15,4 @@ pub mod Demand2
 pub mod Order5
 pub mod AnswerLaws
 pub mod Order6
+pub mod Order7

@@ -1,17 +1,18 @@
 -- A point that a grid of an accepted group holds lies in the grid: what its cell needs.
 use Prim.Native.Nat.{ℕ, _+_, _-_, _*_, _≤_, _<_}
-use mathlib.Core.Path.{_≡_, refl, sym, subst}
+use mathlib.Core.Path.{_≡_, refl, sym}
 use mathlib.Core.Bool.{Bool, true, false, cond}
 use mathlib.Core.Logic.{⊎-elim}
 use native.Mathlib.Omega.{arith}
 use borrow.Author.Tests.{leb-true}
-use lib.Dec.{T, leb}
+use lib.Dec.{leb}
 use lib.IntN.{ℤ, pos, negsuc, _+ℤ_, _-ℤ_, _*ℤ_, natAbs}
 use lib.Signed.{leZ}
 use Rattle.numbers.specs.Order.{between, minZ, maxZ}
 use Rattle.numbers.proofs.Bools.{and-left, and-right}
 use Rattle.numbers.proofs.OrderLaws.{size-mul, within-size}
-use Rattle.numbers.proofs.Diff.{up, dn, up-or-dn, natAbs-diff, diff-self, diff-+, diff--, ≤-diff}
+use Rattle.numbers.proofs.Diff.{up-or-dn, natAbs-diff, diff-self, diff-+, diff--}
+use Rattle.numbers.proofs.SignedLaws.{not-above}
 use Rattle.numbers.proofs.Machine.{raised-apart}
 use Rattle.group.specs.declared.Grid.{Grid}
 use Rattle.group.specs.declared.Group.{Group}
@@ -34,9 +35,6 @@ use Rattle.extent.specs.Sides.{lonFromLeast, latFromLeast}
 
 -- ---- along one axis
 
-le : (x y : ℤ) → leZ x y ≡ true → up x + dn y ≤ up y + dn x
-le x y e = ≤-diff {x = x} {y = y} (record { le = subst T (sym e) tt })
-
 -- between the first node and one n spacings away, the distance from the first is at most n spacings
 module _ (a s x : ℤ) (n : ℕ) where
   far : ℤ
@@ -45,13 +43,13 @@ module _ (a s x : ℤ) (n : ℕ) where
   by : (t : Bool) → leZ a far ≡ t → between (cond t a far) (cond t far a) x ≡ true → natAbs (x -ℤ a) ≤ natAbs (pos n *ℤ s)
   unfolding far
   by true e h =
-      let p = le a x (and-left (leZ a x) (leZ x far) h) in let q = le x far (and-right (leZ a x) (leZ x far) h) in
+      let p = not-above a x (and-left (leZ a x) (leZ x far) h) in let q = not-above x far (and-right (leZ a x) (leZ x far) h) in
       let w = pos n *ℤ s in
       let f = diff-+ (diff-self a) (diff-self w) .diff in let d = diff-- (diff-self x) (diff-self a) .diff in
       let m = natAbs-diff (x -ℤ a) in let k = natAbs-diff w in
       ⊎-elim (λ u. omega arith) (λ u. ⊎-elim (λ v. omega arith) (λ v. omega arith) (up-or-dn w)) (up-or-dn (x -ℤ a))
   by false e h =
-      let p = le far x (and-left (leZ far x) (leZ x a) h) in let q = le x a (and-right (leZ far x) (leZ x a) h) in
+      let p = not-above far x (and-left (leZ far x) (leZ x a) h) in let q = not-above x a (and-right (leZ far x) (leZ x a) h) in
       let w = pos n *ℤ s in
       let f = diff-+ (diff-self a) (diff-self w) .diff in let d = diff-- (diff-self x) (diff-self a) .diff in
       let m = natAbs-diff (x -ℤ a) in let k = natAbs-diff w in

@@ -115,8 +115,8 @@ module _ (g h : Group) (k t : ℕ) (e : judged g ≡ Accepted) (w : WrittenTurne
 
     same-fix : (nodes : List ℤ) (d : ℤ) → fixOf h nodes p d ≡ fixOf g nodes p d
     same-fix nodes d =
-        (λ i. fixAt (same .choice lon lat admitted (and-right (lonAdmitted lon) (latAdmitted lat) fits) i) (seenFrom h p) nodes (factorOf (w .ramp i) (w .ramps i) d))
-        ∙ fix-at-same (chosenIn g lon lat) (seenFrom h p) (seenFrom g p) nodes (factorOf (g .ramp) (g .ramps) d)
+        (λ i. fixAt (same .choice lon lat admitted (and-right (lonAdmitted lon) (latAdmitted lat) fits) i) (seenFrom h p) nodes (factorOf (w .function i) (w .functions i) d))
+        ∙ fix-at-same (chosenIn g lon lat) (seenFrom h p) (seenFrom g p) nodes (factorOf (g .function) (g .functions) d)
         (λ j q. seen-same j (chosen-holds g lon lat j q .1))
 
   same-answer : (nodes : List ℤ) (p : Point) (d : ℤ) → lookedIn h nodes p d ≡ lookedIn g nodes p d

@@ -118,7 +118,7 @@ module _ (g : Group) (nodes : List ℤ) (p : Point) (t : ℤ) where
       row-stage L.Refused lookupRefusal (λ r. refl) _ From13 (not (dayFits t)) 9 _ (λ e. outside dayMost t (not-true _ e)) (λ e. inside dayMost t (not-false _ e))
       (λ c.
       short-stage L.Refused lookupRefusal (λ r. refl) From7 g nodes (fixOf g nodes p t)
-      (λ d. in-choice a (not-false _ b) (chosenIn g (p .lon .0) (p .lat .0)) refl (factorOf (g .ramp) (g .ramps) t)))))
+      (λ d. in-choice a (not-false _ b) (chosenIn g (p .lon .0) (p .lat .0)) refl (factorOf (g .function) (g .functions) t)))))
 
   single : Single (Refuses g nodes p t)
   unfolding Refuses

@@ -1,4 +1,4 @@
--- The results of an accepted lookup: how near they are, within what range, at a node, with no ramps, and how large.
+-- The results of an accepted lookup: how near they are, within what range, at a node, with no functions, and how large.
 use Prim.Native.Nat.{ℕ, zero, suc, _*_, _≤_, _<_}
 use mathlib.Core.Path.{_≡_, refl, sym, ap, _∙_, subst}
 use mathlib.Core.List.{List}
@@ -52,7 +52,7 @@ module _ (g : Group) (nodes : List ℤ) (p : Point) (t : ℤ) (f : Fix) (e : loo
   unfolding offsetOf
   in-offset q h = h
 
-  result-is : (q : ℕ) → q < g .parameters → q < 3 → resultIn f q ≡ resultOf (valueIn l nodes q) (factorOf (g .ramp) (g .ramps) t)
+  result-is : (q : ℕ) → q < g .parameters → q < 3 → resultIn f q ≡ resultOf (valueIn l nodes q) (factorOf (g .function) (g .functions) t)
   unfolding resultAt
   result-is q h m = w .results q m ∙ rw (lt-ltb q (l .np) (in-offset q h)) refl
 
@@ -66,23 +66,23 @@ module _ (g : Group) (nodes : List ℤ) (p : Point) (t : ℤ) (f : Fix) (e : loo
         near = value-half-step c v;
         least = value-least c v;
         most = value-most c v;
-        plain = λ none. r ∙ ap (resultOf (valueIn l nodes q)) (factor-none (g .ramp) t (g .ramps) none) ∙ result-plain (valueIn l nodes q);
+        plain = λ none. r ∙ ap (resultOf (valueIn l nodes q)) (factor-none (g .function) t (g .functions) none) ∙ result-plain (valueIn l nodes q);
         small =
             subst (λ (z : ℤ). natAbs z ≤ resultMost) (sym r)
             (result-bound (valueIn l nodes q) _ (P.value-most inside nodes (w .no-beyond) q (in-offset q h))
-            (factor-bound (g .ramp) t (g .ramps) (accepted-head g a .ramps) (accepted g a .ramp)));
+            (factor-bound (g .function) t (g .functions) (accepted-head g a .functions) (accepted g a .function)));
       }
 
   -- at node (i, j) of the chosen grid the value is the node's, whatever the cell's other corners hold
   pub at-node : (i j q : ℕ) → i < gridAt g (w .k) .ni → j < gridAt g (w .k) .nj → q < g .parameters
       → lonUsed (lonSpan (gridAt g (w .k))) (p .lon .0) ≡ gridAt g (w .k) .lon .0 +ℤ pos i *ℤ gridAt g (w .k) .dlon
       → p .lat .0 ≡ gridAt g (w .k) .lat .0 +ℤ pos j *ℤ gridAt g (w .k) .dlat
-      → resultIn f q ≡ resultOf (nodeAt l nodes i j q) (factorOf (g .ramp) (g .ramps) t)
+      → resultIn f q ≡ resultOf (nodeAt l nodes i j q) (factorOf (g .function) (g .functions) t)
   unfolding offsetOf
   at-node i j q hi hj hq ex ey =
       let c = gridAt g (w .k) in
       answered q hq .result
-      ∙ ap (λ (z : ℤ). resultOf z (factorOf (g .ramp) (g .ramps) t))
+      ∙ ap (λ (z : ℤ). resultOf z (factorOf (g .function) (g .functions) t))
       (value-node inside nodes q i j hi hj (node-distance (lonUsed (lonSpan c) (p .lon .0)) (c .lon .0) (c .dlon) i ex) (node-distance (p .lat .0) (c .lat .0) (c .dlat) j ey))
 
   -- the results behind NP are 0

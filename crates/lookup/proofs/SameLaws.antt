@@ -28,7 +28,7 @@ module _ (g : Group) (nodes : List ℤ) (p : Point) (t : ℤ) (k : ℕ) (a : loo
       (w .ready, w .chosen ∙ sym (w .number) ∙ sym (ap lookupGrid (u .1)) ∙ c)
 
   -- and is the fix in that grid
-  pub in-grid : looked g nodes p t ≡ fixIn (seenFrom g p k) nodes (factorOf (g .ramp) (g .ramps) t) (suc k)
+  pub in-grid : looked g nodes p t ≡ fixIn (seenFrom g p k) nodes (factorOf (g .function) (g .functions) t) (suc k)
   in-grid =
       let w = named-chosen in
       looked-accepted g nodes p t (w .0 .accepted) ∙ looked-on g nodes p t (w .0) ∙ fix-at-suc _ _ _ _ k (w .1)
@@ -38,6 +38,6 @@ pub same-answer : (g other : Group) (nodes others : List ℤ) (p : Point) (t : �
 same-answer g other nodes others p t s =
     let k = s .k in
     in-grid g nodes p t k (s .accepted) (s .choice)
-    ∙ fix-same (seenFrom g p k) nodes others (s .corners) (factorOf (g .ramp) (g .ramps) t) (suc k)
+    ∙ fix-same (seenFrom g p k) nodes others (s .corners) (factorOf (g .function) (g .functions) t) (suc k)
     ∙ (λ i. fixIn (offsetOf (s .grid i) (s .parameters i) p) others (s .factor i) (suc k))
     ∙ sym (in-grid other others p t k (s .accepted-too) (s .stays))

@@ -106,7 +106,7 @@ Refuses g nodes p t =
 
 -- of parameter q: the value of the cell in steps, and the result
 pub record Answered (g : Group) (nodes : List ℤ) (p : Point) (t : ℤ) (l : Offset) (q : ℕ) (r : ℤ) : Type 0 where
-  pub result : r ≡ resultOf (valueIn l nodes q) (factorOf (g .ramp) (g .ramps) t)
+  pub result : r ≡ resultOf (valueIn l nodes q) (factorOf (g .function) (g .functions) t)
   -- at most half a step from the exact fraction
   pub near :
       2 * natAbs ((pos (cellOf l .weights .total) *ℤ valueIn l nodes q) -ℤ weightedSum (cellOf l .weights) (cornersOf l nodes q))
@@ -114,8 +114,8 @@ pub record Answered (g : Group) (nodes : List ℤ) (p : Point) (t : ℤ) (l : Of
   -- never outside the range of the used corners
   pub least : (z : ℤ) → EachUsed (λ v. z ≤ℤ v) (cellOf l .weights) (cornersOf l nodes q) → z ≤ℤ valueIn l nodes q
   pub most : (z : ℤ) → EachUsed (λ v. v ≤ℤ z) (cellOf l .weights) (cornersOf l nodes q) → valueIn l nodes q ≤ℤ z
-  -- with no ramps the result is the value
-  pub plain : g .ramps ≡ 0 → r ≡ valueIn l nodes q
+  -- with no functions the result is the value
+  pub plain : g .functions ≡ 0 → r ≡ valueIn l nodes q
   -- 64 bits suffice
   pub small : natAbs r ≤ resultMost
 
@@ -130,7 +130,7 @@ pub record LookedUp (g : Group) (nodes : List ℤ) (p : Point) (t : ℤ) (r : Lo
   pub at-node : (i j q : ℕ) → i < gridAt g k .ni → j < gridAt g k .nj → q < g .parameters
       → lonUsed (lonSpan (gridAt g k)) (p .lon .0) ≡ gridAt g k .lon .0 +ℤ pos i *ℤ gridAt g k .dlon
       → p .lat .0 ≡ gridAt g k .lat .0 +ℤ pos j *ℤ gridAt g k .dlat
-      → resultsOf r q ≡ resultOf (nodeAt (seenFrom g p k) nodes i j q) (factorOf (g .ramp) (g .ramps) t)
+      → resultsOf r q ≡ resultOf (nodeAt (seenFrom g p k) nodes i j q) (factorOf (g .function) (g .functions) t)
 
 -- two accepted lookups that differ in nothing but nodes outside the used corners of the chosen grid, and other grids' records: the choice
 -- stays, and its grid, NP, the day's factor and what the used corners hold are the same
@@ -142,7 +142,7 @@ pub record SameChoice (g other : Group) (nodes others : List ℤ) (p : Point) (t
   pub stays : lookupGrid (looked other others p t) ≡ suc k
   pub grid : gridAt g k ≡ gridAt other k
   pub parameters : g .parameters ≡ other .parameters
-  pub factor : factorOf (g .ramp) (g .ramps) t ≡ factorOf (other .ramp) (other .ramps) t
+  pub factor : factorOf (g .function) (g .functions) t ≡ factorOf (other .function) (other .functions) t
   pub corners : SameNodes (seenFrom g p k) nodes others
 
 -- ---- the whole

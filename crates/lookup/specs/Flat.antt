@@ -7,11 +7,11 @@ use lib.IntN.{ℤ}
 use lib.ListN.{length, take, drop}
 use Rattle.group.specs.declared.Group.{Group}
 use Rattle.group.specs.Numbers.{lonTurn, nodesMost, startMost, gridsMost}
-use Rattle.group.specs.Limits.{rampFits}
+use Rattle.group.specs.Limits.{functionFits}
 use Rattle.abi.specs.Words.{headWords, gridsFrom}
 use Rattle.flat.specs.declared.Frame.{Frame}
 use Rattle.flat.specs.Frames.{frameAt}
-use Rattle.flat.specs.Ramps.{rampIn}
+use Rattle.flat.specs.Functions.{functionIn}
 use Rattle.flat.specs.Lists.{Flat, FlatRoom}
 use Rattle.numbers.specs.Lists.{at}
 use Rattle.choice.specs.Rect.{rectHolds, turnUsed}
@@ -59,13 +59,13 @@ pub record Laid (g : Group) (sides ranks frames : List ℕ) : Type 0 where
 abbrev pub FramesSized : List ℕ → ℕ → Type 0
 FramesSized frames n = (k : ℕ) → k < n → (frameAt frames k .ni ≤ nodesMost) × (frameAt frames k .nj ≤ nodesMost) × (frameAt frames k .start ≤ startMost)
 
--- the numbers of all ramps among those of a group
-abbrev pub rampRows : List ℤ → List ℤ
-rampRows numbers = take (gridsFrom - headWords) (drop headWords numbers)
+-- the numbers of all functions among those of a group
+abbrev pub functionRows : List ℤ → List ℤ
+functionRows numbers = take (gridsFrom - headWords) (drop headWords numbers)
 
 -- the first n of them are within their limits
-abbrev pub RampsFit : List ℤ → ℕ → Type 0
-RampsFit numbers n = (k : ℕ) → k < n → rampFits (rampIn (rampRows numbers) k) ≡ true
+abbrev pub FunctionsFit : List ℤ → ℕ → Type 0
+FunctionsFit numbers n = (k : ℕ) → k < n → functionFits (functionIn (functionRows numbers) k) ≡ true
 
 -- the longitude that the grid numbered c, from 1, uses of a point (x, y), by the list of sides; x itself where c is 0, for none
 abbrev pub usedAt : List ℕ → ℕ → (x y : ℕ) → ℕ

@@ -5,3 +5,4 @@ pub mod Flat
 pub mod Demand2
 pub mod Order5
 pub mod Order6
+pub mod Order7

@@ -57,7 +57,7 @@ fixAt (suc k) offset nodes factor = fixIn (offset k) nodes factor (suc k)
 
 -- 7, 8 or 11, or the fix
 abbrev pub fixOf : Group → List ℤ → Point → ℤ → Lookup
-fixOf g nodes p t = fixAt (chosenIn g (p .lon .0) (p .lat .0)) (λ k. offsetOf (gridAt g k) (g .parameters) p) nodes (factorOf (g .ramp) (g .ramps) t)
+fixOf g nodes p t = fixAt (chosenIn g (p .lon .0) (p .lat .0)) (λ k. offsetOf (gridAt g k) (g .parameters) p) nodes (factorOf (g .function) (g .functions) t)
 
 -- in an accepted group: 6, 9, 13, then 7, 8, 11
 unfoldable pub lookedIn : Group → List ℤ → Point → ℤ → Lookup

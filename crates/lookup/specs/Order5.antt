@@ -32,7 +32,7 @@ usedIn g p k = lonUsed (lonSpan (gridAt g k)) (p .lon .0)
 -- 'the first that does, in that order, is used for the cell', of an accepted lookup in grid k, from 0
 pub record UsedInCell (g : Group) (nodes : List ℤ) (p : Point) (t : ℤ) (k : ℕ) : Type 0 where
   -- the answer is the fix at the point as it is seen from the grid
-  pub answer : looked g nodes p t ≡ fixIn (seenFrom g p k) nodes (factorOf (g .ramp) (g .ramps) t) (suc k)
+  pub answer : looked g nodes p t ≡ fixIn (seenFrom g p k) nodes (factorOf (g .function) (g .functions) t) (suc k)
   -- it is seen at the longitude used: so far from the first node
   pub cell : seenFrom g p k .dx ≡ natAbs (usedIn g p k -ℤ gridAt g k .lon .0)
   -- which lies in the extent

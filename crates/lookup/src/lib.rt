@@ -16,7 +16,7 @@ ghost use lib.Dec.{ltb};
 ghost use lib.IntN.{natAbs};
 ghost use lib.ListN.{length};
 ghost use Rattle.numbers.specs.First.{first};
-ghost use Rattle.group.specs.Numbers.{lonTurn, parametersMost, rampsMost, gridsMost, dayFits, factorMost};
+ghost use Rattle.group.specs.Numbers.{lonTurn, parametersMost, functionsMost, gridsMost, dayFits, factorMost};
 ghost use Rattle.abi.specs.Words.{groupWords};
 ghost use Rattle.abi.specs.Abi.{groupOfWords};
 ghost use Rattle.flat.specs.Frames.{frameAt, frameEnd};
@@ -28,7 +28,7 @@ ghost use Rattle.judge.specs.Judge.{judged};
 ghost use Rattle.day.specs.Flat.{factorIn};
 ghost use Rattle.lookup.specs.Answer.{storedRecord};
 ghost use Rattle.lookup.specs.Lookup.{pointFits, nodesJudged, fixAt, fixOf, lookedIn, looked, LookupReady};
-ghost use Rattle.lookup.specs.Flat.{distance, offsetIn, Chosen, Laid, FramesSized, rampRows, RampsFit};
+ghost use Rattle.lookup.specs.Flat.{distance, offsetIn, Chosen, Laid, FramesSized, functionRows, FunctionsFit};
 ghost use Rattle.lookup.specs.Flat.{usedAt, fixHeld, HeldChosen, fixRanked, LaidRows};
 
 // A lookup's answer as C has it: the number and the place of its refusal, 0 and 0 if there is none, and the chosen grid's number and
@@ -217,14 +217,14 @@ pub fn day_fits(day: i64) -> bool
     (group::DAY_LEAST <= day) & (day <= group::DAY_MOST)
 }
 
-// The factor of the first ramps of a group's numbers, so many, on a day within the limit, in millionths.
-pub fn factor_on(numbers: &[i64], ramps: u64, day: i64) -> i64
-    requires { ⌜ (groupWords ≤ length (now numbers)) × (ramps ≤ rampsMost) × RampsFit (now numbers) ramps × (dayFits day ≡ true) ⌝ }
-    ensures { λ r. ⌜ r ≡ factorIn (rampRows (now (numbers .entry))) ramps day ⌝ }
+// The factor of the first functions of a group's numbers, so many, on a day within the limit, in millionths.
+pub fn factor_on(numbers: &[i64], functions: u64, day: i64) -> i64
+    requires { ⌜ (groupWords ≤ length (now numbers)) × (functions ≤ functionsMost) × FunctionsFit (now numbers) functions × (dayFits day ≡ true) ⌝ }
+    ensures { λ r. ⌜ r ≡ factorIn (functionRows (now (numbers .entry))) functions day ⌝ }
 {
     let from = abi::HEAD_WORDS;
     let to = abi::GRIDS_FROM;
-    day::day_factor(&numbers[from..to], ramps as usize, day)
+    day::day_factor(&numbers[from..to], functions as usize, day)
 }
 
 // The lookup in an accepted group, whose flat lists are these, of a point and a day within the limits, with every node range within the
@@ -246,7 +246,7 @@ fn look_in(
     let y = extent::lat_from_least(point.lat);
     let c = chosen_flat(sides, ranks, abi::grid_count(words) as usize, x, y);
     let at = used_at(sides, c, x, y);
-    let factor = factor_on(words, abi::ramp_count(words), day);
+    let factor = factor_on(words, abi::function_count(words), day);
     fix_chosen(frames, c, abi::parameter_count(words), nodes, factor, at, y)
 }
 
@@ -315,7 +315,7 @@ pub fn look_words(words: &[i64; GROUP_WORDS], nodes: &[i32], point: Point, day: 
 
 // What a group says of a point on a day: the number of the chosen grid and its results in steps, or the first refusal of 2 to 5
 // (the group), 6 (the point is outside the limits), 9 (the day is), 13 (the node list ends before some grid's range does), 7 (no
-// grid holds the point) and 8 (a used corner is the mark). With document 01's grid `basin`, no ramps and the nodes
+// grid holds the point) and 8 (a used corner is the mark). With document 01's grid `basin`, no functions and the nodes
 // 0 10 20 / 100 110 120, the point (5, 5) on any day answers grid 1 and 55, 0, 0.
 pub fn lookup(group: Group, nodes: &[i32], point: Point, day: i64) -> Lookup
     ensures { λ r. ⌜ r ≡ looked group (now (nodes .entry)) point day ⌝ }

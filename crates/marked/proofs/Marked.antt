@@ -9,7 +9,7 @@ use Rattle.judge.specs.Judge.{sameName, sameRank, judgedLines, judgedLimits, ju
 use Rattle.choice.specs.Choice.{betterOf, chosen}
 use Rattle.ingroup.specs.InGroup.{chosenIn}
 use Rattle.cell.specs.Cell.{cellIndex, cellAlong, weightsOf, usedSome, valueOf}
-use Rattle.day.specs.Day.{rampFactor, sumOf, factorOf, resultOf}
+use Rattle.day.specs.Day.{rampFactor, shapeFactor, sumOf, factorOf, resultOf}
 use Rattle.fix.specs.Fix as F
 use Rattle.lookup.specs.Lookup.{offsetOf, fixAt, lookedIn, looked}
 use Rattle.region.specs.First.{firstInRow, firstInRows, firstIn}
@@ -22,7 +22,7 @@ use Rattle.marked.specs.Marked.{CaseHolds, AllHold, table}
 pub all-marked : AllHold table
 unfolding AllHold CaseHolds table first gain nearest roundZ byteFits nameFits nameBlank headFits gridFits gridBlank
     farEdge spanOf lonSpan latSpan holds meet inside sameName sameRank refuseIf refuseFirst judgedLines judgedLimits judgedGrids judgedRanks judged
-    betterOf chosen cellIndex cellAlong weightsOf usedSome valueOf rampFactor sumOf factorOf resultOf
+    betterOf chosen cellIndex cellAlong weightsOf usedSome valueOf rampFactor shapeFactor sumOf factorOf resultOf
     F.cellOf F.cornersAt F.cornersOf F.cornerSome F.valueIn F.resultAt F.fixIn
     lonHolds lonUsed lonInward lonMeet chosenIn offsetOf fixAt lookedIn looked firstInRow firstInRows firstIn ofRank byRank entriesOf areaFits areaJudged inForceOf
 all-marked = (refl, (refl, (refl, (refl, (refl, (refl, (refl, (refl, (refl, (refl, (refl, (refl, (refl, (refl, tt))))))))))))))

@@ -6,13 +6,14 @@ use lib.IntN.{ℤ, pos, negℤ}
 use lib.ListN.{replicate, length}
 use Rattle.group.specs.declared.Name.{Name}
 use Rattle.group.specs.declared.Unit.the-variants.{Metre}
-use Rattle.group.specs.declared.Ramp.{Ramp}
+use Rattle.group.specs.declared.Shape.the-variants as S
+use Rattle.group.specs.declared.Function.{Function}
 use Rattle.group.specs.declared.Grid.{Grid}
 use Rattle.group.specs.declared.Group.{Group}
 use Rattle.group.specs.declared.Point.{Point}
 use Rattle.group.specs.declared.Refusal.{Refusal}
 use Rattle.group.specs.Refusals.{refusal, noRefusal, verdictRefusal}
-use Rattle.group.specs.Blank.{blankRamp, blankGrid}
+use Rattle.group.specs.Blank.{blankFunction, blankGrid}
 use Rattle.group.specs.Numbers.{mark}
 use Rattle.day.specs.Day.{factorOf}
 use Rattle.fix.specs.declared.Lookup.{Lookup}
@@ -44,27 +45,27 @@ grid n x ni r =
       start = 0;
     }
 
--- the group `dock` in metres, Q 13 and NP 1, with these ramps and grids
-abbrev pub dock : List Ramp → List Grid → Group
-dock ramps grids =
+-- the group `dock` in metres, Q 13 and NP 1, with these functions and grids
+abbrev pub dock : List Function → List Grid → Group
+dock functions grids =
     record {
       name = name (100 ∷ 111 ∷ 99 ∷ 107 ∷ []);
       unit = Metre;
       quantum = 13;
       parameters = 1;
-      ramps = length ramps;
+      functions = length functions;
       grids = length grids;
-      ramp = ramps ++ replicate (8 - length ramps) blankRamp;
+      function = functions ++ replicate (8 - length functions) blankFunction;
       grid = grids ++ replicate (64 - length grids) blankGrid;
     }
 
--- its grid `basin` over the longitudes 0 to 20, alone, with these ramps
-abbrev pub basin : List Ramp → Group
-basin ramps = dock ramps (grid (name (98 ∷ 97 ∷ 115 ∷ 105 ∷ 110 ∷ [])) 0 3 1 ∷ [])
+-- its grid `basin` over the longitudes 0 to 20, alone, with these functions
+abbrev pub basin : List Function → Group
+basin functions = dock functions (grid (name (98 ∷ 97 ∷ 115 ∷ 105 ∷ 110 ∷ [])) 0 3 1 ∷ [])
 
 -- its ramp: document 01's header is `basin (ramp ∷ [])`
-abbrev pub ramp : Ramp
-ramp = record { a = pos 100; s0 = pos 0; b = pos 200; s1 = pos 1000000 }
+abbrev pub ramp : Function
+ramp = record { shape = S.Ramp (record { a = pos 100; s0 = pos 0; b = pos 200; s1 = pos 1000000 }) }
 
 -- M11 and M12: G1 of rank 3 over 0..20, G2 of rank 1 over 0..10, and G3 of rank 2 from a longitude to 10 beyond
 abbrev pub three : (lon : ℕ) → Group
@@ -117,7 +118,7 @@ area w e s n =
 
 -- a marked case: what is handed over, and what is answered
 pub data Case : Type 0 where
-  -- a lookup in `basin` with these nodes, and no ramps
+  -- a lookup in `basin` with these nodes, and no functions
   lookup : List ℤ → Point → CaseAnswer → Case
   -- the day factor with its one ramp
   factor : (day : ℕ) → (factor : ℤ) → Case
@@ -126,7 +127,7 @@ pub data Case : Type 0 where
 
 unfoldable pub CaseHolds : Case → Type 0
 CaseHolds (lookup nodes p answer) = caseAnswerOf (looked (basin []) nodes p (pos 0)) ≡ answer
-CaseHolds (factor day f) = factorOf (basin (ramp ∷ []) .ramp) (basin (ramp ∷ []) .ramps) (pos day) ≡ f
+CaseHolds (factor day f) = factorOf (basin (ramp ∷ []) .function) (basin (ramp ∷ []) .functions) (pos day) ≡ f
 CaseHolds (inForce g a answer) = caseListOf (inForceOf g a) ≡ answer
 
 unfoldable pub AllHold : List Case → Type 0

@@ -30,7 +30,7 @@ fn basin() -> Group {
     )
 }
 
-// The same with no ramps.
+// The same with no functions.
 fn plain() -> Group {
     read(b"group\tdock\tmetre\t13\t1\t0\t1\ngrid\tbasin\t0\t0\t10\t10\t3\t2\t1\t0\n")
 }
@@ -135,7 +135,7 @@ fn looked(label: &[u8], group: Group, nodes: &[i32], lon: i64, lat: i64, day: i6
     say(b"\n");
 }
 
-// The answer in grid `basin` with no ramps, where the day plays no part.
+// The answer in grid `basin` with no functions, where the day plays no part.
 fn looked_plain(label: &[u8], nodes: &[i32], lon: i64, lat: i64) {
     looked(label, plain(), nodes, lon, lat, 0);
 }

@@ -4,10 +4,10 @@ use Prim.Native.Nat.{ℕ, zero, suc, _+_, _-_, _*_, _≤_, _<_}
 use mathlib.Core.Path.{_≡_, refl, sym, ap, _∙_, subst}
 use mathlib.Core.Bool.{Bool, true, false, not, cond}
 use mathlib.Core.Logic.{_⊎_, inl, inr}
-use native.Mathlib.Nat.{mul-add, mul-comm, mul-zero}
+use native.Mathlib.Nat.{mul-add, mul-zero}
 use native.Mathlib.Omega.{arith}
 use lib.Dec.{T, ltb, leb, ltb→lt, nltb→le, leb→le, le→leb, lt→ltb}
-use lib.IntN.{ℤ, pos, negsuc, negℤ, subℕ, _+ℤ_, _-ℤ_, _*ℤ_, natAbs, *ℤ-comm}
+use lib.IntN.{ℤ, pos, negsuc, negℤ, subℕ, _+ℤ_, _-ℤ_, _*ℤ_, natAbs}
 use lib.Signed.{_≤ℤ_, _<ℤ_, leZ, ltZ, mag}
 
 pub up : ℤ → ℕ
@@ -196,11 +196,6 @@ less-of x a b e = diff-one (diff-of x a b e) (diff-as (diff-- (diff-pos a) (diff
 pub diff-join : {x y : ℤ} {a a′ b : ℕ} → Diff x a b → a ≡ a′ → Diff y a′ b → x ≡ y
 diff-join p e q = let f = p .diff in let g = q .diff in diff-≡ (omega arith)
 
-pub diff-scale-r : (w : ℕ) {x : ℤ} {a b : ℕ} → Diff x a b → Diff (x *ℤ pos w) (a * w) (b * w)
-diff-scale-r w {x} {a} {b} d =
-    subst (λ (z : ℤ). Diff z (a * w) (b * w)) (*ℤ-comm (pos w) x)
-    (diff-as (diff-scale w d) (omega (arith, mul-comm w a, mul-comm w b)))
-
 -- a test of two numbers with one shift
 bool-iff : (x y : Bool) → (T x → T y) → (T y → T x) → x ≡ y
 bool-iff true true f g = refl
@@ -214,8 +209,3 @@ leZ-leb {x} {y} {a} {b} p q =
     bool-iff (leZ x y) (leb a b)
     (λ t. let h = ≤-diff {x = x} {y = y} (record { le = t }) in le→leb a b (omega arith))
     (λ t. let h = leb→le a b t in diff-≤ {x = x} {y = y} (omega arith) .le)
-
--- a choice between two numbers with one shift
-pub diff-cond : (c : Bool) {x y : ℤ} {a b k : ℕ} → (T c → Diff x a k) → (T (not c) → Diff y b k) → Diff (cond c x y) (cond c a b) k
-diff-cond true f g = f tt
-diff-cond false f g = g tt

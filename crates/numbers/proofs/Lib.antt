@@ -10,3 +10,5 @@ pub mod OrderLaws
 pub mod Lists
 pub mod KeptLaws
 pub mod ShiftLaws
+pub mod RoundLaws
+pub mod SignedLaws

@@ -12,7 +12,7 @@ use lib.Signed.{ltZ, ltZ-yes}
 use mir.Syntax.{Width}
 use mir.Val.{SFits, toZ, ofZ, hbits}
 use mir.ValLaws.{toZ-ofZ}
-use Rattle.numbers.proofs.Diff.{up, dn, Diff, up-or-dn, up-mag, diff-≡, diff-of, diff-self, diff-+, diff--, diff-pos, less-of, natAbs-diff, up-pos, dn-pos, <-diff}
+use Rattle.numbers.proofs.Diff.{up, dn, Diff, up-or-dn, up-mag, diff-of, diff-self, diff-+, diff--, diff-pos, less-of, natAbs-diff, up-pos, dn-pos, <-diff}
 use Rattle.numbers.proofs.OrderLaws.{size-add, raised-is}
 use Rattle.numbers.specs.Order.{raised}
 
@@ -25,12 +25,6 @@ pub diff-fits : (w : Width) {z : ℤ} {a b : ℕ} → Diff z a b → a < 2 ^ hbi
 diff-fits w {z} d h k =
     let e = d .diff in
     record { sfits = ⊎-elim (λ p. up-mag z (omega arith) (omega arith)) (λ p. up-mag z (omega arith) (omega arith)) (up-or-dn z) }
-
--- a difference that is not below 0
-pub diff-nat : {z : ℤ} {a b : ℕ} → Diff z a b → b ≤ a → z ≡ pos (a - b)
-diff-nat {z} {a} {b} d h =
-    let e = d .diff in let u = up-pos (a - b) in let v = dn-pos (a - b) in
-    diff-≡ (omega arith)
 
 -- a fact that a callee gives of what it was passed, a signed number v in its bits, is a fact of v
 pub passed : (w : Width) {v : ℤ} → SFits w v → (P : ℤ → Type 0) → P (toZ w (ofZ w v)) → P v

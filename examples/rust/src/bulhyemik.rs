@@ -40,12 +40,18 @@ struct Grid {
     start: i64,
 }
 
+/// A function of time as C has it: its kind, and four numbers, a union of one struct for each kind.
 #[repr(C)]
-struct Ramp {
-    a: i64,
-    s0: i64,
-    b: i64,
-    s1: i64,
+struct Numbers {
+    kind: i64,
+    numbers: [i64; 4],
+}
+
+/// A function of time; factors and MULT are in millionths.
+pub enum Function {
+    Ramp { a: i64, s0: i64, b: i64, s1: i64 },
+    Step { event: i64, reference: i64, mult: i64 },
+    Ramp2 { start: i64, end: i64, reference: i64, mult: i64 },
 }
 
 /// An accepted group, made by `read` alone.
@@ -55,9 +61,9 @@ pub struct Group {
     unit: i64,
     pub quantum: i64,
     parameters: i64,
-    ramps: i64,
+    functions: i64,
     pub grids: i64,
-    ramp: [Ramp; 8],
+    function: [Numbers; 8],
     grid: [Grid; 64],
 }
 
@@ -122,7 +128,7 @@ pub struct Screen {
 const LOG_LINE_BYTES: usize = 128;
 
 // The counts of 64-bit words that bulhyemik.h gives.
-const _: () = assert!(size_of::<Group>() == 8 * 809 && size_of::<InForce>() == 8 * 193);
+const _: () = assert!(size_of::<Group>() == 8 * 817 && size_of::<InForce>() == 8 * 193);
 
 extern "C" {
     fn bulhyemik_read_header(text: *const u8, text_len: usize, group: *mut Group, place: &mut u64) -> u64;
@@ -189,6 +195,15 @@ impl Group {
         } else {
             "arc-second"
         }
+    }
+
+    /// The functions of time, as they were written.
+    pub fn functions(&self) -> impl Iterator<Item = Function> + '_ {
+        self.function[..self.functions as usize].iter().map(|function| match (function.kind, function.numbers) {
+            (1, [event, reference, mult, _]) => Function::Step { event, reference, mult },
+            (2, [start, end, reference, mult]) => Function::Ramp2 { start, end, reference, mult },
+            (_, [a, s0, b, s1]) => Function::Ramp { a, s0, b, s1 },
+        })
     }
 
     /// The name of a grid by its number, from 1 as in an answer; empty if there is none, as beside a refusal.

@@ -8,7 +8,7 @@
 
 mod bulhyemik;
 
-use bulhyemik::{Group, Position, Refused};
+use bulhyemik::{Function, Group, Position, Refused};
 use std::error::Error;
 use std::fs;
 use std::path::{Path, PathBuf};
@@ -20,6 +20,19 @@ fn main() -> ExitCode {
         Err(why) => {
             eprintln!("exercise: {why}");
             ExitCode::from(if why.is::<Refused>() { 1 } else { 2 })
+        }
+    }
+}
+
+/// A function of time by its kind; factors are in millionths.
+fn said(function: &Function) -> String {
+    match function {
+        Function::Ramp { a, s0, b, s1 } => format!("ramp, {s0} until day {a}, {s1} from day {b} on"),
+        Function::Step { event, reference, mult } => {
+            format!("step, {mult} on day {event}, counted from day {reference}")
+        }
+        Function::Ramp2 { start, end, reference, mult } => {
+            format!("ramp2, {mult} from day {start} to day {end}, counted from day {reference}")
         }
     }
 }
@@ -36,6 +49,9 @@ fn run() -> Result<(), Box<dyn Error>> {
     let nodes = read_nodes(nodes)?;
     let unit = group.unit();
     println!("group {}: {} grids, steps of 2 to the power -{} {unit}", group.name(), group.grids, group.quantum);
+    for (k, function) in (1..).zip(group.functions()) {
+        println!("function {k}: {}", said(&function));
+    }
 
     // One point, in steps, and what a screen shows of it.
     let one = Position { lon: -14395000, lat: 180005000, day: 133 };

@@ -43,12 +43,25 @@ static int zero(const void *from, size_t bytes)
 int plain_head_within(const bulhyemik_group *group)
 {
     return between(group->quantum, 0, 20) && between(group->parameters, 1, BULHYEMIK_MOST_PARAMETERS) &&
-           between(group->ramps, 0, BULHYEMIK_MOST_RAMPS) && between(group->grids, 1, BULHYEMIK_MOST_GRIDS);
+           between(group->functions, 0, BULHYEMIK_MOST_FUNCTIONS) && between(group->grids, 1, BULHYEMIK_MOST_GRIDS);
 }
 
-int plain_ramp_within(const bulhyemik_ramp *r)
+int plain_function_within(const bulhyemik_function *f)
 {
-    return within(r->a, DAY) && within(r->b, DAY) && within(r->s0, 10000000) && within(r->s1, 10000000) && r->a <= r->b;
+    const bulhyemik_ramp *r = &f->numbers.ramp;
+    const bulhyemik_step *s = &f->numbers.step;
+    const bulhyemik_ramp2 *r2 = &f->numbers.ramp2;
+    switch (f->kind) {
+    case BULHYEMIK_RAMP:
+        return within(r->a, DAY) && within(r->b, DAY) && within(r->s0, FACTOR) && within(r->s1, FACTOR) && r->a <= r->b;
+    case BULHYEMIK_STEP:
+        return within(s->event, DAY) && within(s->reference, DAY) && within(s->mult, FACTOR) && s->unused == 0;
+    case BULHYEMIK_RAMP2:
+        return within(r2->start, DAY) && within(r2->end, DAY) && within(r2->reference, DAY) && within(r2->mult, FACTOR) &&
+               r2->start < r2->end;
+    default:
+        return 0;
+    }
 }
 
 int plain_grid_within(const bulhyemik_grid *g)
@@ -63,15 +76,16 @@ static uint64_t limits(const bulhyemik_group *group, uint64_t *place)
 {
     int64_t k;
     if (!name_within(group->name, group->name_length) || !between(group->unit, 0, 1) || !plain_head_within(group) ||
-        !zero(group->ramp + group->ramps, (size_t)(BULHYEMIK_MOST_RAMPS - group->ramps) * sizeof(bulhyemik_ramp)) ||
+        !zero(group->function + group->functions,
+              (size_t)(BULHYEMIK_MOST_FUNCTIONS - group->functions) * sizeof(bulhyemik_function)) ||
         !zero(group->grid + group->grids, (size_t)(BULHYEMIK_MOST_GRIDS - group->grids) * sizeof(bulhyemik_grid)))
         return refused(2, 1, place);
-    for (k = 0; k < group->ramps; k++)
-        if (!plain_ramp_within(&group->ramp[k]))
+    for (k = 0; k < group->functions; k++)
+        if (!plain_function_within(&group->function[k]))
             return refused(2, 2 + k, place);
     for (k = 0; k < group->grids; k++)
         if (!name_within(group->grid[k].name, group->grid[k].name_length) || !plain_grid_within(&group->grid[k]))
-            return refused(2, 2 + group->ramps + k, place);
+            return refused(2, 2 + group->functions + k, place);
     return refused(0, 0, place);
 }
 

@@ -28,20 +28,45 @@ static int64_t nearest_wide(wide n, int64_t d)
  * without a look at the corners; on others the sum has 128 bits, whatever the corners hold. */
 #define ONE_WORD ((int64_t)1 << 32)
 
-/* The sum of the ramps' factors on a day. */
+static int64_t ramp_factor(const bulhyemik_ramp *r, int64_t day)
+{
+    if (day >= r->b)
+        return r->s1;
+    if (day <= r->a)
+        return r->s0;
+    return nearest(r->s0 * (r->b - day) + r->s1 * (day - r->a), r->b - r->a);
+}
+
+static int64_t step_factor(const bulhyemik_step *s, int64_t day)
+{
+    return s->mult * ((day >= s->event) - (s->reference >= s->event));
+}
+
+/* A day, moved to the end beside it where it is not between the ends of a ramp2. */
+static int64_t between_ends(const bulhyemik_ramp2 *r, int64_t day)
+{
+    return day < r->start ? r->start : day > r->end ? r->end : day;
+}
+
+static int64_t ramp2_factor(const bulhyemik_ramp2 *r, int64_t day)
+{
+    return nearest(r->mult * (between_ends(r, day) - between_ends(r, r->reference)), r->end - r->start);
+}
+
+/* The sum of the functions' factors on a day. */
 static int64_t factor(const bulhyemik_group *group, int64_t day)
 {
     int64_t sum = 0, k;
-    if (group->ramps == 0)
+    if (group->functions == 0)
         return 1000000;
-    for (k = 0; k < group->ramps; k++) {
-        const bulhyemik_ramp *r = &group->ramp[k];
-        if (day >= r->b)
-            sum += r->s1;
-        else if (day <= r->a)
-            sum += r->s0;
+    for (k = 0; k < group->functions; k++) {
+        const bulhyemik_function *f = &group->function[k];
+        if (f->kind == BULHYEMIK_RAMP)
+            sum += ramp_factor(&f->numbers.ramp, day);
+        else if (f->kind == BULHYEMIK_STEP)
+            sum += step_factor(&f->numbers.step, day);
         else
-            sum += nearest(r->s0 * (r->b - day) + r->s1 * (day - r->a), r->b - r->a);
+            sum += ramp2_factor(&f->numbers.ramp2, day);
     }
     return sum;
 }

@@ -21,17 +21,27 @@ static void group_line(cursor *c, bulhyemik_group *group)
     word(c, group->unit ? "metre\t" : "arc-second\t");
     group->quantum = number(c, '\t');
     group->parameters = number(c, '\t');
-    group->ramps = number(c, '\t');
+    group->functions = number(c, '\t');
     group->grids = number(c, '\n');
 }
 
-static void ramp_line(cursor *c, bulhyemik_ramp *r)
+/* The numbers of every kind stand in the order of its line. */
+static void function_line(cursor *c, bulhyemik_function *f)
 {
-    word(c, "ramp\t");
-    r->a = number(c, '\t');
-    r->s0 = number(c, '\t');
-    r->b = number(c, '\t');
-    r->s1 = number(c, '\n');
+    static const char *const begin[3] = {"ramp\t", "step\t", "ramp2\t"};
+    int64_t numbers[4] = {0, 0, 0, 0};
+    int k, last;
+    if (c->at < c->end && *c->at == 's')
+        f->kind = BULHYEMIK_STEP;
+    else if (c->end - c->at > 4 && c->at[4] == '2')
+        f->kind = BULHYEMIK_RAMP2;
+    else
+        f->kind = BULHYEMIK_RAMP;
+    word(c, begin[f->kind]);
+    last = f->kind == BULHYEMIK_STEP ? 2 : 3;
+    for (k = 0; k <= last; k++)
+        numbers[k] = number(c, k == last ? '\n' : '\t');
+    memcpy(&f->numbers, numbers, sizeof numbers);
 }
 
 static void grid_line(cursor *c, bulhyemik_grid *g)
@@ -62,10 +72,10 @@ uint64_t plain_read_header(const uint8_t *text, size_t text_len, bulhyemik_group
     group_line(&c, &read);
     if (!c.good || !plain_head_within(&read))
         return refused(c.good ? 2 : 1, line, place);
-    for (k = 0; k < read.ramps; k++) {
+    for (k = 0; k < read.functions; k++) {
         line++;
-        ramp_line(&c, &read.ramp[k]);
-        if (!c.good || !plain_ramp_within(&read.ramp[k]))
+        function_line(&c, &read.function[k]);
+        if (!c.good || !plain_function_within(&read.function[k]))
             return refused(c.good ? 2 : 1, line, place);
     }
     for (k = 0; k < read.grids; k++) {

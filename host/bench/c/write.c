@@ -37,6 +37,15 @@ static uint8_t *put_numbers(uint8_t *at, const int64_t *numbers, int64_t count)
     return at;
 }
 
+/* The numbers of every kind stand in the order of its line. */
+static uint8_t *put_function(uint8_t *at, const bulhyemik_function *f)
+{
+    static const char *const word[3] = {"ramp", "step", "ramp2"};
+    int64_t numbers[4];
+    memcpy(numbers, &f->numbers, sizeof numbers);
+    return put_numbers(put(at, word[f->kind], strlen(word[f->kind])), numbers, f->kind == BULHYEMIK_STEP ? 3 : 4);
+}
+
 /* Writes the text of an accepted group and answers its length. */
 static size_t put_group(uint8_t *text, const bulhyemik_group *group)
 {
@@ -44,11 +53,9 @@ static size_t put_group(uint8_t *text, const bulhyemik_group *group)
     int64_t k;
     at = put(at, group->name, (size_t)group->name_length);
     at = group->unit ? put(at, "\tmetre", 6) : put(at, "\tarc-second", 11);
-    at = put_numbers(at, (const int64_t[]){group->quantum, group->parameters, group->ramps, group->grids}, 4);
-    for (k = 0; k < group->ramps; k++) {
-        const bulhyemik_ramp *r = &group->ramp[k];
-        at = put_numbers(put(at, "ramp", 4), (const int64_t[]){r->a, r->s0, r->b, r->s1}, 4);
-    }
+    at = put_numbers(at, (const int64_t[]){group->quantum, group->parameters, group->functions, group->grids}, 4);
+    for (k = 0; k < group->functions; k++)
+        at = put_function(at, &group->function[k]);
     for (k = 0; k < group->grids; k++) {
         const bulhyemik_grid *g = &group->grid[k];
         const int64_t numbers[8] = {g->lon, g->lat, g->dlon, g->dlat, g->ni, g->nj, g->rank, g->start};

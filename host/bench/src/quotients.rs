@@ -1,6 +1,6 @@
 //! What a lookup rounds, as the library has it: quotients of whole numbers, each raised so that none is below 0.
 
-use interface::{Grid, Group, Position, Ramp};
+use interface::{Grid, Group, Position};
 use plain::nearest;
 
 /// What node values, the factors of ramps and results are raised by: the size of the greatest.
@@ -42,9 +42,9 @@ pub fn wide_value(group: &Group, nodes: &[i32], at: &Position) -> WideQuotient {
     (sum as u128, total as u64)
 }
 
-/// The factor of a group's first ramp on a day between its ends.
+/// The factor of a group's first function, a ramp, on a day between its ends.
 pub fn ramp_factor(group: &Group, _: &[i32], at: &Position) -> Quotient {
-    let Ramp { a, s0, b, s1 } = group.ramp[0];
+    let [a, s0, b, s1] = group.function[0].numbers;
     ((s0 + FACTOR) * (b - at.day) + (s1 + FACTOR) * (at.day - a), b - a)
 }
 
@@ -52,6 +52,6 @@ pub fn ramp_factor(group: &Group, _: &[i32], at: &Position) -> Quotient {
 pub fn result(group: &Group, nodes: &[i32], at: &Position) -> Quotient {
     let rounded = |(numerator, divisor): Quotient| nearest(numerator, divisor);
     let value = rounded(value(group, nodes, at)) - VALUE;
-    let factor = group.ramps * (rounded(ramp_factor(group, nodes, at)) - FACTOR);
+    let factor = group.functions * (rounded(ramp_factor(group, nodes, at)) - FACTOR);
     (value * factor + RESULT * ONE, ONE)
 }

@@ -8,7 +8,7 @@ use crate::works::{
 };
 use crate::{layouts, logs};
 use differ::Random;
-use interface::{Area, Grid, Group, HEADER_BYTES, MOST_RAMPS, Name, Position, Ramp, Timed};
+use interface::{Area, Function, Grid, Group, HEADER_BYTES, MOST_FUNCTIONS, Name, Position, Timed};
 use plain::{LONGITUDE, TURN};
 
 /// How many points, digits and floats the long works have, and how many lines, digits and tabs the logs.
@@ -35,9 +35,9 @@ pub const WHOLE: Sizes = Sizes {
 /// One grid of 1,000 by 1,000 nodes with two parameters and two ramps.
 fn one_grid() -> Group {
     let mut record =
-        Group { name: Name::new(b"one"), parameters: 2, quantum: 10, ramps: 2, grids: 1, ..Group::default() };
-    for (k, ramp) in record.ramp[..2].iter_mut().enumerate() {
-        (ramp.b, ramp.s0, ramp.s1) = (1_000 + k as i64, 1_000_000, 2_000_000);
+        Group { name: Name::new(b"one"), parameters: 2, quantum: 10, functions: 2, grids: 1, ..Group::default() };
+    for (k, function) in record.function[..2].iter_mut().enumerate() {
+        *function = Function::ramp(0, 1_000_000, 1_000 + k as i64, 2_000_000);
     }
     record.grid[0] =
         Grid { name: Name::new(b"sea"), dlon: 3_600, dlat: 3_600, ni: 1_000, nj: 1_000, rank: 1, ..Grid::default() };
@@ -66,11 +66,30 @@ fn track(count: i64, step: i64) -> Vec<Position> {
 /// The last of the days on which points are looked up; the first is 0.
 const LAST_DAY: i64 = 10_000;
 
-/// A group with no ramps, or with all that there may be: each changes the factor from day to day.
-fn with_ramps(group: Group, ramps: bool) -> Group {
-    const RAMP: Ramp = Ramp { a: -1, s0: 100_000, b: LAST_DAY + 1, s1: 200_000 };
-    let (count, ramp) = if ramps { (MOST_RAMPS as i64, RAMP) } else { (0, Ramp::default()) };
-    Group { ramps: count, ramp: [ramp; MOST_RAMPS], ..group }
+/// The functions of time that a group has: none, or as many as there may be, ramps alone or all kinds mixed. Each ramp and ramp2
+/// changes the factor from day to day, and each step on a day of its own.
+type Functions = &'static [Function];
+
+const NONE: Functions = &[];
+const RAMP: Function = Function::ramp(-1, 100_000, LAST_DAY + 1, 200_000);
+const RAMPS: Functions = &[RAMP; MOST_FUNCTIONS];
+const RAMP2: Function = Function::ramp2(-1, LAST_DAY + 1, LAST_DAY / 2, 100_000);
+const MIXED: Functions = &[
+    RAMP,
+    RAMP2,
+    Function::step(LAST_DAY / 3, 0, 100_000),
+    RAMP,
+    RAMP2,
+    Function::step(LAST_DAY / 2, LAST_DAY, 100_000),
+    RAMP,
+    RAMP2,
+];
+
+/// A group with these functions of time in place of its own.
+fn with(functions: Functions, group: Group) -> Group {
+    let mut function = [Function::default(); MOST_FUNCTIONS];
+    function[..functions.len()].copy_from_slice(functions);
+    Group { functions: functions.len() as i64, function, ..group }
 }
 
 /// A square of points that a group's grids hold, and how far a ship goes from one point to the next, in milliarcseconds.
@@ -196,18 +215,24 @@ fn lookups(name: &str, repeats: u32, waters: Waters, points: impl Fn() -> Vec<Po
 }
 
 /// Points of some waters looked up by one call.
-fn exercise(name: &str, count: i64, waters: Waters, points: fn(Waters, i64) -> Vec<Position>, ramps: bool) -> Row {
+fn exercise(
+    name: &str,
+    count: i64,
+    waters: Waters,
+    points: fn(Waters, i64) -> Vec<Position>,
+    functions: Functions,
+) -> Row {
     row(name, 5, move || {
-        let group = with_ramps((waters.group)(), ramps);
+        let group = with(functions, (waters.group)());
         let nodes = (waters.nodes)(&group);
         Exercise::new(group, nodes, points(waters, count))
     })
 }
 
-/// The same without ramps, with the middle of the waters on the meridian.
+/// The same without functions of time, with the middle of the waters on the meridian.
 fn exercise_across(name: &str, count: i64, waters: Waters, points: fn(Waters, i64) -> Vec<Position>) -> Row {
     row(name, 5, move || {
-        let group = with_ramps((waters.group)(), false);
+        let group = with(NONE, (waters.group)());
         let by = layouts::to_the_meridian(&group);
         let mut points = points(waters, count);
         for at in &mut points {
@@ -221,7 +246,7 @@ fn exercise_across(name: &str, count: i64, waters: Waters, points: fn(Waters, i6
 /// The log of points of some waters, with 8 ramps.
 fn log(name: &str, count: i64, waters: Waters, points: fn(Waters, i64) -> Vec<Position>) -> Row {
     row(name, 1, move || {
-        let group = with_ramps((waters.group)(), true);
+        let group = with(RAMPS, (waters.group)());
         let nodes = (waters.nodes)(&group);
         let log = logs::log(&group, &nodes, &points(waters, count));
         JudgeLog::new(group, nodes, log)
@@ -236,7 +261,7 @@ fn hard_line(name: &str, repeats: u32, size: usize, line: fn(usize) -> Vec<u8>) 
 /// The rounding alone of one quotient of each lookup of random points in one grid with 8 ramps.
 fn rounding(name: &str, count: i64, quotient: fn(&Group, &[i32], &Position) -> Quotient) -> Row {
     row(name, 20, move || {
-        let group = with_ramps(one_grid(), true);
+        let group = with(RAMPS, one_grid());
         let nodes = nodes(&group);
         Rounding::new(scattered(ONE_GRID, count).iter().map(|at| quotient(&group, &nodes, at)))
     })
@@ -261,18 +286,19 @@ pub fn all(sizes: Sizes) -> Vec<Row> {
         lookups("one lookup, coarse, 1 grid", 500, WORLD, move || scattered(WORLD, 1)),
         lookups("10,000 lookups on a track, 1 grid", 1, ONE_GRID, move || track(points, 3_000)),
         lookups("10,000 lookups on a track, 64 grids", 1, NESTED, move || track(points, 1)),
-        exercise("10,000 points at once, a track, 1 grid", points, ONE_GRID, neighbours, false),
-        exercise("10,000 points at once, a track, 1 grid, 8 ramps", points, ONE_GRID, neighbours, true),
-        exercise("10,000 points at once, random, 1 grid", points, ONE_GRID, scattered, false),
-        exercise("10,000 points at once, random, 1 grid, 8 ramps", points, ONE_GRID, scattered, true),
-        exercise("10,000 points at once, a track, 64 grids", points, NESTED, neighbours, false),
-        exercise("10,000 points at once, a track, 64 grids, 8 ramps", points, NESTED, neighbours, true),
-        exercise("10,000 points at once, random, 64 grids", points, NESTED, scattered, false),
-        exercise("10,000 points at once, random, 64 grids, 8 ramps", points, NESTED, scattered, true),
-        exercise("10,000 points at once, coarse, a track, 1 grid", points, WORLD, neighbours, false),
-        exercise("10,000 points at once, coarse, random, 1 grid", points, WORLD, scattered, false),
-        exercise("10,000 points at once, coarse, a track, 64 grids", points, WIDE_NESTED, neighbours, false),
-        exercise("10,000 points at once, coarse, random, 64 grids", points, WIDE_NESTED, scattered, false),
+        exercise("10,000 points at once, a track, 1 grid", points, ONE_GRID, neighbours, NONE),
+        exercise("10,000 points at once, a track, 1 grid, 8 ramps", points, ONE_GRID, neighbours, RAMPS),
+        exercise("10,000 points at once, random, 1 grid", points, ONE_GRID, scattered, NONE),
+        exercise("10,000 points at once, random, 1 grid, 8 ramps", points, ONE_GRID, scattered, RAMPS),
+        exercise("10,000 points at once, random, 1 grid, 8 functions", points, ONE_GRID, scattered, MIXED),
+        exercise("10,000 points at once, a track, 64 grids", points, NESTED, neighbours, NONE),
+        exercise("10,000 points at once, a track, 64 grids, 8 ramps", points, NESTED, neighbours, RAMPS),
+        exercise("10,000 points at once, random, 64 grids", points, NESTED, scattered, NONE),
+        exercise("10,000 points at once, random, 64 grids, 8 ramps", points, NESTED, scattered, RAMPS),
+        exercise("10,000 points at once, coarse, a track, 1 grid", points, WORLD, neighbours, NONE),
+        exercise("10,000 points at once, coarse, random, 1 grid", points, WORLD, scattered, NONE),
+        exercise("10,000 points at once, coarse, a track, 64 grids", points, WIDE_NESTED, neighbours, NONE),
+        exercise("10,000 points at once, coarse, random, 64 grids", points, WIDE_NESTED, scattered, NONE),
         exercise_across("10,000 points at once across the meridian, a track, 1 grid", points, ONE_GRID, neighbours),
         exercise_across("10,000 points at once across the meridian, random, 1 grid", points, ONE_GRID, scattered),
         exercise_across("10,000 points at once across the meridian, a track, 64 grids", points, NESTED, neighbours),
@@ -372,7 +398,8 @@ mod tests {
         }
     }
 
-    /// What is rounded alone is what lookups round: the first result of each point, without ramps the value, is found again.
+    /// What is rounded alone is what lookups round: the first result of each point, without functions of time the value, is found
+    /// again.
     #[test]
     fn the_roundings_alone_are_those_of_lookups() {
         let (rows, back_ends) = (all(SMALL), back_end::all(&Reference, ROUND));

@@ -1,6 +1,6 @@
 //! What can be seen of the first bad line of a log. Its number and its kind are the library's.
 
-use crate::form::{self, Wanted, byte_order_mark, unclosed};
+use crate::form::{self, Wanted, byte_order_mark, keyword, unclosed};
 use crate::group::grids;
 use crate::kinds::{malformed_number, malformed_text};
 use crate::model::Model;
@@ -36,7 +36,11 @@ fn malformed(group: &Group, log: &[u8], number: usize) -> Option<String> {
         return Some(mark);
     }
     let Ok(line) = form::line(log, number) else { return Some(unclosed(number)) };
-    let wanted = Wanted { word: BEFORE_SHIFTS[0], whose: " of this group", fields: count(group) };
+    let word = match keyword(line, number, &BEFORE_SHIFTS[..1]) {
+        Ok(word) => word,
+        Err(seen) => return Some(seen),
+    };
+    let wanted = Wanted { word, whose: " of this group", fields: count(group), form: String::new() };
     wanted.missed(line, number, |fields| (1..).zip(fields).find_map(|(k, field)| malformed_field(k, field)))
 }
 

@@ -34,36 +34,58 @@ pub fn unclosed(number: usize) -> String {
     format!("line {number} is not closed by a line feed")
 }
 
-/// What a line should be: its keyword, what messages say behind its name, and how many fields it has, the keyword among them.
+/// Words as a sentence lists them: `a`, `a or b`, `a, b or c`.
+pub fn either(words: impl IntoIterator<Item = impl ToString>) -> String {
+    let mut words: Vec<String> = words.into_iter().map(|word| word.to_string()).collect();
+    let last = words.pop().unwrap_or_default();
+    if words.is_empty() { last } else { format!("{} or {last}", words.join(", ")) }
+}
+
+/// How many fields a line has.
+fn count(line: &[u8]) -> usize {
+    line.iter().filter(|&&c| c == b'\t').count() + 1
+}
+
+/// Which of the keywords that a line may begin with it begins with; else what is seen of it.
+pub fn keyword(line: &[u8], number: usize, words: &[&'static str]) -> Result<&'static str, String> {
+    let first = fields(line, 1)[0];
+    let seen = if line.ends_with(b"\r") {
+        " ends in CR: lines are closed by a line feed alone".into()
+    } else if line.is_empty() {
+        format!(" is empty, but must be a {} line", either(words))
+    } else if let Some(word) = words.iter().find(|word| word.as_bytes() == first) {
+        return Ok(word);
+    } else {
+        let wanted = either(words.iter().map(|word| format!("'{word}'")));
+        let tabs = if count(line) == 1 { "; fields are parted by tabs" } else { "" };
+        format!(" begins with '{}', but must begin with {wanted}{tabs}", bytes(first))
+    };
+    Err(format!("line {number}{seen}"))
+}
+
+/// What a line of a keyword should be: what messages say behind its name, and how many fields it has, the keyword among them, with
+/// what is said of that.
 pub struct Wanted {
     pub word: &'static str,
     pub whose: &'static str,
     pub fields: usize,
+    pub form: String,
 }
 
 impl Wanted {
-    /// What is not of the form on a line; `malformed` looks at the fields behind the keyword, once there are as many as there
-    /// should be.
+    /// What is not of the form on a line that begins with the keyword; `malformed` looks at the fields behind it, once there are
+    /// as many as there should be.
     pub fn missed(
         &self,
         line: &[u8],
         number: usize,
         malformed: impl FnOnce(&[&[u8]]) -> Option<String>,
     ) -> Option<String> {
-        let Wanted { word, whose, fields: wanted } = *self;
-        let first_fields = fields(line, wanted);
-        let count = line.iter().filter(|&&c| c == b'\t').count() + 1;
-        let seen = if line.ends_with(b"\r") {
-            " ends in CR: lines are closed by a line feed alone".into()
-        } else if line.is_empty() {
-            format!(" is empty, but must be a {word} line")
-        } else if first_fields[0] != word.as_bytes() {
-            let tabs = if count == 1 { "; fields are parted by tabs" } else { "" };
-            format!(" begins with '{}', but must begin with '{word}'{tabs}", bytes(first_fields[0]))
-        } else if count != wanted {
-            format!(" has {count} fields parted by tabs, but a {word} line{whose} has {wanted}")
-        } else {
-            format!(": {}", malformed(&first_fields[1..])?)
+        let Wanted { word, whose, fields: wanted, form } = self;
+        let seen = match count(line) {
+            count if count == *wanted => format!(": {}", malformed(&fields(line, count)[1..])?),
+            1 => format!(" has 1 field, but a {word} line{whose} has {wanted}{form}"),
+            count => format!(" has {count} fields parted by tabs, but a {word} line{whose} has {wanted}{form}"),
         };
         Some(format!("line {number}{seen}"))
     }

@@ -1,24 +1,34 @@
-//! `grids HEADER`: the grids of a header, as a table for people or as records for programs.
+//! `grids HEADER`: the functions of time and the grids of a header, as tables for people or as records for programs.
 
 use crate::arguments::Arguments;
 use crate::extent::{extent, of_points};
 use crate::formats::Format;
+use crate::functions;
 use crate::group::{self, name, node_range, unit};
-use crate::json::{self, List, Text};
+use crate::json::{self, List, Member, Text};
 use crate::output::Output;
 use crate::stop::Stop;
-use crate::table::{Cell, Column, Table};
+use crate::table::{Cell, Column, Table, aligned};
 use interface::{Calls, Grid, Group};
 
 pub fn grids(calls: &dyn Calls, arguments: &Arguments, out: &mut Output) -> Result<(), Stop> {
     arguments.count(&[1], "HEADER")?;
     let group = group::read(calls, arguments.file(0))?;
+    let functions_alone = arguments.has("--functions");
+    let table = if functions_alone { functions::table } else { table };
     out.put(match out.format {
         Format::Text if arguments.has("--tsv") => table(&group).lines('\t'),
-        Format::Text => for_people(&group),
-        Format::Json => object(&group),
+        Format::Text if functions_alone => functions::for_people(&group),
+        Format::Text => both(&functions::for_people(&group), &for_people(&group)),
+        Format::Json => object(&group, functions_alone),
         Format::Csv => table(&group).csv(),
     })
+}
+
+/// Two texts with an empty line between them, if there is anything to part.
+fn both(first: &str, second: &str) -> String {
+    let parted = if first.is_empty() { "" } else { "\n" };
+    [first, parted, second].concat()
 }
 
 const COLUMNS: [Column; 13] = [
@@ -51,15 +61,21 @@ fn table(group: &Group) -> Table {
     Table { columns: &COLUMNS, rows: group::grids(group).map(row).collect() }
 }
 
-/// The group and its grids.
-fn object(group: &Group) -> String {
-    json::line(&[&[
-        ("group", &Text(&name(&group.name))),
-        ("unit", &Text(unit(group))),
-        ("quantum", &group.quantum),
-        ("parameters", &group.parameters),
-        ("grids", &List(&table(group).objects())),
-    ]])
+/// The group, its functions and, unless these are wanted alone, its grids.
+fn object(group: &Group, functions_alone: bool) -> String {
+    let (functions, grids) = (functions::table(group).objects(), table(group).objects());
+    let grids = List(&grids);
+    let grids: &[Member] = &[("grids", &grids)];
+    json::line(&[
+        &[
+            ("group", &Text(&name(&group.name))),
+            ("unit", &Text(unit(group))),
+            ("quantum", &group.quantum),
+            ("parameters", &group.parameters),
+            ("functions", &List(&functions)),
+        ],
+        if functions_alone { &[] } else { grids },
+    ])
 }
 
 const HEADINGS: [&str; 12] = [
@@ -76,6 +92,9 @@ const HEADINGS: [&str; 12] = [
     "first value",
     "last",
 ];
+
+/// Columns of words to the left: the name of the grid, and the axis.
+const LEFT: [usize; 2] = [1, 3];
 
 /// Two rows a grid, one for each axis, in columns; where its longitudes are not those of points, these below them.
 fn for_people(group: &Group) -> String {
@@ -94,7 +113,7 @@ fn for_people(group: &Group) -> String {
         }
         rows.push(below(&axis("latitude", grid.lat, grid.dlat, grid.nj)));
     }
-    aligned(&rows)
+    aligned(&rows, &LEFT)
 }
 
 /// The columns of an axis: its extent, the spacing, the count of nodes.
@@ -106,25 +125,4 @@ fn axis(name: &str, first: i64, spacing: i64, count: i64) -> Vec<String> {
 fn from_to(name: &str, [least, greatest]: [i64; 2]) -> [String; 5] {
     let degrees = |mas: i64| format!("{:.7}", mas as f64 / 3_600_000.0);
     [name.into(), least.to_string(), greatest.to_string(), degrees(least), degrees(greatest)]
-}
-
-/// Columns of words to the left: the name of the grid, and the axis.
-const LEFT: [usize; 2] = [1, 3];
-
-/// Rows with columns of equal width, two spaces apart.
-fn aligned(rows: &[Vec<String>]) -> String {
-    let columns = rows.iter().map(Vec::len).max().unwrap_or(0);
-    let width = |k: usize| rows.iter().filter_map(|row| row.get(k)).map(|cell| cell.chars().count()).max().unwrap_or(0);
-    let widths: Vec<usize> = (0..columns).map(width).collect();
-    let mut text = String::new();
-    for row in rows {
-        let cell = |(k, cell): (usize, &String)| {
-            let width = widths[k];
-            if LEFT.contains(&k) { format!("{cell:<width$}") } else { format!("{cell:>width$}") }
-        };
-        let cells: Vec<String> = row.iter().enumerate().map(cell).collect();
-        text += cells.join("  ").trim_end();
-        text.push('\n');
-    }
-    text
 }

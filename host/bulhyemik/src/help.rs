@@ -7,7 +7,7 @@ Looks up shifts in groups of grids.
 
   check HEADER                            judge a header
   check HEADER NODES                      judge a header and its node file
-  grids HEADER                            the grids of a header, as a table
+  grids HEADER                            functions and grids of a header, as tables
   format HEADER                           write a header back
   lookup HEADER NODES LON LAT DAY         shifts of a point on a day, in steps
   lookup HEADER NODES                     the same for points from standard input
@@ -57,25 +57,40 @@ exit status: 0 accepted, 1 refused, 2 usage or file error
 ";
 
 const GRIDS: &str = "\
-usage: bulhyemik grids [--tsv | --json | --csv] HEADER
+usage: bulhyemik grids [--functions] [--tsv | --json | --csv] HEADER
 
-Prints the grids of a header as a table: number, name, rank, and for each axis
-the extent in milliarcseconds and in degrees, the spacing and the count of
-nodes; then the first and the last position of the grid's values in the node
-list, counted from 0. An extent is shown as the header has it; where a grid
-reaches the 180 degree meridian or beyond, lines `points` below its longitudes
-say which longitudes of points it holds.
+Prints what a header holds: its functions of time, if it has any, then, below an
+empty line, its grids.
+
+A function has a line: its number, its kind (ramp, step or ramp2) and its
+numbers by their names, in the order of the header; days are plain numbers, S0,
+S1 and MULT are millionths.
+
+A grid has two: number, name, rank, and for each axis the extent in
+milliarcseconds and in degrees, the spacing and the count of nodes; then the
+first and the last position of the grid's values in the node list, counted from
+0. An extent is shown as the header has it; where a grid reaches the 180 degree
+meridian or beyond, lines `points` below its longitudes say which longitudes of
+points it holds.
+
+With --functions the functions alone are printed, which --tsv and --csv leave
+out without it.
 
 With --tsv it is one line a grid, parted by tabs: number, name, rank, west,
 east, south and north in milliarcseconds, DLON, DLAT, NI, NJ, first and last
-position. With --csv the same is parted by commas, below a line of headings.
+position; or, with --functions, one line a function: number, kind, A, S0, B, S1,
+EVENT, START, END, REF and MULT, empty where the kind has no such number. With
+--csv the same is parted by commas, below a line of headings.
 
 With --json it is one object: group (its name), unit, quantum (Q), parameters
-(how many there are) and grids, a list with an object for each: what a line of
---tsv has, as number, name, rank, west_mas, east_mas, south_mas, north_mas,
-dlon_mas, dlat_mas, ni, nj, first and last.
+(how many there are), functions and grids, lists with an object for each: what a
+line of --tsv has, as number, kind, a_day, s0_millionths, b_day, s1_millionths,
+event_day, start_day, end_day, ref_day and mult_millionths, those of its kind
+alone; and as number, name, rank, west_mas, east_mas, south_mas, north_mas,
+dlon_mas, dlat_mas, ni, nj, first and last. With --functions grids are left out.
 
-  bulhyemik grids examples/canyon.txt
+  bulhyemik grids examples/quake.txt
+  bulhyemik grids --functions --csv examples/quake.txt
 
 exit status: 0 accepted, 1 refused, 2 usage or file error
 ";

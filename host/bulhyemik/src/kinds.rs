@@ -1,4 +1,4 @@
-//! The three kinds of header line as a person looks at them: keywords, fields and limits, for the words of a refusal.
+//! The kinds of header line as a person looks at them: keywords, fields and limits, for the words of a refusal.
 
 use crate::number::{WHOLE, decimal};
 use crate::shown::bytes;
@@ -21,27 +21,30 @@ const fn number(name: &'static str, least: i64, most: i64) -> Number {
     Number { name, least, most }
 }
 
+const fn day(name: &'static str) -> Number {
+    number(name, -1_000_000, 1_000_000)
+}
+
+const fn factor(name: &'static str) -> Number {
+    number(name, -10_000_000, 10_000_000)
+}
+
 pub const GROUP: Kind = Kind {
     word: "group",
     texts: &["NAME", "UNIT"],
     numbers: &[
         number("Q", 0, 20),
         number("NP", 1, 3),
-        number("the count of ramps", 0, 8),
+        number("the count of functions", 0, 8),
         number("the count of grids", 1, 64),
     ],
 };
 
-pub const RAMP: Kind = Kind {
-    word: "ramp",
-    texts: &[],
-    numbers: &[
-        number("A", -1_000_000, 1_000_000),
-        number("S0", -10_000_000, 10_000_000),
-        number("B", -1_000_000, 1_000_000),
-        number("S1", -10_000_000, 10_000_000),
-    ],
-};
+/// Those of the functions of time.
+pub const RAMP: Kind = Kind { word: "ramp", texts: &[], numbers: &[day("A"), factor("S0"), day("B"), factor("S1")] };
+pub const STEP: Kind = Kind { word: "step", texts: &[], numbers: &[day("EVENT"), day("REF"), factor("MULT")] };
+pub const RAMP2: Kind =
+    Kind { word: "ramp2", texts: &[], numbers: &[day("START"), day("END"), day("REF"), factor("MULT")] };
 
 pub const GRID: Kind = Kind {
     word: "grid",
@@ -64,6 +67,13 @@ impl Kind {
         1 + self.texts.len() + self.numbers.len()
     }
 
+    /// The keyword and the names of the fields, as the rules write them.
+    pub fn form(&self) -> String {
+        let short = |number: &Number| number.name.trim_start_matches("the count of ").to_uppercase();
+        let texts = [self.word].into_iter().chain(self.texts.iter().copied()).map(String::from);
+        texts.chain(self.numbers.iter().map(short)).collect::<Vec<_>>().join(" ")
+    }
+
     /// The first field behind the keyword that is malformed.
     pub fn malformed(&self, fields: &[&[u8]]) -> Option<String> {
         let (texts, numbers) = fields.split_at_checked(self.texts.len())?;
@@ -80,13 +90,15 @@ impl Kind {
         self.numbers.iter().zip(numbers).map(number).collect()
     }
 
-    /// The first number behind the keyword that is outside its limit, or a ramp's A above its B.
+    /// The first number behind the keyword that is outside its limit, or days that are not in their order.
     pub fn beyond(&self, fields: &[&[u8]]) -> Option<String> {
         let (_, numbers) = fields.split_at_checked(self.texts.len())?;
         let beyond = self.numbers.iter().zip(numbers).find_map(|(number, field)| number.beyond(field));
-        beyond.or_else(|| match numbers {
-            [a, _, b, _] if self.word == RAMP.word => {
-                Some(format!("A is {}, above B, which is {}", bytes(a), bytes(b)))
+        beyond.or_else(|| match (self.word, numbers) {
+            ("ramp", [a, _, b, _]) => Some(format!("A is {}, above B, which is {}", bytes(a), bytes(b))),
+            ("ramp2", [start, end, _, _]) => {
+                let remedy = if start == end { "; a change on one day is a step" } else { "" };
+                Some(format!("START is {}, not below END, which is {}{remedy}", bytes(start), bytes(end)))
             }
             _ => None,
         })

@@ -9,6 +9,7 @@ mod files;
 mod form;
 mod format;
 mod formats;
+mod functions;
 mod grids;
 mod group;
 mod help;
@@ -56,7 +57,7 @@ const FOR_PROGRAMS: &[&str] = &["--json", "--csv"];
 
 const COMMANDS: [Command; 10] = [
     Command { name: "check", options: &[], run: check::check },
-    Command { name: "grids", options: &["--tsv", "--json", "--csv"], run: grids::grids },
+    Command { name: "grids", options: &["--functions", "--tsv", "--json", "--csv"], run: grids::grids },
     Command { name: "format", options: &[], run: format::format },
     Command { name: "lookup", options: FOR_PROGRAMS, run: lookup::lookup },
     Command { name: "screen", options: FOR_PROGRAMS, run: screen::screen },

@@ -48,7 +48,9 @@ impl Refusal {
         match (self.number, place) {
             (1, _) => format!("line {place} is not of a header's form, or the header ends before it"),
             (2, 0) => "Q is outside 0 to 20".into(),
-            (2, _) => format!("line {place} has a number outside its limit, or a ramp's A above its B"),
+            (2, _) => format!(
+                "line {place} has a number outside its limit, a ramp's A above its B, or a ramp2's START not below its END"
+            ),
             (3, _) => format!("grid {place} has the name of an earlier grid"),
             (4, _) => {
                 format!("grid {place} reaches beyond its limits, is wider than a whole turn, or has too many nodes")

@@ -14,6 +14,8 @@ pub const LATITUDE: Column = ("latitude_mas", "latitude [mas]");
 pub enum Cell {
     Number(i64),
     Text(String),
+    /// What a row hasn't got: JSON leaves it out.
+    None,
 }
 
 pub struct Table {
@@ -39,18 +41,20 @@ impl Table {
     }
 
     fn object(&self, row: &[Cell]) -> String {
-        let values: Vec<String> = row.iter().map(Cell::json).collect();
+        let values: Vec<Option<String>> = row.iter().map(Cell::json).collect();
+        let named = self.columns.iter().zip(&values);
         let members: Vec<Member> =
-            self.columns.iter().zip(&values).map(|(&(key, _), value)| (key, value as &dyn Display)).collect();
+            named.filter_map(|(&(key, _), value)| Some((key, value.as_ref()? as &dyn Display))).collect();
         Object(&members).to_string()
     }
 }
 
 impl Cell {
-    fn json(&self) -> String {
+    fn json(&self) -> Option<String> {
         match self {
-            Cell::Number(number) => number.to_string(),
-            Cell::Text(text) => Text(text).to_string(),
+            Cell::Number(number) => Some(number.to_string()),
+            Cell::Text(text) => Some(Text(text).to_string()),
+            Cell::None => None,
         }
     }
 }
@@ -60,6 +64,25 @@ impl Display for Cell {
         match self {
             Cell::Number(number) => number.fmt(to),
             Cell::Text(text) => text.fmt(to),
+            Cell::None => Ok(()),
         }
     }
+}
+
+/// Rows of text with columns of equal width, two spaces apart; those named have their words to the left, the others to the right.
+pub fn aligned(rows: &[Vec<String>], left: &[usize]) -> String {
+    let columns = rows.iter().map(Vec::len).max().unwrap_or(0);
+    let width = |k: usize| rows.iter().filter_map(|row| row.get(k)).map(|cell| cell.chars().count()).max().unwrap_or(0);
+    let widths: Vec<usize> = (0..columns).map(width).collect();
+    let mut text = String::new();
+    for row in rows {
+        let cell = |(k, cell): (usize, &String)| {
+            let width = widths[k];
+            if left.contains(&k) { format!("{cell:<width$}") } else { format!("{cell:>width$}") }
+        };
+        let cells: Vec<String> = row.iter().enumerate().map(cell).collect();
+        text += cells.join("  ").trim_end();
+        text.push('\n');
+    }
+    text
 }

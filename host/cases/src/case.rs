@@ -3,7 +3,7 @@
 use crate::file::Definitions;
 use crate::parts::{bits32, bits64, bytes, list, number};
 use crate::record::{functions, record};
-use interface::{Answer, Area, Entry, Fault, Fix, Group, Part, Position, Ramp, Uncovered};
+use interface::{Answer, Area, Entry, Fault, Fix, Function, Group, Part, Position, Uncovered};
 
 /// What a case hands to its call. Groups and node lists stand under their ids in the file.
 #[derive(Clone, Debug)]
@@ -20,7 +20,7 @@ pub enum Input {
     WriteLog { group: String, nodes: String, at: Position, out_len: usize },
     Load { quantum: i64, flag: f32, out_len: usize, floats: Vec<f32> },
     Screen { lon: i64, lat: i64, quantum: i64, parameters: i64, number: u64, at: u64, fix: Fix },
-    DayFactor { ramps: Vec<Ramp>, day: i64 },
+    DayFactor { functions: Vec<Function>, day: i64 },
 }
 
 /// What the call must answer.
@@ -99,7 +99,7 @@ pub fn input(call: &str, words: &[&str], defined: &Definitions) -> Result<Input,
             at: number(place)?,
             fix: fix([grid, r1, r2, r3])?,
         },
-        ("day_factor", &[ramps, day]) => Input::DayFactor { ramps: functions(ramps)?, day: number(day)? },
+        ("day_factor", &[listed, day]) => Input::DayFactor { functions: functions(listed)?, day: number(day)? },
         _ => return Err(format!("no inputs of a {call} case")),
     })
 }

@@ -1,13 +1,13 @@
-//! A group record as a case line writes it: head, `F` parts for ramps, `G` parts for grids, all parted by `|`.
+//! A group record as a case line writes it: head, `F` parts for functions of time, `G` parts for grids, all parted by `|`.
 
 use crate::parts::{bytes, number};
-use interface::{Grid, Group, NAME_BYTES, Name, Ramp};
+use interface::{Function, Grid, Group, NAME_BYTES, Name};
 
 /// The record that a line writes; entries that it leaves out are zero.
 pub fn record(text: &str) -> Result<Group, String> {
     let mut parts = text.split('|');
     let head: Vec<&str> = parts.next().unwrap_or_default().split(' ').collect();
-    let [name_hex, len, unit, q, np, ramps, grids] = head[..] else {
+    let [name_hex, len, unit, q, np, functions, grids] = head[..] else {
         return Err(format!("'{text}' has no head of seven words"));
     };
     let mut record = Group {
@@ -15,7 +15,7 @@ pub fn record(text: &str) -> Result<Group, String> {
         unit: number(unit)?,
         quantum: number(q)?,
         parameters: number(np)?,
-        ramps: number(ramps)?,
+        functions: number(functions)?,
         grids: number(grids)?,
         ..Group::default()
     };
@@ -23,8 +23,8 @@ pub fn record(text: &str) -> Result<Group, String> {
         let words: Vec<&str> = part.split(' ').collect();
         match words[..] {
             ["F", ..] => {
-                let (k, ramp) = function(&words)?;
-                record.ramp[k] = ramp;
+                let (k, function) = function(&words)?;
+                *entry(&mut record.function, k)? = function;
             }
             ["G", k, name_hex, len, lon, lat, dlon, dlat, ni, nj, rank, start, "0"] => {
                 *entry(&mut record.grid, k)? = Grid {
@@ -45,30 +45,29 @@ pub fn record(text: &str) -> Result<Group, String> {
     Ok(record)
 }
 
-/// The ramps that a day_factor case lists, in their order; `-` for none.
-pub fn functions(text: &str) -> Result<Vec<Ramp>, String> {
+/// The functions that a day_factor case lists, in their order; `-` for none.
+pub fn functions(text: &str) -> Result<Vec<Function>, String> {
     if text == "-" {
         return Ok(Vec::new());
     }
-    text.split('|').map(|part| function(&part.split(' ').collect::<Vec<_>>()).map(|(_, ramp)| ramp)).collect()
+    text.split('|').map(|part| function(&part.split(' ').collect::<Vec<_>>()).map(|(_, function)| function)).collect()
 }
 
-/// A part `F k ramp A S0 B S1`: its entry and its ramp.
-fn function(words: &[&str]) -> Result<(usize, Ramp), String> {
-    let ["F", k, "ramp", a, s0, b, s1] = *words else {
-        return Err(format!("'{}' is no function record", words.join(" ")));
-    };
-    let ramp = Ramp { a: number(a)?, s0: number(s0)?, b: number(b)?, s1: number(s1)? };
-    match number(k)? {
-        k if k < 8 => Ok((k, ramp)),
-        k => Err(format!("there is no ramp entry {k}")),
+/// A part `F k kind a b c d`: the word of its entry and its function.
+fn function<'a>(words: &[&'a str]) -> Result<(&'a str, Function), String> {
+    let known = |word: &str| Function::KINDS.iter().position(|&(kind, _)| kind == word);
+    match *words {
+        ["F", k, word, a, b, c, d] if let Some(kind) = known(word) => {
+            Ok((k, Function { kind: kind as i64, numbers: [number(a)?, number(b)?, number(c)?, number(d)?] }))
+        }
+        _ => Err(format!("'{}' is no function record", words.join(" "))),
     }
 }
 
 /// The entry that a word counts from 0.
 fn entry<'a, T>(entries: &'a mut [T], k: &str) -> Result<&'a mut T, String> {
-    let k: usize = number(k)?;
-    entries.get_mut(k).ok_or_else(|| format!("there is no grid entry {k}"))
+    let (k, count): (usize, usize) = (number(k)?, entries.len());
+    entries.get_mut(k).ok_or_else(|| format!("there is no entry {k}, only 0 to {}", count - 1))
 }
 
 /// A name by the hex of its bytes, zeros at the end left out, and its length.

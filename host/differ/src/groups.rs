@@ -1,7 +1,8 @@
 //! Random groups: sound ones, and ones damaged so that each of the refusals 2 to 5 comes up.
 
+use crate::functions;
 use crate::random::Random;
-use interface::{Grid, Group, Name, Ramp};
+use interface::{Grid, Group, Name};
 
 /// Once around the earth: a grid's own longitude and far edge go so far either way, points and areas half of it.
 pub const TURN: i64 = 1_296_000_000;
@@ -149,22 +150,6 @@ fn grid(random: &mut Random, axes: [Axis; 2], k: usize, parameters: i64) -> Grid
     Grid { name: name(random, k), lon, lat, dlon, dlat, ni, nj, rank: random.between(1, 5), start }
 }
 
-fn ramp(random: &mut Random) -> Ramp {
-    let day = |random: &mut Random| match random.below(4) {
-        0 => random.between(-1_000_000, 1_000_000),
-        1 => random.pick(&[-1_000_000, 1_000_000]),
-        _ => random.between(-20, 20),
-    };
-    let factor = |random: &mut Random| match random.below(4) {
-        0 => random.between(-10_000_000, 10_000_000),
-        1 => random.pick(&[-10_000_000, 10_000_000]),
-        2 => random.pick(&[0, 1_000_000, 500_000]),
-        _ => random.between(-3, 3),
-    };
-    let (a, b) = (day(random), day(random));
-    Ramp { a: a.min(b), s0: factor(random), b: a.max(b), s1: factor(random) }
-}
-
 /// A group that is accepted.
 pub fn sound(random: &mut Random) -> Group {
     let world = world(random);
@@ -184,19 +169,19 @@ pub fn sound(random: &mut Random) -> Group {
 /// An accepted group of so many grids, each along its two axes, which are made from its index. One that shares a coordinate and
 /// its rank with an earlier one gets a greater rank.
 pub fn of_grids(random: &mut Random, grids: usize, axes: impl Fn(&mut Random, usize) -> [Axis; 2]) -> Group {
-    let ramps = random.pick(&[0, 0, 1, 2, 3, 8]);
+    let functions = random.pick(&[0, 0, 1, 2, 3, 8]);
     let parameters = random.between(1, 3);
     let mut record = Group {
         name: name(random, 0),
         unit: random.between(0, 1),
         quantum: random.between(0, 20),
         parameters,
-        ramps: ramps as i64,
+        functions: functions as i64,
         grids: grids as i64,
         ..Group::default()
     };
-    for k in 0..ramps {
-        record.ramp[k] = ramp(random);
+    for k in 0..functions {
+        record.function[k] = functions::sound(random);
     }
     for k in 0..grids {
         let axes = axes(random, k);
@@ -209,9 +194,9 @@ pub fn of_grids(random: &mut Random, grids: usize, axes: impl Fn(&mut Random, us
     record
 }
 
-/// The counts of ramps and grids, at most their entries.
+/// The counts of functions and grids, at most their entries.
 fn counts(record: &Group) -> (usize, usize) {
-    (record.ramps.clamp(0, 8) as usize, record.grids.clamp(1, 64) as usize)
+    (record.functions.clamp(0, 8) as usize, record.grids.clamp(1, 64) as usize)
 }
 
 /// Breaks a name: its length, one of its bytes, or a byte behind it.
@@ -240,24 +225,13 @@ fn break_grid(random: &mut Random, grid: &mut Grid) {
     }
 }
 
-fn break_ramp(random: &mut Random, ramp: &mut Ramp) {
-    let odd = random.odd();
-    match random.below(5) {
-        0 => ramp.a = odd,
-        1 => ramp.s0 = odd,
-        2 => ramp.b = odd,
-        3 => ramp.s1 = odd,
-        _ => (ramp.a, ramp.b) = (ramp.b, ramp.a),
-    }
-}
-
 fn break_head(random: &mut Random, record: &mut Group) {
     let odd = random.odd();
     match random.below(5) {
         0 => record.unit = odd,
         1 => record.quantum = odd,
         2 => record.parameters = odd,
-        3 => record.ramps = odd,
+        3 => record.functions = odd,
         _ => record.grids = odd,
     }
 }
@@ -306,13 +280,13 @@ fn clash(random: &mut Random, record: &mut Group, j: usize, k: usize) {
 
 /// Damages a group in one place; now and then the damage is none.
 pub fn damage(random: &mut Random, record: &mut Group) {
-    let (ramps, grids) = counts(record);
+    let (functions, grids) = counts(record);
     let (k, later) = (random.below(grids), random.below(grids));
-    match random.below(22) {
+    match random.below(24) {
         0 | 1 => break_head(random, record),
         2 => break_name(random, &mut record.name),
-        3 if ramps > 0 => break_ramp(random, &mut record.ramp[k % ramps]),
-        4 if ramps < 8 => break_ramp(random, &mut record.ramp[ramps + k % (8 - ramps)]),
+        3 | 22 if functions > 0 => functions::damage(random, &mut record.function[k % functions]),
+        4 | 23 if functions < 8 => functions::damage(random, &mut record.function[functions + k % (8 - functions)]),
         5 if grids < 64 => {
             let unused = &mut record.grid[grids + later % (64 - grids)];
             if random.percent(50) { break_grid(random, unused) } else { break_name(random, &mut unused.name) }

@@ -4,6 +4,7 @@ mod calls;
 mod command;
 mod covers;
 mod floats;
+mod functions;
 mod groups;
 mod logs;
 mod outcome;

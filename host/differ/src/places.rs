@@ -1,5 +1,6 @@
 //! Random positions, areas and node lists for a group.
 
+use crate::functions::day_of;
 use crate::groups::{LONGITUDE, SPACING, TURN, turned};
 use crate::random::Random;
 use interface::{Area, Grid, Group, Position};
@@ -67,13 +68,13 @@ pub fn positions(random: &mut Random, record: &Group) -> Vec<Position> {
 }
 
 fn day(random: &mut Random, record: &Group) -> i64 {
-    let ramp = record.ramp[random.below(8)];
     match random.below(24) {
         0 => random.odd(),
         1 => random.pick(&[-1_000_001, -1_000_000, 1_000_000, 1_000_001]),
-        2..=5 => ramp.a.saturating_add(random.between(-1, 1)),
-        6..=9 => ramp.b.saturating_add(random.between(-1, 1)),
-        10..=17 if ramp.a < ramp.b => random.between(ramp.a, ramp.b),
+        2..=19 => {
+            let k = random.below(record.functions.clamp(1, 8) as usize);
+            day_of(random, &record.function[k])
+        }
         _ => random.between(-25, 25),
     }
 }

@@ -1,7 +1,7 @@
 //! Header texts of groups, whatever their numbers, and damage to them.
 
 use crate::random::Random;
-use interface::{Group, Name};
+use interface::{Function, Group, Name};
 
 /// The header text of a record, with as many lines as its counts can name.
 pub fn text(record: &Group) -> Vec<u8> {
@@ -22,9 +22,10 @@ pub fn text(record: &Group) -> Vec<u8> {
         text.push(b'\n');
     };
     let unit = if record.unit == 0 { "arc-second" } else { "metre" };
-    line("group", Some(&record.name), Some(unit), &[record.quantum, record.parameters, record.ramps, record.grids]);
-    for r in &record.ramp[..record.ramps.clamp(0, 8) as usize] {
-        line("ramp", None, None, &[r.a, r.s0, r.b, r.s1]);
+    line("group", Some(&record.name), Some(unit), &[record.quantum, record.parameters, record.functions, record.grids]);
+    for f in &record.function[..record.functions.clamp(0, 8) as usize] {
+        let (word, numbers) = f.line().unwrap_or(("ramp3", &f.numbers));
+        line(word, None, None, numbers);
     }
     for g in &record.grid[..record.grids.clamp(0, 64) as usize] {
         line("grid", Some(&g.name), None, &[g.lon, g.lat, g.dlon, g.dlat, g.ni, g.nj, g.rank, g.start]);
@@ -34,9 +35,10 @@ pub fn text(record: &Group) -> Vec<u8> {
 
 /// Damages a text in one place.
 pub fn damage(random: &mut Random, text: &mut Vec<u8>) {
-    match random.below(4) {
+    match random.below(5) {
         0 => damage_bytes(random, text),
         1 => damage_lines(random, text),
+        2 => damage_function(random, text),
         _ => damage_field(random, text),
     }
 }
@@ -67,6 +69,25 @@ fn damage_lines(random: &mut Random, text: &mut Vec<u8>) {
         _ => lines.swap(one, other),
     }
     *text = lines.concat();
+}
+
+/// Gives a function's line another word, a field less or a field more, as every kind's line differs from the others'.
+fn damage_function(random: &mut Random, text: &mut Vec<u8>) {
+    const WORDS: [&str; 9] = ["ramp", "step", "ramp2", "ramp", "step", "ramp2", "ramp3", "Step", ""];
+    let mut lines: Vec<Vec<&[u8]>> =
+        text.split(|&c| c == b'\n').map(|line| line.split(|&c| c == b'\t').collect()).collect();
+    let of_a_function = |line: &Vec<&[u8]>| Function::KINDS.iter().any(|(word, _)| word.as_bytes() == line[0]);
+    let all: Vec<usize> = (0..lines.len()).filter(|&k| of_a_function(&lines[k])).collect();
+    if all.is_empty() {
+        return;
+    }
+    let fields = &mut lines[random.pick(&all)];
+    match random.below(4) {
+        0 => drop(fields.pop()),
+        1 => fields.push(random.pick(&["0", "7", "-10000000", ""]).as_bytes()),
+        _ => fields[0] = random.pick(&WORDS).as_bytes(),
+    }
+    *text = lines.iter().map(|fields| fields.join(&b'\t')).collect::<Vec<_>>().join(&b'\n');
 }
 
 fn damage_field(random: &mut Random, text: &mut Vec<u8>) {

@@ -3,7 +3,7 @@
 mod mutant;
 
 use differ::{Inputs, OTHERS, Random, Report, TIMED, run};
-use interface::{Answer, Answers, Calls, Fault, Group, Position, Program, Refusal};
+use interface::{Answer, Answers, Calls, Fault, Fix, Function, Group, Position, Program, Refusal};
 use mutant::{MUTANTS, WORKED_OUT};
 use plain::Plain;
 use reference::Reference;
@@ -45,14 +45,17 @@ fn every_number_that_a_call_can_return_comes_in_one_of_a_hundred_inputs() {
     }
 }
 
-/// The second program, which counts the points that it looks up together by their numbers, and the logs by their kinds.
+/// The second program, which counts the points that it looks up together by their numbers, the logs by their kinds, and the
+/// lookups by what their functions of time are put to.
 struct Counting;
 
 static COUNTED: [AtomicUsize; 14] = [const { AtomicUsize::new(0) }; 14];
 static KINDS: [AtomicUsize; 5] = [const { AtomicUsize::new(0) }; 5];
+static FUNCTIONS: [AtomicUsize; 11] = [const { AtomicUsize::new(0) }; 11];
 
 impl Program for Counting {
-    const ANSWERS: Answers = Answers { lookup_many: counted, judge_log: counted_log, ..Reference::ANSWERS };
+    const ANSWERS: Answers =
+        Answers { lookup: counted_functions, lookup_many: counted, judge_log: counted_log, ..Reference::ANSWERS };
 }
 
 fn counted_log(group: &Group, nodes: &[i32], log: &[u8]) -> Result<Fault, Refusal> {
@@ -61,6 +64,43 @@ fn counted_log(group: &Group, nodes: &[i32], log: &[u8]) -> Result<Fault, Refusa
         KINDS[fault.kind as usize].fetch_add(1, Ordering::Relaxed);
     }
     Ok(fault)
+}
+
+/// What a function is put to on a day, each at an index of its own.
+fn put_to(function: &Function, day: i64) -> [bool; 10] {
+    let mut seen = [false; 10];
+    match (function.kind, function.numbers) {
+        (Function::RAMP, [a, _, b, _]) => seen[0] = a < day && day < b,
+        (Function::STEP, [event, reference, ..]) => {
+            seen[1] = day == event;
+            seen[2] = day < event && event <= reference;
+            seen[3] = reference < event && event <= day;
+            seen[4] = reference == event;
+        }
+        (_, [start, end, reference, mult]) => {
+            let slope = |t: i64| start < t && t < end;
+            let gained = day.clamp(start, end) - reference.clamp(start, end);
+            seen[5] = slope(day) && slope(reference);
+            seen[6] = slope(day) && !slope(reference);
+            seen[7] = reference == start || reference == end;
+            seen[8] = day < reference && gained * mult != 0;
+            seen[9] = gained * mult % (end - start) != 0;
+        }
+    }
+    seen
+}
+
+fn counted_functions(group: &Group, nodes: &[i32], at: Position) -> Result<Fix, Refusal> {
+    let fix = (Reference::ANSWERS.lookup)(group, nodes, at)?;
+    let functions = &group.function[..group.functions as usize];
+    for (k, count) in FUNCTIONS.iter().enumerate() {
+        let seen = match k {
+            10 => functions.windows(2).any(|pair| pair[0].kind != pair[1].kind),
+            _ => functions.iter().any(|function| put_to(function, at.day)[k]),
+        };
+        count.fetch_add(usize::from(seen), Ordering::Relaxed);
+    }
+    Ok(fix)
 }
 
 /// Gives the inputs of a call to it: what it has counted then, and how much that is in all.
@@ -94,6 +134,15 @@ fn every_kind_comes_in_one_of_a_hundred_logs_that_are_judged() {
     let (counts, all) = counts("judge_log", &KINDS);
     for (kind, count) in counts.into_iter().enumerate() {
         assert!(count * 100 >= all, "{kind} came {count} times in {all} logs");
+    }
+}
+
+/// Days and reference days before, on and behind the days of every kind, factors that are rounded, and kinds mixed.
+#[test]
+fn functions_are_put_to_everything_in_one_of_a_hundred_lookups() {
+    let (counts, _) = counts("lookup", &FUNCTIONS);
+    for (k, count) in counts.into_iter().enumerate() {
+        assert!(count * 100 >= INPUTS.count, "{k} came {count} times");
     }
 }
 

@@ -1,6 +1,6 @@
 //! A group as the C interface passes it: plain signed numbers, so that it can hold any number that a caller may hand over.
 
-use crate::{MOST_GRIDS, MOST_RAMPS, NAME_BYTES};
+use crate::{MOST_FUNCTIONS, MOST_GRIDS, NAME_BYTES};
 
 /// A name: its bytes, zero behind its length, and its length. In C these are two fields of the struct that has the name.
 #[repr(C)]
@@ -28,14 +28,43 @@ impl Name {
     }
 }
 
-/// A ramp: factor S0 at and before day A, S1 at and after day B, in millionths.
+/// A function of time: its kind and four numbers, in the order of its line. In C the numbers are a union of one struct for each
+/// kind. The function of zeros is a ramp.
 #[repr(C)]
 #[derive(Clone, Copy, Debug, Default, PartialEq, Eq)]
-pub struct Ramp {
-    pub a: i64,
-    pub s0: i64,
-    pub b: i64,
-    pub s1: i64,
+pub struct Function {
+    pub kind: i64,
+    pub numbers: [i64; 4],
+}
+
+impl Function {
+    pub const RAMP: i64 = 0;
+    pub const STEP: i64 = 1;
+    pub const RAMP2: i64 = 2;
+
+    /// The word of each kind's line and the count of its numbers, by kind; a number that a kind hasn't got is 0.
+    pub const KINDS: [(&str, usize); 3] = [("ramp", 4), ("step", 3), ("ramp2", 4)];
+
+    /// Factor S0 at and before day A, S1 at and after day B, in millionths.
+    pub const fn ramp(a: i64, s0: i64, b: i64, s1: i64) -> Function {
+        Function { kind: Function::RAMP, numbers: [a, s0, b, s1] }
+    }
+
+    /// MULT millionths times f(day) less f(REF), where f is 0 before EVENT and 1 from it on.
+    pub const fn step(event: i64, reference: i64, mult: i64) -> Function {
+        Function { kind: Function::STEP, numbers: [event, reference, mult, 0] }
+    }
+
+    /// MULT millionths times f(day) less f(REF), where f is 0 up to START, 1 from END on, and linear between.
+    pub const fn ramp2(start: i64, end: i64, reference: i64, mult: i64) -> Function {
+        Function { kind: Function::RAMP2, numbers: [start, end, reference, mult] }
+    }
+
+    /// The word of the function's line and the numbers behind it; none for a kind that is none.
+    pub fn line(&self) -> Option<(&'static str, &[i64])> {
+        let (word, count) = *Function::KINDS.get(usize::try_from(self.kind).ok()?)?;
+        Some((word, &self.numbers[..count]))
+    }
 }
 
 /// A grid: positions and spacings in milliarcseconds, node counts, rank, and its first place in the node list.
@@ -61,9 +90,9 @@ pub struct Group {
     pub unit: i64,
     pub quantum: i64,
     pub parameters: i64,
-    pub ramps: i64,
+    pub functions: i64,
     pub grids: i64,
-    pub ramp: [Ramp; MOST_RAMPS],
+    pub function: [Function; MOST_FUNCTIONS],
     pub grid: [Grid; MOST_GRIDS],
 }
 
@@ -75,9 +104,9 @@ impl Default for Group {
             unit: 0,
             quantum: 0,
             parameters: 0,
-            ramps: 0,
+            functions: 0,
             grids: 0,
-            ramp: [Ramp::default(); MOST_RAMPS],
+            function: [Function::default(); MOST_FUNCTIONS],
             grid: [Grid::default(); MOST_GRIDS],
         }
     }

@@ -13,15 +13,15 @@ pub use adaptor::{Answers, Program, Refusal, hand_back};
 pub use answers::{Answer, Entry, Fault, Fix, InForce, Part, Screen, Uncovered};
 pub use arguments::{Area, Found, Position};
 pub use calls::{Calls, Timed};
-pub use group::{Grid, Group, Name, Ramp};
+pub use group::{Function, Grid, Group, Name};
 
 /// The version of the interface: major * 1,000,000 + minor * 1,000 + patch.
-pub const VERSION: u64 = 3_000_000;
+pub const VERSION: u64 = 4_000_000;
 
 /// Bytes of a name, used or not.
 pub const NAME_BYTES: usize = 24;
-/// Entries of a group for ramps and grids, and results of a lookup.
-pub const MOST_RAMPS: usize = 8;
+/// Entries of a group for functions of time and grids, and results of a lookup.
+pub const MOST_FUNCTIONS: usize = 8;
 pub const MOST_GRIDS: usize = 64;
 pub const MOST_PARAMETERS: usize = 3;
 /// Holds every header text.

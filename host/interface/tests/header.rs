@@ -29,10 +29,19 @@ macro_rules! layout {
     };
 }
 
+/// The struct of a kind's numbers: Rust has a list of them in its place.
+fn numbers(kind: &'static str, fields: [&'static str; 4]) -> (&'static str, usize, Vec<(&'static str, usize)>) {
+    let begins = (0..).step_by(size_of::<i64>());
+    (kind, size_of_val(&Function::default().numbers), fields.into_iter().zip(begins).collect())
+}
+
 #[test]
 fn every_struct_is_laid_out_as_the_header_checks() {
     let layouts = [
-        layout!("ramp", Ramp, "a" = a, "s0" = s0, "b" = b, "s1" = s1),
+        numbers("ramp", ["a", "s0", "b", "s1"]),
+        numbers("step", ["event", "reference", "mult", "unused"]),
+        numbers("ramp2", ["start", "end", "reference", "mult"]),
+        layout!("function", Function, "kind" = kind, "numbers" = numbers),
         layout!(
             "grid",
             Grid,
@@ -55,9 +64,9 @@ fn every_struct_is_laid_out_as_the_header_checks() {
             "unit" = unit,
             "quantum" = quantum,
             "parameters" = parameters,
-            "ramps" = ramps,
+            "functions" = functions,
             "grids" = grids,
-            "ramp" = ramp,
+            "function" = function,
             "grid" = grid
         ),
         layout!("fix", Fix, "grid" = grid, "result" = result),
@@ -92,7 +101,7 @@ fn every_constant_has_the_headers_value() {
     assert_eq!(named("VERSION"), VERSION);
     let sizes = [
         ("NAME_BYTES", NAME_BYTES),
-        ("MOST_RAMPS", MOST_RAMPS),
+        ("MOST_FUNCTIONS", MOST_FUNCTIONS),
         ("MOST_GRIDS", MOST_GRIDS),
         ("MOST_PARAMETERS", MOST_PARAMETERS),
         ("HEADER_BYTES", HEADER_BYTES),
@@ -101,6 +110,8 @@ fn every_constant_has_the_headers_value() {
     for (constant, value) in sizes {
         assert_eq!(named(constant), value as u64, "{constant}");
     }
+    let kinds = ["RAMP", "STEP", "RAMP2"].map(|kind| named(kind) as i64);
+    assert_eq!(kinds, [Function::RAMP, Function::STEP, Function::RAMP2]);
     let kinds = ["LOG_PASSES", "LOG_FORM", "LOG_REFUSED", "LOG_GRID", "LOG_SHIFT"].map(named);
     assert_eq!(kinds, [0, Fault::FORM, Fault::REFUSED, Fault::GRID, Fault::SHIFT]);
 }
@@ -120,21 +131,21 @@ fn examples() -> Vec<String> {
 }
 
 #[test]
-fn every_function_has_an_example_that_the_examples_hold_word_for_word() {
+fn every_call_has_an_example_that_the_examples_hold_word_for_word() {
     let examples = examples();
     for example in &examples {
         let unindented: String = example.lines().map(|line| format!("{}\n", line.trim_start())).collect();
         assert!(EXAMPLES.contains(example) || EXAMPLES.contains(&unindented), "not in examples.c:\n{example}");
     }
-    let functions = HEADER.lines().filter_map(|line| {
+    let calls = HEADER.lines().filter_map(|line| {
         line.strip_prefix("uint64_t ").or(line.strip_prefix("void "))?.split_once('(').map(|(name, _)| name)
     });
     let mut count = 0;
-    for function in functions {
-        assert!(examples.iter().any(|example| example.contains(&format!("{function}("))), "{function}");
+    for call in calls {
+        assert!(examples.iter().any(|example| example.contains(&format!("{call}("))), "{call}");
         count += 1;
     }
-    assert_eq!((count, examples.len()), (14, 15), "one for each function, and the nodes that they use");
+    assert_eq!((count, examples.len()), (14, 16), "one for each call, the nodes that they use, and a function of time");
     let shown = examples.iter().find(|example| example.contains("bulhyemik_lookup(")).expect("found just now");
     assert!(README.contains(shown), "README shows the example of the lookup");
 }

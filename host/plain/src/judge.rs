@@ -1,7 +1,7 @@
 //! The judge: limits and refusals 2 to 5, and 10 of an area.
 
 use crate::group::{LONGITUDE, TURN, end, extent, share};
-use interface::{Area, Grid, Group, MOST_GRIDS, NAME_BYTES, Name, Ramp, Refusal};
+use interface::{Area, Function, Grid, Group, MOST_GRIDS, NAME_BYTES, Name, Refusal};
 
 pub const LATITUDE: i64 = 324_000_000;
 const NODE_LIST: i64 = 16_777_216;
@@ -35,12 +35,20 @@ fn name_within(name: &Name) -> bool {
 pub fn head_within(group: &Group) -> bool {
     between(group.quantum, 0, 20)
         && between(group.parameters, 1, 3)
-        && between(group.ramps, 0, 8)
+        && between(group.functions, 0, 8)
         && between(group.grids, 1, 64)
 }
 
-pub fn ramp_within(&Ramp { a, s0, b, s1 }: &Ramp) -> bool {
-    within(a, 1_000_000) && within(b, 1_000_000) && within(s0, 10_000_000) && within(s1, 10_000_000) && a <= b
+pub fn function_within(&Function { kind, numbers }: &Function) -> bool {
+    let day = |t: i64| within(t, 1_000_000);
+    let factor = |s: i64| within(s, 10_000_000);
+    let [a, b, c, d] = numbers;
+    match kind {
+        Function::RAMP => day(a) && factor(b) && day(c) && factor(d) && a <= c,
+        Function::STEP => day(a) && day(b) && factor(c) && d == 0,
+        Function::RAMP2 => day(a) && day(b) && day(c) && factor(d) && a < b,
+        _ => false,
+    }
 }
 
 pub fn grid_within(grid: &Grid) -> bool {
@@ -61,16 +69,16 @@ fn limits(group: &Group) -> Result<(), Refusal> {
     if !name_within(&group.name) || !between(group.unit, 0, 1) || !head_within(group) {
         return Err(refusal(2, 1));
     }
-    let (ramps, unused_ramps) = group.ramp.split_at(group.ramps as usize);
+    let (functions, unused) = group.function.split_at(group.functions as usize);
     let (grids, unused_grids) = group.grid.split_at(group.grids as usize);
-    if unused_ramps.iter().any(|r| *r != Ramp::default()) || unused_grids.iter().any(|g| *g != Grid::default()) {
+    if unused.iter().any(|f| *f != Function::default()) || unused_grids.iter().any(|g| *g != Grid::default()) {
         return Err(refusal(2, 1));
     }
-    if let Some(k) = ramps.iter().position(|r| !ramp_within(r)) {
+    if let Some(k) = functions.iter().position(|f| !function_within(f)) {
         return Err(refusal(2, 2 + k));
     }
     match grids.iter().position(|g| !name_within(&g.name) || !grid_within(g)) {
-        Some(k) => Err(refusal(2, 2 + ramps.len() + k)),
+        Some(k) => Err(refusal(2, 2 + functions.len() + k)),
         None => Ok(()),
     }
 }

@@ -3,7 +3,7 @@
 use crate::group::{LONGITUDE, end, holds, longitude_used, pieces};
 use crate::judge::{LATITUDE, judge, refusal, within};
 use crate::round::{nearest, nearest_wide};
-use interface::{Answer, Area, Fix, Group, MARK, MOST_GRIDS, Position, Ramp, Refusal};
+use interface::{Answer, Area, Fix, Function, Group, MARK, MOST_GRIDS, Position, Refusal};
 
 /// With weights that add to at most this, every weighted sum of node values fits 64 bits. Fine grids are known by this one
 /// number, without a look at the corners; on others the sum has 128 bits, whatever the corners hold.
@@ -16,19 +16,32 @@ fn cell(from: i64, spacing: i64, count: i64, at: i64) -> (i64, i64) {
     (index, away - index * size)
 }
 
-/// The sum of the ramps' factors on a day.
-fn factor(group: &Group, day: i64) -> i64 {
-    let ramps = &group.ramp[..group.ramps as usize];
-    let of = |&Ramp { a, s0, b, s1 }: &Ramp| {
-        if day >= b {
-            s1
-        } else if day <= a {
-            s0
-        } else {
-            nearest(s0 * (b - day) + s1 * (day - a), b - a)
+/// The factor of a judged function on a day.
+fn factor_of(function: &Function, day: i64) -> i64 {
+    match (function.kind, function.numbers) {
+        (Function::RAMP, [a, s0, b, s1]) => {
+            if day >= b {
+                s1
+            } else if day <= a {
+                s0
+            } else {
+                nearest(s0 * (b - day) + s1 * (day - a), b - a)
+            }
         }
-    };
-    if ramps.is_empty() { 1_000_000 } else { ramps.iter().map(of).sum() }
+        (Function::STEP, [event, reference, mult, _]) => {
+            mult * (i64::from(day >= event) - i64::from(reference >= event))
+        }
+        (_, [start, end, reference, mult]) => {
+            let gained = day.clamp(start, end) - reference.clamp(start, end);
+            nearest(mult * gained, end - start)
+        }
+    }
+}
+
+/// The sum of the functions' factors on a day.
+fn factor(group: &Group, day: i64) -> i64 {
+    let functions = &group.function[..group.functions as usize];
+    if functions.is_empty() { 1_000_000 } else { functions.iter().map(|function| factor_of(function, day)).sum() }
 }
 
 /// Refusals 6 and 9.

@@ -1,7 +1,7 @@
 //! The reader of a header text.
 
-use crate::judge::{grid_within, head_within, name_byte, ramp_within, refusal, sound};
-use interface::{Grid, Group, NAME_BYTES, Name, Ramp, Refusal};
+use crate::judge::{function_within, grid_within, head_within, name_byte, refusal, sound};
+use interface::{Function, Grid, Group, NAME_BYTES, Name, Refusal};
 
 /// Why a line is not taken: its form (1) or a limit (2).
 type Fault = u64;
@@ -83,14 +83,21 @@ fn group_line(mut fields: Fields) -> Result<Group, Fault> {
         b"metre" => 1,
         _ => return Err(FORM),
     };
-    let [quantum, parameters, ramps, grids] = fields.numbers()?;
-    admitted(Group { name, unit, quantum, parameters, ramps, grids, ..Group::default() }, head_within)
+    let [quantum, parameters, functions, grids] = fields.numbers()?;
+    admitted(Group { name, unit, quantum, parameters, functions, grids, ..Group::default() }, head_within)
 }
 
-fn ramp_line(mut fields: Fields) -> Result<Ramp, Fault> {
-    fields.word(b"ramp")?;
-    let [a, s0, b, s1] = fields.numbers()?;
-    admitted(Ramp { a, s0, b, s1 }, ramp_within)
+fn function_line(mut fields: Fields) -> Result<Function, Fault> {
+    let function = match fields.next()? {
+        b"ramp" => Function { kind: Function::RAMP, numbers: fields.numbers()? },
+        b"ramp2" => Function { kind: Function::RAMP2, numbers: fields.numbers()? },
+        b"step" => {
+            let [event, reference, mult] = fields.numbers()?;
+            Function::step(event, reference, mult)
+        }
+        _ => return Err(FORM),
+    };
+    admitted(function, function_within)
 }
 
 fn grid_line(mut fields: Fields) -> Result<Grid, Fault> {
@@ -121,8 +128,8 @@ impl<'a> Lines<'a> {
 pub fn read(text: &[u8]) -> Result<Group, Refusal> {
     let mut lines = Lines { rest: text, number: 0 };
     let mut group = lines.next(group_line)?;
-    for ramp in &mut group.ramp[..group.ramps as usize] {
-        *ramp = lines.next(ramp_line)?;
+    for function in &mut group.function[..group.functions as usize] {
+        *function = lines.next(function_line)?;
     }
     for grid in &mut group.grid[..group.grids as usize] {
         *grid = lines.next(grid_line)?;

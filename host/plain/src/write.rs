@@ -1,7 +1,7 @@
 //! The writer of a header text.
 
 use crate::judge::{judge, refusal};
-use interface::{Group, Name, Refusal};
+use interface::{Function, Group, Name, Refusal};
 
 /// No accepted group has a longer header text.
 const LONGEST: usize = 6_732;
@@ -49,10 +49,10 @@ pub fn write(group: &Group, out: &mut [u8]) -> Result<usize, Refusal> {
     text.put(b"group");
     text.name(&group.name);
     text.put(if group.unit == 0 { b"\tarc-second" } else { b"\tmetre" });
-    text.numbers(&[group.quantum, group.parameters, group.ramps, group.grids]);
-    for r in &group.ramp[..group.ramps as usize] {
-        text.put(b"ramp");
-        text.numbers(&[r.a, r.s0, r.b, r.s1]);
+    text.numbers(&[group.quantum, group.parameters, group.functions, group.grids]);
+    for (word, numbers) in group.function[..group.functions as usize].iter().filter_map(Function::line) {
+        text.put(word.as_bytes());
+        text.numbers(numbers);
     }
     for g in &group.grid[..group.grids as usize] {
         text.put(b"grid");

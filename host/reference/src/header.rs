@@ -4,7 +4,7 @@ use crate::judge::{judge, sound};
 use crate::limits;
 use crate::refusal::refuse;
 use crate::text::{decimal, put};
-use interface::{Grid, Group, Name, Ramp, Refusal};
+use interface::{Function, Grid, Group, Name, Refusal};
 
 /// Why a line is not taken.
 enum Fault {
@@ -49,7 +49,7 @@ fn within<T>(admitted: bool, value: impl FnOnce() -> T) -> Result<T, Fault> {
     if admitted { Ok(value()) } else { Err(Fault::Limit) }
 }
 
-/// `group` NAME UNIT Q NP ramps grids.
+/// `group` NAME UNIT Q NP FUNCTIONS GRIDS.
 fn group_line(fields: &[&[u8]]) -> Result<Group, Fault> {
     let [b"group", text, unit, rest @ ..] = fields else { return Err(Fault::Form) };
     let name = name(text)?;
@@ -58,26 +58,30 @@ fn group_line(fields: &[&[u8]]) -> Result<Group, Fault> {
         b"metre" => 1,
         _ => return Err(Fault::Form),
     };
-    let [q, np, ramps, grids] = numbers(rest)?;
-    within(limits::head(q, np, ramps, grids), || Group {
+    let [q, np, functions, grids] = numbers(rest)?;
+    within(limits::head(q, np, functions, grids), || Group {
         name,
         unit,
         quantum: q as i64,
         parameters: np as i64,
-        ramps: ramps as i64,
+        functions: functions as i64,
         grids: grids as i64,
         ..Group::default()
     })
 }
 
-/// `ramp` A S0 B S1.
-fn ramp_line(fields: &[&[u8]]) -> Result<Ramp, Fault> {
-    let [b"ramp", rest @ ..] = fields else { return Err(Fault::Form) };
-    let all: [i128; 4] = numbers(rest)?;
-    within(limits::ramp(all), || {
-        let [a, s0, b, s1] = all.map(|n| n as i64);
-        Ramp { a, s0, b, s1 }
-    })
+/// `ramp` A S0 B S1, `step` EVENT REF MULT, or `ramp2` START END REF MULT.
+fn function_line(fields: &[&[u8]]) -> Result<Function, Fault> {
+    let (kind, all) = match fields {
+        [b"ramp", rest @ ..] => (Function::RAMP, numbers(rest)?),
+        [b"step", rest @ ..] => {
+            let [event, reference, mult] = numbers(rest)?;
+            (Function::STEP, [event, reference, mult, 0])
+        }
+        [b"ramp2", rest @ ..] => (Function::RAMP2, numbers(rest)?),
+        _ => return Err(Fault::Form),
+    };
+    within(limits::function(kind, all), || Function { kind, numbers: all.map(|n| n as i64) })
 }
 
 /// `grid` NAME LON LAT DLON DLAT NI NJ RANK START.
@@ -95,8 +99,8 @@ fn grid_line(fields: &[&[u8]]) -> Result<Grid, Fault> {
 pub fn read_header(text: &[u8]) -> Result<Group, Refusal> {
     let mut lines = Lines { rest: text, number: 0 };
     let mut record = lines.read(group_line)?;
-    for k in 0..record.ramps as usize {
-        record.ramp[k] = lines.read(ramp_line)?;
+    for k in 0..record.functions as usize {
+        record.function[k] = lines.read(function_line)?;
     }
     for k in 0..record.grids as usize {
         record.grid[k] = lines.read(grid_line)?;
@@ -117,11 +121,12 @@ fn header_text(record: &Group) -> Vec<u8> {
         shown(&record.name),
         record.quantum,
         record.parameters,
-        record.ramps,
+        record.functions,
         record.grids
     );
-    for r in &record.ramp[..record.ramps as usize] {
-        text += &format!("ramp\t{}\t{}\t{}\t{}\n", r.a, r.s0, r.b, r.s1);
+    for f in &record.function[..record.functions as usize] {
+        let (word, numbers) = f.line().expect("a judged function has a kind");
+        text += &format!("{word}\t{}\n", numbers.iter().map(i64::to_string).collect::<Vec<_>>().join("\t"));
     }
     for g in &record.grid[..record.grids as usize] {
         let numbers = limits::grid_numbers(g).map(|n| n.to_string()).join("\t");

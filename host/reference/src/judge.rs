@@ -3,7 +3,7 @@
 use crate::geometry::{TURN, extent, far_edge, range_end};
 use crate::limits;
 use crate::refusal::refuse;
-use interface::{Grid, Group, Ramp, Refusal};
+use interface::{Function, Grid, Group, Refusal};
 
 /// Accepts the record, or refuses it as its text would be refused.
 pub fn judge(record: &Group) -> Result<(), Refusal> {
@@ -13,24 +13,25 @@ pub fn judge(record: &Group) -> Result<(), Refusal> {
 
 /// Refusal 2: the least place at which the record breaks a limit.
 fn limits_of_record(record: &Group) -> Result<(), Refusal> {
-    let (ramps, grids) = (i128::from(record.ramps), i128::from(record.grids));
+    let (functions, grids) = (i128::from(record.functions), i128::from(record.grids));
     let head = limits::name(&record.name)
         && (0..=1).contains(&record.unit)
-        && limits::head(i128::from(record.quantum), i128::from(record.parameters), ramps, grids);
+        && limits::head(i128::from(record.quantum), i128::from(record.parameters), functions, grids);
     if !head {
         return refuse(2, 1);
     }
-    let (used_ramps, unused_ramps) = record.ramp.split_at(record.ramps as usize);
-    let (used_grids, unused_grids) = record.grid.split_at(record.grids as usize);
-    if unused_ramps.iter().any(|r| *r != Ramp::default()) || unused_grids.iter().any(|g| *g != Grid::default()) {
+    let (functions, unused_functions) = record.function.split_at(record.functions as usize);
+    let (grids, unused_grids) = record.grid.split_at(record.grids as usize);
+    let not_zero = unused_functions.iter().any(|f| *f != Function::default());
+    if not_zero || unused_grids.iter().any(|g| *g != Grid::default()) {
         return refuse(2, 1);
     }
-    if let Some(k) = used_ramps.iter().position(|r| !limits::ramp(limits::ramp_numbers(r))) {
+    if let Some(k) = functions.iter().position(|f| !limits::function(f.kind, f.numbers.map(i128::from))) {
         return refuse(2, 2 + k);
     }
     let broken = |g: &Grid| !limits::name(&g.name) || !limits::grid(limits::grid_numbers(g));
-    if let Some(k) = used_grids.iter().position(broken) {
-        return refuse(2, 2 + used_ramps.len() + k);
+    if let Some(k) = grids.iter().position(broken) {
+        return refuse(2, 2 + functions.len() + k);
     }
     Ok(())
 }

@@ -1,6 +1,6 @@
-//! The admitted ranges of document 01's table 'Numbers', as orders 5 and 6 amend them, each as a test of one number.
+//! The admitted ranges of document 01's table 'Numbers', as orders 5 to 7 amend them, each as a test of one number.
 
-use interface::{Grid, Name, Ramp};
+use interface::{Function, Grid, Name};
 use std::ops::RangeInclusive;
 
 /// Of a grid's own longitude and far edge.
@@ -41,15 +41,26 @@ pub fn parameters(np: i128) -> bool {
     (1..=3).contains(&np)
 }
 
-/// Whether the four numbers of a group line stand in their limits: Q, NP, ramps, grids.
-pub fn head(q: i128, np: i128, ramps: i128, grids: i128) -> bool {
-    quantum(q) && parameters(np) && (0..=8).contains(&ramps) && (1..=64).contains(&grids)
+/// Whether the four numbers of a group line stand in their limits: Q, NP, functions, grids.
+pub fn head(q: i128, np: i128, functions: i128, grids: i128) -> bool {
+    quantum(q) && parameters(np) && (0..=8).contains(&functions) && (1..=64).contains(&grids)
 }
 
-/// Whether the four numbers of a ramp line stand in their limits, and A not above B.
-pub fn ramp([a, s0, b, s1]: [i128; 4]) -> bool {
-    let factor = |s: i128| (-FACTOR..=FACTOR).contains(&s);
-    day(a) && factor(s0) && day(b) && factor(s1) && a <= b
+fn factor(s: i128) -> bool {
+    (-FACTOR..=FACTOR).contains(&s)
+}
+
+/// Whether the numbers of a function stand in the limits of its kind, A not above B and START below END; a number that the kind
+/// hasn't got is 0.
+pub fn function(kind: i64, numbers: [i128; 4]) -> bool {
+    match (kind, numbers) {
+        (Function::RAMP, [a, s0, b, s1]) => day(a) && factor(s0) && day(b) && factor(s1) && a <= b,
+        (Function::STEP, [event, reference, mult, none]) => day(event) && day(reference) && factor(mult) && none == 0,
+        (Function::RAMP2, [start, end, reference, mult]) => {
+            day(start) && day(end) && day(reference) && factor(mult) && start < end
+        }
+        _ => false,
+    }
 }
 
 /// Whether the eight numbers of a grid line stand in their limits.
@@ -82,11 +93,6 @@ pub fn name(n: &Name) -> bool {
         let (used, behind) = n.bytes.split_at(n.len as usize);
         name_text(used) && behind.iter().all(|&c| c == 0)
     }
-}
-
-/// The four numbers of a ramp, as its line has them.
-pub fn ramp_numbers(r: &Ramp) -> [i128; 4] {
-    [r.a, r.s0, r.b, r.s1].map(i128::from)
 }
 
 /// The eight numbers of a grid, as its line has them.

@@ -5,7 +5,7 @@ use crate::judge::judge;
 use crate::limits;
 use crate::refusal::refuse;
 use crate::rounding::nearest_even;
-use interface::{Answer, Fix, Grid, Group, MARK, Position, Ramp, Refusal};
+use interface::{Answer, Fix, Function, Grid, Group, MARK, Position, Refusal};
 
 /// Where a point stands on one axis: the cell's index, the spacing's size, the distance from the cell's lower node.
 struct Along {
@@ -40,9 +40,7 @@ fn node_place(g: &Grid, parameters: i64, i: i128, j: i128, p: i64) -> usize {
 }
 
 /// A ramp's factor on a day, in millionths.
-fn ramp_factor(r: &Ramp, day: i64) -> i128 {
-    let [a, s0, b, s1] = limits::ramp_numbers(r);
-    let t = i128::from(day);
+fn ramp_factor([a, s0, b, s1]: [i128; 4], t: i128) -> i128 {
     if t >= b {
         s1
     } else if t <= a {
@@ -52,9 +50,28 @@ fn ramp_factor(r: &Ramp, day: i64) -> i128 {
     }
 }
 
-/// The sum of the ramps' factors on a day, in millionths; 1,000,000 without ramps.
-pub fn day_factor(ramps: &[Ramp], day: i64) -> i128 {
-    if ramps.is_empty() { 1_000_000 } else { ramps.iter().map(|r| ramp_factor(r, day)).sum() }
+/// MULT times what a plain function gains from REF to the day, where the function is a whole number over a divisor.
+fn gained(mult: i128, plain: impl Fn(i128) -> i128, divisor: i128, reference: i128, t: i128) -> i128 {
+    nearest_even(mult * (plain(t) - plain(reference)), divisor)
+}
+
+/// A function's factor on a day, in millionths.
+fn factor(f: &Function, day: i64) -> i128 {
+    let t = i128::from(day);
+    match (f.kind, f.numbers.map(i128::from)) {
+        (Function::RAMP, numbers) => ramp_factor(numbers, t),
+        (Function::STEP, [event, reference, mult, _]) => gained(mult, |t| i128::from(t >= event), 1, reference, t),
+        (Function::RAMP2, [start, end, reference, mult]) => {
+            let days = end - start;
+            gained(mult, |t| (t - start).clamp(0, days), days, reference, t)
+        }
+        _ => panic!("a judged function has a kind"),
+    }
+}
+
+/// The sum of the functions' factors on a day, in millionths; 1,000,000 without functions.
+pub fn day_factor(functions: &[Function], day: i64) -> i128 {
+    if functions.is_empty() { 1_000_000 } else { functions.iter().map(|f| factor(f, day)).sum() }
 }
 
 /// Refusal 13: the lowest grid of an accepted group whose nodes end behind the list.
@@ -89,7 +106,7 @@ pub fn lookup(record: &Group, nodes: &[i32], at: Position) -> Result<Fix, Refusa
     if corners.iter().any(|&(i, j, _)| (0..record.parameters).any(|p| node(i, j, p) == MARK)) {
         return refuse(8, 0);
     }
-    let factor = day_factor(&record.ramp[..record.ramps as usize], at.day);
+    let factor = day_factor(&record.function[..record.functions as usize], at.day);
     let mut fix = Fix { grid: choice as i64 + 1, result: [0; 3] };
     for p in 0..record.parameters {
         let sum: i128 = corners.iter().map(|&(i, j, w)| w * i128::from(node(i, j, p))).sum();

@@ -1,9 +1,9 @@
 //! The marked cases of document 01, M1 to M12 and the others it names, the holes of their groups and logs of their lookups.
 
-use interface::{Area, Entry, Fault, Fix, Grid, Group, MARK, Name, Position, Ramp, Refusal};
+use interface::{Area, Entry, Fault, Fix, Function, Grid, Group, MARK, Name, Position, Refusal};
 use reference::{day_factor, grids_in_force, hole, judge, judge_log, load_nodes, lookup, write_log_line};
 
-const RAMP: Ramp = Ramp { a: 100, s0: 0, b: 200, s1: 1_000_000 };
+const RAMP: Function = Function::ramp(100, 0, 200, 1_000_000);
 
 fn grid(name: &str, lon: i64, ni: i64, rank: i64) -> Grid {
     Grid { name: Name::new(name.as_bytes()), lon, lat: 0, dlon: 10, dlat: 10, ni, nj: 2, rank, start: 0 }
@@ -63,7 +63,7 @@ fn m1_to_m9_are_lookups() {
 fn m10_is_the_day_factor() {
     assert_eq!([99, 133, 200].map(|day| day_factor(&[RAMP], day)), [0, 330_000, 1_000_000]);
     assert_eq!(day_factor(&[], 5), 1_000_000);
-    assert_eq!(day_factor(&[Ramp { b: 100, ..RAMP }], 100), 1_000_000);
+    assert_eq!(day_factor(&[Function::ramp(100, 0, 100, 1_000_000)], 100), 1_000_000);
 }
 
 #[test]

@@ -14,7 +14,7 @@ const HELP: &str = "\
 usage: replay FILE..
 
 Runs case files (cases/FORMAT.md) through the C interface. FILE is named after
-its call, as in cases/after_06/lookup.tsv. Prints `FILE: N cases, M differ` for
+its call, as in cases/after_07/lookup.tsv. Prints `FILE: N cases, M differ` for
 each file and the first differences in full.
 
 exit status: 0 none differ, 1 some differ, 2 usage or file error

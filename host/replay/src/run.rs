@@ -4,8 +4,8 @@ use crate::lent::filled;
 use cases::{Case, CaseFile, Expected, Input, NodeList};
 use interface::lent::{Element, Words, compare, patterned};
 use interface::{
-    Answer, Area, Calls, Fault, Fix, Found, Grid, Group, InForce, MOST_PARAMETERS, Name, Part, Position, Ramp, Screen,
-    Timed, Uncovered,
+    Answer, Area, Calls, Fault, Fix, Found, Function, Grid, Group, InForce, MOST_PARAMETERS, Name, Part, Position,
+    Screen, Timed, Uncovered,
 };
 use std::fmt;
 
@@ -72,10 +72,10 @@ fn written(out: &[u8], count: u64, expected: &Expected) -> Result<(), String> {
 }
 
 /// A group of one grid of four nodes, for a lookup that answers the day factor.
-fn factor_group(ramps: &[Ramp]) -> Group {
-    let mut group =
-        Group { name: Name::new(b"factor"), parameters: 1, ramps: ramps.len() as i64, grids: 1, ..Group::default() };
-    group.ramp[..ramps.len()].copy_from_slice(ramps);
+fn factor_group(functions: &[Function]) -> Group {
+    let count = functions.len() as i64;
+    let mut group = Group { name: Name::new(b"factor"), parameters: 1, functions: count, grids: 1, ..Group::default() };
+    group.function[..functions.len()].copy_from_slice(functions);
     group.grid[0] = Grid { name: Name::new(b"ones"), dlon: 1, dlat: 1, ni: 2, nj: 2, rank: 1, ..Grid::default() };
     group
 }
@@ -125,12 +125,12 @@ impl<'a> Runner<'a> {
             &Input::Screen { lon, lat, quantum, parameters, number, at, fix } => {
                 self.screen(lon, lat, &Found { quantum, parameters, number, at, fix }, expected)
             }
-            Input::DayFactor { ramps, day } => {
+            Input::DayFactor { functions, day } => {
                 let fix = match *expected {
                     Expected::Factor(factor) => Expected::Fix(Fix { grid: 1, result: [factor, 0, 0] }),
                     _ => expected.clone(),
                 };
-                self.lookup(&factor_group(ramps), &[1_000_000; 4], Position { lon: 0, lat: 0, day: *day }, &fix)
+                self.lookup(&factor_group(functions), &[1_000_000; 4], Position { lon: 0, lat: 0, day: *day }, &fix)
             }
         }
     }

@@ -10,7 +10,7 @@ use std::path::{Path, PathBuf};
 
 /// The case files of the state that the host is built for, by name.
 fn files() -> Vec<PathBuf> {
-    let folder = Path::new(env!("CARGO_MANIFEST_DIR")).join("../../cases/after_06");
+    let folder = Path::new(env!("CARGO_MANIFEST_DIR")).join("../../cases/after_07");
     let entries = fs::read_dir(folder).expect("the case files are there");
     let mut files: Vec<PathBuf> = entries.map(|entry| entry.expect("an entry").path()).collect();
     files.sort();

@@ -7,7 +7,7 @@ use std::path::{Path, PathBuf};
 use std::process::{Command, Output};
 
 /// One case for each call whose expected answer is wrong, and where the answer differs from it.
-const WRONG: [(&str, &str, &str); 28] = [
+const WRONG: [(&str, &str, &str); 31] = [
     ("read_header", "C\t-\t=>\trefuse\t1\t2\n", "place is 1 instead of 2"),
     ("read_header", "C\t-\t=>\trefuse\t2\t1\n", "returned 1 instead of 2"),
     ("judge_record", "G\tg\t- 0 0 0 0 0 0\nC\tg\t=>\tok\n", "returned 2 instead of 0"),
@@ -120,6 +120,21 @@ const WRONG: [(&str, &str, &str); 28] = [
         "screen[3] is 0.0 instead of -0.0",
     ),
     ("day_factor", "C\t-\t0\t=>\tok\t1000001\n", "fix[1] is 1000000 instead of 1000001"),
+    (
+        "day_factor",
+        "C\tF 0 step 5 5 7 0|F 1 ramp2 0 3 1 1|F 2 ramp 0 2 0 2\t4\t=>\tok\t-3\n",
+        "fix[1] is -4 instead of -3",
+    ),
+    (
+        "judge_record",
+        "G\tg\t61 1 0 0 1 0 1|F 0 step 0 0 0 0|G 0 62 1 0 0 1 1 2 2 1 0 0\nC\tg\t=>\tok\n",
+        "returned 2 instead of 0",
+    ),
+    (
+        "judge_record",
+        "G\tg\t61 1 0 0 1 1 1|F 0 step 0 0 0 1|G 0 62 1 0 0 1 1 2 2 1 0 0\nC\tg\t=>\trefuse\t2\t1\n",
+        "place is 2 instead of 1",
+    ),
 ];
 
 #[test]
@@ -206,6 +221,9 @@ fn bad_files_have_status_2() {
             "line 3: no inputs of a write_log case",
         ),
         ("plan.tsv", "C\t1\t=>\tok\n", "line 1: no inputs of a plan case"),
+        ("day_factor.tsv", "C\tF 0 ramp3 0 0 0 0\t0\t=>\tok\t0\n", "line 1: 'F 0 ramp3 0 0 0 0' is no function record"),
+        ("day_factor.tsv", "C\tF 0 step 0 0 0\t0\t=>\tok\t0\n", "line 1: 'F 0 step 0 0 0' is no function record"),
+        ("judge_record.tsv", "G\tg\t- 0 0 0 0 0 0|F 8 step 0 0 0 0\n", "line 1: there is no entry 8, only 0 to 7"),
     ];
     for (k, (name, text, why)) in cases.into_iter().enumerate() {
         let path = file(&format!("bad{k}"), name, text);

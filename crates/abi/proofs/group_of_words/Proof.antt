@@ -9,8 +9,8 @@ use Rattle.abi.proofs.group_of_words.Tie as tie
 name-of-requires : tie.Need-name-of-requires
 name-of-requires c κs = search needs
 
-ramps-of-requires : tie.Need-ramps-of-requires
-ramps-of-requires c κs = search needs
+functions-of-requires : tie.Need-functions-of-requires
+functions-of-requires c κs = search needs
 
 grids-of-requires : tie.Need-grids-of-requires
 grids-of-requires c κs = search needs
@@ -27,8 +27,8 @@ quantum-of-requires c κs = search needs
 parameter-count-requires : tie.Need-parameter-count-requires
 parameter-count-requires c κs = search needs
 
-ramp-count-requires : tie.Need-ramp-count-requires
-ramp-count-requires c κs = search needs
+function-count-requires : tie.Need-function-count-requires
+function-count-requires c κs = search needs
 
 grid-count-requires : tie.Need-grid-count-requires
 grid-count-requires c κs = search needs
@@ -38,20 +38,20 @@ unfolding groupOfWords
 returns c =
     let name = c .before .before .before .before .before .before .before .before .name-of .ensures in
     let unit = c .before .before .before .before .unit-of .ensures ∙ ap unitOf (told (c .before .before .before .before .before .number-at .ok) (c .before .before .before .before .before .number-at .ensures)) in
-    let ramp = c .before .before .before .before .before .before .before .ramps-of .ensures in
+    let function = c .before .before .before .before .before .before .before .functions-of .ensures in
     let grid = c .before .before .before .before .before .before .grids-of .ensures in
     let quantum = c .before .before .before .quantum-of .ensures in
     let parameters = c .before .before .parameter-count .ensures in
-    let ramps = c .before .ramp-count .ensures in
+    let functions = c .before .function-count .ensures in
     let grids = c .grid-count .ensures in
     λ i. record {
       name = name i;
       unit = unit i;
       quantum = quantum i;
       parameters = parameters i;
-      ramps = ramps i;
+      functions = functions i;
       grids = grids i;
-      ramp = ramp i;
+      function = function i;
       grid = grid i;
     }
 
@@ -60,12 +60,12 @@ group-of-words-spec =
     tie.close
     (tie.spec
     name-of-requires
-    ramps-of-requires
+    functions-of-requires
     grids-of-requires
     number-at-requires
     unit-of-requires
     quantum-of-requires
     parameter-count-requires
-    ramp-count-requires
+    function-count-requires
     grid-count-requires
     returns)

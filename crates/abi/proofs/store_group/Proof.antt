@@ -13,8 +13,8 @@ slice-aggregate-store-numbers c = search needs
 store-numbers-requires : tie.Need-store-numbers-requires
 store-numbers-requires c κs = search needs
 
-store-ramps-requires : tie.Need-store-ramps-requires
-store-ramps-requires c κs = search needs
+store-functions-requires : tie.Need-store-functions-requires
+store-functions-requires c κs = search needs
 
 store-grids-requires : tie.Need-store-grids-requires
 store-grids-requires c κs = search needs
@@ -25,7 +25,7 @@ same-length c = search needs
 returns : tie.Need-returns
 returns c =
     let s = c .before .before .before .before .before .before .before .before .before .before .before .before .before .args in
-    numbers-stored (s .group) _ _ _ _ _ (c .before .before .before .before .before .before .before .before .before .before .before .before .head-numbers .ensures) (c .before .before .before .before .before .before .before .store-numbers .ensures) (c .before .before .before .before .store-ramps .ensures) (c .before .store-grids .ensures)
+    numbers-stored (s .group) _ _ _ _ _ (c .before .before .before .before .before .before .before .before .before .before .before .before .head-numbers .ensures) (c .before .before .before .before .before .before .before .store-numbers .ensures) (c .before .before .before .before .store-functions .ensures) (c .before .store-grids .ensures)
 
 pub store-group-spec : {M : Type 1} → statement M
 store-group-spec =
@@ -34,7 +34,7 @@ store-group-spec =
     head-numbers-requires
     slice-aggregate-store-numbers
     store-numbers-requires
-    store-ramps-requires
+    store-functions-requires
     store-grids-requires
     same-length
     returns)

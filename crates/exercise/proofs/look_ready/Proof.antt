@@ -126,7 +126,7 @@ module _ (c : tie.After-struct-told2) where
         ends = entry .pre .0 .ends;
       }
 
-  factor : toZ w64 (ofZ w64 (entry .args .scale .factor)) ≡ factorOf (g entry .ramp) (g entry .ramps) (entry .args .scale .day)
+  factor : toZ w64 (ofZ w64 (entry .args .scale .factor)) ≡ factorOf (g entry .function) (g entry .functions) (entry .args .scale .day)
   factor =
       toZ-ofZ w64 (entry .args .scale .factor) (record { sfits = c .struct-told2 .given .1 .0 .1 })
       ∙ ap (λ (s : Scale). s .factor) (entry .pre .1 ∙ scale-in (g entry) (entry .args .scale .day) day)
@@ -139,7 +139,7 @@ look-ranked-requires c κs =
           (rowsIn l) (ownersIn l) (shiftsIn l) (at l countIndex) (t .rows) (c .before .before .before .before .before .before .before .before .lon-from-least .ensures)
           (omega (arith, rows-length l (t .long))) (omega (arith, owners-length l (t .long))) (omega (arith, shifts-length l (t .long))) (omega (arith, frames-length l (t .long), accepted-head (g s) e .grids))),
       subst (λ (z : ℤ). natAbs z ≤ factorMost) (sym (factor c))
-          (factor-bound (g s .ramp) (a .scale .day) (g s .ramps) (accepted-head (g s) e .ramps) (accepted (g s) e .ramp)),
+          (factor-bound (g s .function) (a .scale .day) (g s .functions) (accepted-head (g s) e .functions) (accepted (g s) e .function)),
     )
 
 returns-3 : tie.Need-returns-3

@@ -243,12 +243,12 @@ module _ {M : Type 1} (𝓤 : URA M) (H : Heap 𝓤) (A : Atoms 𝓤) (W : Given
         ⊛ raw (ensured 𝓤 H A numbers′.ended (numbers′.clauses 𝓤 H A mem run) tt (g, tt) tt h)))) (id⊢ 𝓤 _) $ await ! tt $ pick ! (λ h.
         split ! $ move ! (1 ∷ []) $ use1 W (raw (fact 𝓤 (h ≡ numbersOf g))) (said-numbers h) $ heard ! (h ≡ numbersOf g) (λ e-h. split ! $ drop ! $
         rewrite ! 0 (λ (k : List ℤ). ‵ (Words .own k (u ∷ []))) e-h refl $ peeks ! Words (Is Words) (shows 𝓤 H A Words) (numbersOf g) (u ∷ []) (λ is-h. drop ! $
-        land ! (from ! (stop !)) (init ! 6 refl (array-lawful 𝓤 H A W i64 (sint-lawful 𝓤 H A W w64) 809 .typed (numbersOf g) _ is-h .0)) $
+        land ! (from ! (stop !)) (init ! 6 refl (array-lawful 𝓤 H A W i64 (sint-lawful 𝓤 H A W w64) 817 .typed (numbersOf g) _ is-h .0)) $
         assigns ! (of-opd ! (load ! (from ! (stop !)) (look ! 6 refl))) (from ! (stop !))
-        (init ! 8 refl (array-lawful 𝓤 H A W i64 (sint-lawful 𝓤 H A W w64) 809 .typed (numbersOf g) _ is-h .0)) $
+        (init ! 8 refl (array-lawful 𝓤 H A W i64 (sint-lawful 𝓤 H A W w64) 817 .typed (numbersOf g) _ is-h .0)) $
         -- the numbers are lent, for a lifetime that is made here
         move ! (8 ∷ []) $ use1 W (‵ (partAt Words fullShare (numbersOf g) l₅ 0))
-        (lies-in 𝓤 H A W Words l₅ (array-makes 𝓤 H A W i64 (sint-makes 𝓤 H A W w64) 809) (numbersOf g) _ is-h) $
+        (lies-in 𝓤 H A W Words l₅ (array-makes 𝓤 H A W i64 (sint-makes 𝓤 H A W w64) 817) (numbersOf g) _ is-h) $
         lft-new ! tt (λ α. move ! (1 ∷ []) $
         use1 W (later (some (λ (γ : GName). ‵ (OwnW α l₅ γ) ⊛ ‵ (flent (α ∷ []) (partAt Words fullShare (numbersOf g) l₅ 0)))))
         (lends-shr 𝓤 H A W Words (named 0) (α ∷ []) fullShare (numbersOf g) l₅ 0) $ await ! tt $ pick ! (λ γ. split ! $
@@ -290,7 +290,7 @@ module _ {M : Type 1} (𝓤 : URA M) (H : Heap 𝓤) (A : Atoms 𝓤) (W : Given
         -- the numbers' lifetime ends, and their local is room again
         move ! (0 ∷ []) $ lft-end ! tt $ move ! (0 ∷ 6 ∷ []) $ lent-back ! tt $
         use1 W (‵ (fat fullShare arr l₅ 0 (only (array-vals (sint-vals w64) (numbersOf g)))))
-        (lies-out 𝓤 H A W Words l₅ (array-vals (sint-vals w64)) (array-tells i64 (sint-vals w64) (sint-tells w64) 809) (numbersOf g)) $
+        (lies-out 𝓤 H A W Words l₅ (array-vals (sint-vals w64)) (array-tells i64 (sint-vals w64) (sint-tells w64) 817) (numbersOf g)) $
         returns ! (look ! 23 refl) $ forget ! 23 refl $ forget ! 21 refl $ forget ! 19 refl $ forget ! 17 refl $ forget ! 15 refl $ forget ! 0 refl $
         forget ! 12 refl $ forget ! 10 refl $ forget ! 8 refl $ forget ! 6 refl $
         move ! (23 ∷ 24 ∷ 21 ∷ 22 ∷ 19 ∷ 20 ∷ 17 ∷ 18 ∷ 15 ∷ 16 ∷ 0 ∷ 14 ∷ 12 ∷ 13 ∷ 10 ∷ 11 ∷ 8 ∷ 9 ∷ 6 ∷ 7 ∷ []) $

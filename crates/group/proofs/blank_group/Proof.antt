@@ -9,11 +9,11 @@ blank-name-requires c κs = search needs
 blank-grid-requires : tie.Need-blank-grid-requires
 blank-grid-requires c κs = search needs
 
-blank-ramp-requires : tie.Need-blank-ramp-requires
-blank-ramp-requires c κs = search needs
+blank-function-requires : tie.Need-blank-function-requires
+blank-function-requires c κs = search needs
 
 returns : tie.Need-returns
-returns c = rw (c .before .before .blank-name .ensures, c .before .blank-grid .ensures, c .blank-ramp .ensures)
+returns c = rw (c .before .before .blank-name .ensures, c .before .blank-grid .ensures, c .blank-function .ensures)
 
 pub blank-group-spec : {M : Type 1} → statement M
-blank-group-spec = tie.close (tie.spec blank-name-requires blank-grid-requires blank-ramp-requires returns)
+blank-group-spec = tie.close (tie.spec blank-name-requires blank-grid-requires blank-function-requires returns)

@@ -3,7 +3,7 @@ use mathlib.Core.Path.{sym, ap, _∙_}
 use Prim.Native.Nat.{_-_}
 use native.Mathlib.Omega.{arith}
 use lib.ListN.{take, drop}
-use Rattle.line.specs.Lines.{rampLine}
+use Rattle.line.specs.Lines.{functionLine}
 use Rattle.header.specs.Whole.{gridLines, linesReading}
 use Rattle.header.proofs.ItemLaws.{end-le, behind-le}
 use Rattle.line.proofs.ReadLaws.{head-refused, head-accepted}
@@ -21,7 +21,7 @@ refused-reading-requires c κs = search needs
 returns : tie.Need-returns
 returns c =
     let s = c .before .before .before .before .args in
-    c .refused-reading .ensures ∙ sym (ap linesReading (head-unclosed rampLine gridLines (s .text .now) _ (c .before .before .find-from .ensures) (c .before .if1 .taken)))
+    c .refused-reading .ensures ∙ sym (ap linesReading (head-unclosed functionLine gridLines (s .text .now) _ (c .before .before .find-from .ensures) (c .before .if1 .taken)))
 
 sub-group-line : tie.Need-sub-group-line
 sub-group-line c = search needs
@@ -45,7 +45,7 @@ returns-2 : tie.Need-returns-2
 returns-2 c =
     let s = c .before .before .before .before .before .before .before .before .before .args in
     c .refused-reading2 .ensures
-    ∙ sym (ap linesReading (head-stops rampLine gridLines (s .text .now) _ (c .before .before .before .before .before .before .before .find-from .ensures) (c .before .before .before .before .before .before .if1 .left) _ (head-refused _ _ _ (c .before .before .before .before .group-line .ensures) (c .before .before .verdict .given .1))))
+    ∙ sym (ap linesReading (head-stops functionLine gridLines (s .text .now) _ (c .before .before .before .before .before .before .before .find-from .ensures) (c .before .before .before .before .before .before .if1 .left) _ (head-refused _ _ _ (c .before .before .before .before .group-line .ensures) (c .before .before .verdict .given .1))))
 
 enum-told : tie.Need-enum-told
 enum-told c = search needs
@@ -64,7 +64,7 @@ returns-3 : tie.Need-returns-3
 returns-3 c =
     let s = c .before .before .before .before .before .before .before .before .before .args in
     c .read-entries .ensures
-    ∙ sym (ap linesReading (head-goes rampLine gridLines (s .text .now) _ (c .before .before .before .before .before .before .before .find-from .ensures) (c .before .before .before .before .before .before .if1 .left) _ (head-accepted _ _ (c .before .before .before .before .group-line .ensures) (c .before .before .enum-told .given .1))))
+    ∙ sym (ap linesReading (head-goes functionLine gridLines (s .text .now) _ (c .before .before .before .before .before .before .before .find-from .ensures) (c .before .before .before .before .before .before .if1 .left) _ (head-accepted _ _ (c .before .before .before .before .group-line .ensures) (c .before .before .enum-told .given .1))))
 
 pub read-lines-spec : {M : Type 1} → statement M
 read-lines-spec =

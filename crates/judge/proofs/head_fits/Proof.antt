@@ -16,8 +16,8 @@ quantum-of-requires c κs = search needs
 parameter-count-requires : tie.Need-parameter-count-requires
 parameter-count-requires c κs = search needs
 
-ramp-count-requires : tie.Need-ramp-count-requires
-ramp-count-requires c κs = search needs
+function-count-requires : tie.Need-function-count-requires
+function-count-requires c κs = search needs
 
 grid-count-requires : tie.Need-grid-count-requires
 grid-count-requires c κs = search needs
@@ -34,7 +34,7 @@ returns c =
       c .head-numbers-fit .ensures,
       c .before .before .before .before .quantum-of .ensures,
       c .before .before .before .parameter-count .ensures,
-      c .before .before .ramp-count .ensures,
+      c .before .before .function-count .ensures,
       c .before .grid-count .ensures,
     )
 
@@ -46,7 +46,7 @@ head-fits-spec =
     name-fits-requires
     quantum-of-requires
     parameter-count-requires
-    ramp-count-requires
+    function-count-requires
     grid-count-requires
     head-numbers-fit-requires
     returns)

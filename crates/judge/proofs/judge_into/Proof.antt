@@ -13,7 +13,7 @@ use Rattle.abi.specs.Abi.{groupOfWords}
 use Rattle.judge.specs.Judge.{judgedLines, judgedLimits, judged}
 use Rattle.judge.specs.Rules.{HeadLimits, judgedFrom}
 use Rattle.judge.proofs.LimitLaws.{head-sized}
-use Rattle.judge.proofs.JudgeLaws.{ramp-used, unused-ramps, bad-ramps, unused-grids}
+use Rattle.judge.proofs.JudgeLaws.{function-used, unused-functions, bad-functions, unused-grids}
 use borrow.Author.Needs.{needs}
 use Rattle.judge.proofs.judge_into.Statement.{statement}
 use Rattle.judge.proofs.judge_into.Tie as tie
@@ -37,18 +37,18 @@ unfolding judged judgedLimits judgedLines
 returns c =
     (sym (if-here Refused _ 2 1 _ (head-test (c .before) (c .if1 .taken))), λ e. absurd (no-acceptance _ e))
 
-ramp-count-requires : tie.Need-ramp-count-requires
-ramp-count-requires c κs = search needs
+function-count-requires : tie.Need-function-count-requires
+function-count-requires c κs = search needs
 
-first-ramp-requires : tie.Need-first-ramp-requires
-first-ramp-requires c κs =
-    let m = c .ramp-count .ensures in let h = limits (c .before .before) (c .before .if1 .left) in
-    (omega (arith, m, h .ramps), omega arith, ramp-used (c .before .before .before .before .before .before .args .words .now) (c .ramp-count .result))
+first-function-requires : tie.Need-first-function-requires
+first-function-requires c κs =
+    let m = c .function-count .ensures in let h = limits (c .before .before) (c .before .if1 .left) in
+    (omega (arith, m, h .functions), omega arith, function-used (c .before .before .before .before .before .before .args .words .now) (c .function-count .result))
 
 returns-2 : tie.Need-returns-2
 unfolding judged judgedLimits judgedLines
 returns-2 c = (
-  fixed-here Refused _ _ _ _ _ _ (unused-ramps (c .before .before .before .before .before .before .before .before .args .words .now) (c .before .before .ramp-count .ensures) (c .before .first-ramp .ensures)) (c .if2 .taken)
+  fixed-here Refused _ _ _ _ _ _ (unused-functions (c .before .before .before .before .before .before .before .before .args .words .now) (c .before .before .function-count .ensures) (c .before .first-function .ensures)) (c .if2 .taken)
       ∙ sym (if-past Refused (not (headFits (g (c .before .before .before .before)))) 2 1 _ (head-test (c .before .before .before .before) (c .before .before .before .if1 .left))),
   λ e. absurd (no-acceptance _ e),
 )
@@ -65,38 +65,38 @@ unfolding judged judgedLimits judgedLines
 returns-3 c = (
   fixed-here Refused _ _ _ _ _ _ (unused-grids (c .before .before .before .before .before .before .before .before .before .before .before .args .words .now) (c .before .before .grid-count .ensures) (c .before .first-unused .ensures)) (c .if3 .taken)
       ∙ sym (if-past Refused (not (headFits (g (c .before .before .before .before .before .before .before)))) 2 1 _ (head-test (c .before .before .before .before .before .before .before) (c .before .before .before .before .before .before .if1 .left))
-      ∙ fixed-past Refused _ _ _ _ _ _ (unused-ramps (c .before .before .before .before .before .before .before .before .before .before .before .args .words .now) (c .before .before .before .before .before .ramp-count .ensures) (c .before .before .before .before .first-ramp .ensures)) (c .before .before .before .if2 .left)),
+      ∙ fixed-past Refused _ _ _ _ _ _ (unused-functions (c .before .before .before .before .before .before .before .before .before .before .before .args .words .now) (c .before .before .before .before .before .function-count .ensures) (c .before .before .before .before .first-function .ensures)) (c .before .before .before .if2 .left)),
   λ e. absurd (no-acceptance _ e),
 )
 
-first-ramp-requires-2 : tie.Need-first-ramp-requires-2
-first-ramp-requires-2 c κs =
-    let m = c .before .before .before .before .before .ramp-count .ensures in let h = limits (c .before .before .before .before .before .before .before) (c .before .before .before .before .before .before .if1 .left) in
-    (omega arith, omega (arith, m, h .ramps), below-none _)
+first-function-requires-2 : tie.Need-first-function-requires-2
+first-function-requires-2 c κs =
+    let m = c .before .before .before .before .before .function-count .ensures in let h = limits (c .before .before .before .before .before .before .before) (c .before .before .before .before .before .before .if1 .left) in
+    (omega arith, omega (arith, m, h .functions), below-none _)
 
 add-t15 : tie.Need-add-t15
 add-t15 c =
-    let m = c .before .before .before .before .before .before .before .ramp-count .ensures in let h = limits (c .before .before .before .before .before .before .before .before .before) (c .before .before .before .before .before .before .before .before .if1 .left) in omega (arith, m, h .ramps, c .if4 .taken)
+    let m = c .before .before .before .before .before .before .before .function-count .ensures in let h = limits (c .before .before .before .before .before .before .before .before .before) (c .before .before .before .before .before .before .before .before .if1 .left) in omega (arith, m, h .functions, c .if4 .taken)
 
 returns-4 : tie.Need-returns-4
 unfolding judged judgedLimits judgedLines
 returns-4 c =
-    let m = c .before .before .before .before .before .before .before .ramp-count .ensures in let h = limits (c .before .before .before .before .before .before .before .before .before) (c .before .before .before .before .before .before .before .before .if1 .left) in (
-      at-here Refused _ _ _ _ _ _ (bad-ramps (c .before .before .before .before .before .before .before .before .before .before .before .before .before .args .words .now) m (omega (arith, m, h .ramps)) (c .before .first-ramp2 .ensures)) (omega (arith, m, c .if4 .taken))
+    let m = c .before .before .before .before .before .before .before .function-count .ensures in let h = limits (c .before .before .before .before .before .before .before .before .before) (c .before .before .before .before .before .before .before .before .if1 .left) in (
+      at-here Refused _ _ _ _ _ _ (bad-functions (c .before .before .before .before .before .before .before .before .before .before .before .before .before .args .words .now) m (omega (arith, m, h .functions)) (c .before .first-function2 .ensures)) (omega (arith, m, c .if4 .taken))
           ∙ sym (if-past Refused (not (headFits (g (c .before .before .before .before .before .before .before .before .before)))) 2 1 _ (head-test (c .before .before .before .before .before .before .before .before .before) (c .before .before .before .before .before .before .before .before .if1 .left))
-          ∙ fixed-past Refused _ _ _ _ _ _ (unused-ramps (c .before .before .before .before .before .before .before .before .before .before .before .before .before .args .words .now) (c .before .before .before .before .before .before .before .ramp-count .ensures) (c .before .before .before .before .before .before .first-ramp .ensures)) (c .before .before .before .before .before .if2 .left)
+          ∙ fixed-past Refused _ _ _ _ _ _ (unused-functions (c .before .before .before .before .before .before .before .before .before .before .before .before .before .args .words .now) (c .before .before .before .before .before .before .before .function-count .ensures) (c .before .before .before .before .before .before .first-function .ensures)) (c .before .before .before .before .before .if2 .left)
           ∙ fixed-past Refused _ _ _ _ _ _ (unused-grids (c .before .before .before .before .before .before .before .before .before .before .before .before .before .args .words .now) (c .before .before .before .before .grid-count .ensures) (c .before .before .before .first-unused .ensures)) (c .before .before .if3 .left)),
       λ e. absurd (no-acceptance _ e),
     )
 
 add-judge-grids : tie.Need-add-judge-grids
 add-judge-grids c =
-    let m = c .before .before .before .before .before .before .before .ramp-count .ensures in let h = limits (c .before .before .before .before .before .before .before .before .before) (c .before .before .before .before .before .before .before .before .if1 .left) in omega (arith, m, h .ramps)
+    let m = c .before .before .before .before .before .before .before .function-count .ensures in let h = limits (c .before .before .before .before .before .before .before .before .before) (c .before .before .before .before .before .before .before .before .if1 .left) in omega (arith, m, h .functions)
 
 judge-grids-requires : tie.Need-judge-grids-requires
 judge-grids-requires c κs =
-    let m = c .before .before .before .before .before .before .before .before .before .before .ramp-count .ensures in let h = limits (c .before .before .before .before .before .before .before .before .before .before .before .before) (c .before .before .before .before .before .before .before .before .before .before .before .if1 .left) in
-    (h, omega (arith, m, h .ramps), c .before .before .before .before .before .before .before .before .before .before .before .before .before .before .before .before .pre)
+    let m = c .before .before .before .before .before .before .before .before .before .before .function-count .ensures in let h = limits (c .before .before .before .before .before .before .before .before .before .before .before .before) (c .before .before .before .before .before .before .before .before .before .before .before .if1 .left) in
+    (h, omega (arith, m, h .functions), c .before .before .before .before .before .before .before .before .before .before .before .before .before .before .before .before .pre)
 
 same-length : tie.Need-same-length
 same-length c = search needs
@@ -110,13 +110,13 @@ same-length-3 c = search needs
 returns-5 : tie.Need-returns-5
 unfolding judged judgedLimits judgedLines judgedFrom
 returns-5 c =
-    let m = c .before .before .before .before .before .before .before .before .before .before .before .before .before .before .before .before .before .ramp-count .ensures in let h = limits (c .before .before .before .before .before .before .before .before .before .before .before .before .before .before .before .before .before .before .before) (c .before .before .before .before .before .before .before .before .before .before .before .before .before .before .before .before .before .before .if1 .left) in let j = c .before .before .before .before .before .before .judge-grids .ensures in (
+    let m = c .before .before .before .before .before .before .before .before .before .before .before .before .before .before .before .before .before .function-count .ensures in let h = limits (c .before .before .before .before .before .before .before .before .before .before .before .before .before .before .before .before .before .before .before) (c .before .before .before .before .before .before .before .before .before .before .before .before .before .before .before .before .before .before .if1 .left) in let j = c .before .before .before .before .before .before .judge-grids .ensures in (
       j .0
           ∙ ap (λ (n : ℕ). judgedFrom (n + 2) (g (c .before .before .before .before .before .before .before .before .before .before .before .before .before .before .before .before .before .before .before))) m
           ∙ sym (if-past Refused (not (headFits (g (c .before .before .before .before .before .before .before .before .before .before .before .before .before .before .before .before .before .before .before)))) 2 1 _ (head-test (c .before .before .before .before .before .before .before .before .before .before .before .before .before .before .before .before .before .before .before) (c .before .before .before .before .before .before .before .before .before .before .before .before .before .before .before .before .before .before .if1 .left))
-          ∙ fixed-past Refused _ _ _ _ _ _ (unused-ramps (c .before .before .before .before .before .before .before .before .before .before .before .before .before .before .before .before .before .before .before .before .before .before .before .args .words .now) (c .before .before .before .before .before .before .before .before .before .before .before .before .before .before .before .before .before .ramp-count .ensures) (c .before .before .before .before .before .before .before .before .before .before .before .before .before .before .before .before .first-ramp .ensures)) (c .before .before .before .before .before .before .before .before .before .before .before .before .before .before .before .if2 .left)
+          ∙ fixed-past Refused _ _ _ _ _ _ (unused-functions (c .before .before .before .before .before .before .before .before .before .before .before .before .before .before .before .before .before .before .before .before .before .before .before .args .words .now) (c .before .before .before .before .before .before .before .before .before .before .before .before .before .before .before .before .before .function-count .ensures) (c .before .before .before .before .before .before .before .before .before .before .before .before .before .before .before .before .first-function .ensures)) (c .before .before .before .before .before .before .before .before .before .before .before .before .before .before .before .if2 .left)
           ∙ fixed-past Refused _ _ _ _ _ _ (unused-grids (c .before .before .before .before .before .before .before .before .before .before .before .before .before .before .before .before .before .before .before .before .before .before .before .args .words .now) (c .before .before .before .before .before .before .before .before .before .before .before .before .before .before .grid-count .ensures) (c .before .before .before .before .before .before .before .before .before .before .before .before .before .first-unused .ensures)) (c .before .before .before .before .before .before .before .before .before .before .before .before .if3 .left)
-          ∙ at-past Refused _ _ _ _ _ _ (bad-ramps (c .before .before .before .before .before .before .before .before .before .before .before .before .before .before .before .before .before .before .before .before .before .before .before .args .words .now) m (omega (arith, m, h .ramps)) (c .before .before .before .before .before .before .before .before .before .before .before .first-ramp2 .ensures)) (omega (arith, m, c .before .before .before .before .before .before .before .before .before .before .if4 .left))),
+          ∙ at-past Refused _ _ _ _ _ _ (bad-functions (c .before .before .before .before .before .before .before .before .before .before .before .before .before .before .before .before .before .before .before .before .before .before .before .args .words .now) m (omega (arith, m, h .functions)) (c .before .before .before .before .before .before .before .before .before .before .before .first-function2 .ensures)) (omega (arith, m, c .before .before .before .before .before .before .before .before .before .before .if4 .left))),
       j .1,
     )
 
@@ -126,13 +126,13 @@ judge-into-spec =
     (tie.spec
     head-fits-requires
     returns
-    ramp-count-requires
-    first-ramp-requires
+    function-count-requires
+    first-function-requires
     returns-2
     grid-count-requires
     first-unused-requires
     returns-3
-    first-ramp-requires-2
+    first-function-requires-2
     add-t15
     returns-4
     add-judge-grids

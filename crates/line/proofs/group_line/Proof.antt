@@ -82,8 +82,8 @@ number₂ c = field-number (line (tested (base₂ c))) 4 _ _ (c .before .before 
 abbrev base₃ : tie.After-known-told4 → tie.After-known-told
 base₃ c = base₂ (c .before .before .before .before .before .before)
 
-number₃ : (c : tie.After-known-told4) → Is (tested (base₃ c)) 5 (c .before .ramps .given .0 .0)
-number₃ c = field-number (line (tested (base₃ c))) 5 _ _ (c .before .before .before .read-number3 .ensures) (c .before .before .before .before .cut-field5 .ensures) _ (c .before .ramps .given .1) (record { sfits = c .known-told4 .given .0 .1 })
+number₃ : (c : tie.After-known-told4) → Is (tested (base₃ c)) 5 (c .before .functions .given .0 .0)
+number₃ c = field-number (line (tested (base₃ c))) 5 _ _ (c .before .before .before .read-number3 .ensures) (c .before .before .before .before .cut-field5 .ensures) _ (c .before .functions .given .1) (record { sfits = c .known-told4 .given .0 .1 })
 
 abbrev base₄ : tie.After-known-told5 → tie.After-known-told
 base₄ c = base₃ (c .before .before .before .before .before .before)
@@ -108,7 +108,7 @@ abbrev z₂ : tie.After-known-told5 → ℤ
 z₂ c = bits (at₂ c .before .np .given .0 .0)
 
 abbrev z₃ : tie.After-known-told5 → ℤ
-z₃ c = bits (at₃ c .before .ramps .given .0 .0)
+z₃ c = bits (at₃ c .before .functions .given .0 .0)
 
 abbrev z₄ : tie.After-known-told5 → ℤ
 z₄ c = bits (c .before .grids .given .0 .0)
@@ -136,7 +136,7 @@ fits : (c : tie.After-head-numbers-fit) → headFit (ints (c .before .before .be
 fits c =
     let k = c .before .before .before .before .before in
     sym (c .head-numbers-fit .ensures
-    ∙ ap (λ (h : Head). headNumbersFit (pos (h .quantum)) (pos (h .parameters)) (pos (h .ramps)) (pos (h .grids))) (made (c .before))
+    ∙ ap (λ (h : Head). headNumbersFit (pos (h .quantum)) (pos (h .parameters)) (pos (h .functions)) (pos (h .grids))) (made (c .before))
     ∙ head-counted (z₁ k) (z₂ k) (z₃ k) (z₄ k))
 
 slice-aggregate-cut-as : tie.Need-slice-aggregate-cut-as
@@ -240,8 +240,8 @@ cut-field-requires-5 c κs = (omega arith, (tested (base₂ (c .before))) .befor
 read-number-requires-3 : tie.Need-read-number-requires-3
 read-number-requires-3 c κs = tt
 
-enum-known-ramps : tie.Need-enum-known-ramps
-enum-known-ramps c = c .match5 .keys1
+enum-known-functions : tie.Need-enum-known-functions
+enum-known-functions c = c .match5 .keys1
 
 enum-told-6 : tie.Need-enum-told-6
 enum-told-6 c = c .match5 .keys2
@@ -334,7 +334,7 @@ group-line-spec =
     returns-5
     cut-field-requires-5
     read-number-requires-3
-    enum-known-ramps
+    enum-known-functions
     enum-told-6
     refused-head-requires-6
     returns-6

@@ -25,7 +25,7 @@ returns c =
     let b = c .before .before .count-of2 .ensures ∙ ap countOf (toZ-ofZ (s .fits .b)) in
     let d = c .before .count-of3 .ensures ∙ ap countOf (toZ-ofZ (s .fits .c)) in
     let e = c .count-of4 .ensures ∙ ap countOf (toZ-ofZ (s .fits .d)) in
-    λ i. record { name = s .args .name; unit = s .args .unit; quantum = a i; parameters = b i; ramps = d i; grids = e i }
+    λ i. record { name = s .args .name; unit = s .args .unit; quantum = a i; parameters = b i; functions = d i; grids = e i }
 
 pub head-made-spec : {M : Type 1} → statement M
 head-made-spec =

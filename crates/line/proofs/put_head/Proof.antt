@@ -56,7 +56,7 @@ abbrev s₆ : tie.After-put-count3 → tie.Start
 s₆ c = s₅ (c .before .before .before .before)
 
 left₆ : (c : tie.After-put-count3) → Rest (s₆ c) (numbers 3 (s₆ c)) (c .put-count3 .result) (c .put-count3 .last .1 .0)
-left₆ c = left-more (9 ∷ intText (pos ((s₆ c) .args .head .ramps))) (numbers 3 (s₆ c)) (left₅ (c .before .before .before .before)) (c .put-count3 .ensures)
+left₆ c = left-more (9 ∷ intText (pos ((s₆ c) .args .head .functions))) (numbers 3 (s₆ c)) (left₅ (c .before .before .before .before)) (c .put-count3 .ensures)
 
 abbrev s₇ : tie.After-put-count4 → tie.Start
 s₇ c = s₆ (c .before .before .before .before)
@@ -83,7 +83,7 @@ put-count-requires-2 : tie.Need-put-count-requires-2
 put-count-requires-2 c κs = left-room (9 ∷ intText (pos ((s₄ (c .before .before .before)) .args .head .parameters))) (numbers 2 (s₄ (c .before .before .before))) (left₄ (c .before .before .before))
 
 put-count-requires-3 : tie.Need-put-count-requires-3
-put-count-requires-3 c κs = left-room (9 ∷ intText (pos ((s₅ (c .before .before .before)) .args .head .ramps))) (numbers 3 (s₅ (c .before .before .before))) (left₅ (c .before .before .before))
+put-count-requires-3 c κs = left-room (9 ∷ intText (pos ((s₅ (c .before .before .before)) .args .head .functions))) (numbers 3 (s₅ (c .before .before .before))) (left₅ (c .before .before .before))
 
 put-count-requires-4 : tie.Need-put-count-requires-4
 put-count-requires-4 c κs = left-room (9 ∷ intText (pos ((s₆ (c .before .before .before)) .args .head .grids))) (numbers 4 (s₆ (c .before .before .before))) (left₆ (c .before .before .before))

@@ -145,7 +145,7 @@ module _ (c : tie.After-struct-told2) where
         ends = entry .pre .call .ends;
       }
 
-  factor : toZ w64 (ofZ w64 (entry .args .scale .factor)) ≡ factorOf (g entry .ramp) (g entry .ramps) (entry .args .scale .day)
+  factor : toZ w64 (ofZ w64 (entry .args .scale .factor)) ≡ factorOf (g entry .function) (g entry .functions) (entry .args .scale .day)
   factor =
       toZ-ofZ w64 (entry .args .scale .factor) (record { sfits = c .struct-told2 .given .1 .0 .1 })
       ∙ ap (λ (s : Scale). s .factor) (entry .pre .scale ∙ scale-in (g entry) (entry .args .scale .day) day)
@@ -166,7 +166,7 @@ fix-held-requires c κs =
       rw (c .before .before .parameter-count .ensures)
           (subst (λ (q : Held). HeldChosen (framesIn (l s)) q (g s .parameters) (length (a .nodes .now)) (x c) (y c)) (sym (c .before .before .before .first-holder .ensures)) (laid c .ready)),
       subst (λ (z : ℤ). natAbs z ≤ factorMost) (sym (factor c))
-          (factor-bound (g s .ramp) (a .scale .day) (g s .ramps) (accepted-head (g s) e .ramps) (accepted (g s) e .ramp)),
+          (factor-bound (g s .function) (a .scale .day) (g s .functions) (accepted-head (g s) e .functions) (accepted (g s) e .function)),
     )
 
 returns-3 : tie.Need-returns-3

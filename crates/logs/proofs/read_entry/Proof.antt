@@ -8,9 +8,10 @@ use borrow.Author.Tests.{not-true, not-false}
 use lib.ListN.{length, take, drop}
 use lib.Seq.{length-take-le, take-at}
 use Rattle.text.specs.Parts.{split, fieldOf}
+use Rattle.text.specs.Fields.{readInts}
 use Rattle.line.specs.Names.{isName}
 use Rattle.line.proofs.ReadLaws.{form-bad, form-good}
-use Rattle.logs.specs.Reading.{NumbersRead}
+use Rattle.line.specs.Numbers.{NumbersRead}
 use Rattle.logs.proofs.EntryLaws.{entry-bad, entry-miss, entry-count, entry-unnamed, entry-placed, entry-valued}
 use borrow.Author.Needs.{needs}
 use Rattle.logs.proofs.read_entry.Statement.{statement}
@@ -50,9 +51,9 @@ module _ (c : tie.After-read-numbers) where
   abbrev behind : tie.Else1
   behind = keyed told
 
-  place : NumbersRead (take 3 (drop 1 (split 9 (line behind)))) (c .read-numbers .result) (c .read-numbers .last .1 .1 .1 .0)
+  place : NumbersRead (readInts (take 3 (drop 1 (split 9 (line behind))))) (c .read-numbers .result) (c .read-numbers .last .1 .1 .1 .0)
   place =
-      subst (λ (n : ℕ). NumbersRead (take n (drop 1 (split 9 (line behind)))) (c .read-numbers .result) (c .read-numbers .last .1 .1 .1 .0))
+      subst (λ (n : ℕ). NumbersRead (readInts (take n (drop 1 (split 9 (line behind))))) (c .read-numbers .result) (c .read-numbers .last .1 .1 .1 .0))
       (start behind .pre .2) (c .read-numbers .ensures)
 
 slice-aggregate-cut-as : tie.Need-slice-aggregate-cut-as
@@ -121,7 +122,7 @@ returns-4 : tie.Need-returns-4
 returns-4 c =
     let r = c .before .before .before .before .before .before in let k = behind r in let s = start k in let n = counted k in
     entry-valued (s .args .np) (line k) _ (k .before .cut-as .ensures .0) (hit k) (named (told r)) _ _ _ _ (place r) (not-false _ (c .before .before .before .before .if2 .left))
-    (subst (λ (m : ℕ). NumbersRead (take m (drop 5 (split 9 (line k)))) (c .before .read-numbers2 .result) (c .before .read-numbers2 .last .1 .1 .1 .0)) (shifts-length s) (c .before .read-numbers2 .ensures))
+    (subst (λ (m : ℕ). NumbersRead (readInts (take m (drop 5 (split 9 (line k))))) (c .before .read-numbers2 .result) (c .before .read-numbers2 .last .1 .1 .1 .0)) (shifts-length s) (c .before .read-numbers2 .ensures))
     (k .before .cut-as .ensures .1 4 (omega arith) (omega arith))
     (λ e. sym (take-at (c .before .read-numbers2 .last .1 .1 .1 .0) _ (s .args .np) e))
 

@@ -1,9 +1,9 @@
--- `factor_on` meets its contract: the ramps are a part of the group's numbers.
+-- `factor_on` meets its contract: the functions are a part of the group's numbers.
 use mathlib.Core.Path.{ap, _∙_}
 use mir.Syntax.{w64}
 use mir.ValLaws.{toZ-ofZ}
 use Rattle.day.specs.Flat.{factorIn}
-use Rattle.lookup.specs.Flat.{rampRows}
+use Rattle.lookup.specs.Flat.{functionRows}
 use borrow.Author.Needs.{needs}
 use Rattle.lookup.proofs.factor_on.Statement.{statement}
 use Rattle.lookup.proofs.factor_on.Tie as tie
@@ -27,7 +27,7 @@ returns : tie.Need-returns
 returns c =
     let s = c .before .before in
     toZ-ofZ w64 (c .day-factor .result) (record { sfits = c .day-factor .ok }) ∙ c .day-factor .ensures
-    ∙ ap (factorIn (rampRows (s .args .numbers .now)) (s .args .ramps)) (toZ-ofZ w64 (s .args .day) (s .fits .day))
+    ∙ ap (factorIn (functionRows (s .args .numbers .now)) (s .args .functions)) (toZ-ofZ w64 (s .args .day) (s .fits .day))
 
 pub factor-on-spec : {M : Type 1} → statement M
 factor-on-spec =

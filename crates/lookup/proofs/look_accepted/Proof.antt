@@ -86,7 +86,7 @@ returns-4 : tie.Need-returns-4
 returns-4 c =
     let q = c .before .before .before in let s = entry q in
     c .look-in .ensures
-    ∙ (λ i. fixAt (chosenIn (g q) (s .args .point .lon .0) (s .args .point .lat .0)) (λ k. offsetOf (gridAt (g q) k) (g q .parameters) (s .args .point)) (s .args .nodes .now) (factorOf (g q .ramp) (g q .ramps) (toZ-ofZ w64 (s .args .day) (s .fits .day) i)))
+    ∙ (λ i. fixAt (chosenIn (g q) (s .args .point .lon .0) (s .args .point .lat .0)) (λ k. offsetOf (gridAt (g q) k) (g q .parameters) (s .args .point)) (s .args .nodes .now) (factorOf (g q .function) (g q .functions) (toZ-ofZ w64 (s .args .day) (s .fits .day) i)))
     ∙ sym (looked-on (g q) (s .args .nodes .now) (s .args .point) (s .args .day) (ready (c .before)))
 
 pub look-accepted-spec : {M : Type 1} → statement M

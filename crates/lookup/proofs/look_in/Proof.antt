@@ -19,9 +19,9 @@ use Rattle.day.specs.Day.{factorOf}
 use Rattle.day.specs.Flat.{factorIn}
 use Rattle.day.proofs.DayLaws.{factor-bound}
 use Rattle.lookup.specs.Lookup.{fixAt}
-use Rattle.lookup.specs.Flat.{offsetIn, rampRows, RampsFit}
+use Rattle.lookup.specs.Flat.{offsetIn, functionRows, FunctionsFit}
 use Rattle.lookup.proofs.BridgeLaws.{turn-room, told-most, told-chosen, told-fix}
-use Rattle.lookup.proofs.RampLaws.{rows-fit, rows-factor}
+use Rattle.lookup.proofs.FunctionLaws.{rows-fit, rows-factor}
 use borrow.Author.Needs.{needs}
 use Rattle.lookup.proofs.look_in.Statement.{statement}
 use Rattle.lookup.proofs.look_in.Tie as tie
@@ -59,15 +59,15 @@ used-at-requires c κs =
     (c .chosen-flat .ensures ∙ ap (chosen (λ k. turnHolds lonTurn (s .args .sides .now) k (c .before .before .before .lon-from-least .result) (c .before .before .lat-from-least .result)) (at (s .args .ranks .now))) (c .before .grid-count .ensures)) in
     (omega (arith, n, m, s .pre .1 .room .room .sides-room), w .0, w .1)
 
-ramp-count-requires : tie.Need-ramp-count-requires
-ramp-count-requires c κs = search needs
+function-count-requires : tie.Need-function-count-requires
+function-count-requires c κs = search needs
 
 factor-on-requires : tie.Need-factor-on-requires
 factor-on-requires c κs =
-    let s = c .before .before .before .before .before .before .before .before .before .before in let a = s .pre .0 .accepted in let e = c .ramp-count .ensures in (
+    let s = c .before .before .before .before .before .before .before .before .before .before in let a = s .pre .0 .accepted in let e = c .function-count .ensures in (
       (search needs),
-      omega (arith, accepted-head (g s) a .ramps, e),
-      subst (RampsFit (s .args .words .now)) (sym e) (rows-fit (s .args .words .now) a),
+      omega (arith, accepted-head (g s) a .functions, e),
+      subst (FunctionsFit (s .args .words .now)) (sym e) (rows-fit (s .args .words .now) a),
       ap dayFits (toZ-ofZ w64 (s .args .day) (s .fits .day)) ∙ s .pre .0 .day,
     )
 
@@ -79,10 +79,10 @@ module _ (c : tie.After-factor-on) where
   abbrev entry : tie.Start
   entry = c .before .before .before .before .before .before .before .before .before .before .before
 
-  factor : toZ w64 (ofZ w64 (c .factor-on .result)) ≡ factorOf (g entry .ramp) (g entry .ramps) (entry .args .day)
+  factor : toZ w64 (ofZ w64 (c .factor-on .result)) ≡ factorOf (g entry .function) (g entry .functions) (entry .args .day)
   factor =
       toZ-ofZ w64 (c .factor-on .result) (record { sfits = c .factor-on .ok }) ∙ c .factor-on .ensures
-      ∙ (λ i. factorIn (rampRows (entry .args .words .now)) (c .before .ramp-count .ensures i) (toZ-ofZ w64 (entry .args .day) (entry .fits .day) i))
+      ∙ (λ i. factorIn (functionRows (entry .args .words .now)) (c .before .function-count .ensures i) (toZ-ofZ w64 (entry .args .day) (entry .fits .day) i))
       ∙ rows-factor (entry .args .words .now) (entry .pre .0 .accepted) (entry .args .day)
 
   abbrev x : ℕ
@@ -105,7 +105,7 @@ fix-chosen-requires c κs =
       rw (c .parameter-count .ensures)
           (told-chosen (g s) (s .args .nodes .now) (s .args .point) (s .args .day) (s .pre .0) (s .args .sides .now) (s .args .ranks .now) (s .args .frames .now) (s .pre .1 .flat) (q .before .before .before .before .before .before .lat-from-least .ensures) (q .before .before .before .before .before .before .before .lon-from-least .ensures) (number q) (q .before .before .before .used-at .result) (choice q) (q .before .before .before .used-at .ensures) (few s)),
       subst (λ (z : ℤ). natAbs z ≤ factorMost) (sym (factor q))
-          (factor-bound (g s .ramp) (s .args .day) (g s .ramps) (accepted-head (g s) a .ramps) (accepted (g s) a .ramp)),
+          (factor-bound (g s .function) (s .args .day) (g s .functions) (accepted-head (g s) a .functions) (accepted (g s) a .function)),
     )
 
 returns : tie.Need-returns
@@ -124,7 +124,7 @@ look-in-spec =
     grid-count-requires
     chosen-flat-requires
     used-at-requires
-    ramp-count-requires
+    function-count-requires
     factor-on-requires
     parameter-count-requires
     fix-chosen-requires

@@ -233,7 +233,7 @@ fn the_hole_of_an_area() {
 fn the_grids_of_a_header() {
     let folder = folder("formats-grids");
     let line = json(
-        "{'group':'port','unit':'arc-second','quantum':1,'parameters':2,'grids':[\
+        "{'group':'port','unit':'arc-second','quantum':1,'parameters':2,'functions':[],'grids':[\
         {'number':1,'name':'basin','rank':1,'west_mas':0,'east_mas':10,'south_mas':-10,'north_mas':0,\
         'dlon_mas':10,'dlat_mas':-10,'ni':2,'nj':2,'first':0,'last':7},\
         {'number':2,'name':'Outer_2','rank':20,'west_mas':-36000,'east_mas':-28000,'south_mas':0,'north_mas':8000,\

@@ -102,7 +102,11 @@ fn refusals_have_status_1_and_words() {
     let cases: [(&str, Answer); 16] = [
         (
             "check early.txt",
-            refused(1, 2, "the header ends before line 2, a ramp line: line 1 counts 1 ramp and 1 grid"),
+            refused(
+                1,
+                2,
+                "the header ends before line 2, a ramp, step or ramp2 line: line 1 counts 1 function and 1 grid",
+            ),
         ),
         ("format limit.txt", refused(2, 1, "line 1: Q is 21, its limit is 0 to 20")),
         (

@@ -38,7 +38,7 @@ fn the_usage_lines_name_the_options_of_a_command() {
     for command in COMMANDS {
         let text = folder.run(&format!("help {command}")).out;
         let (usage, _) = text.split_once("\n\n").expect("more is said behind the usage");
-        for option in ["--tsv", "--json", "--csv"] {
+        for option in ["--functions", "--tsv", "--json", "--csv"] {
             let unknown = folder.run(&format!("{command} {option}")).err.contains("there is no option");
             assert_eq!(usage.contains(option), !unknown, "{command} {option}");
         }

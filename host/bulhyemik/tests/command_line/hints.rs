@@ -19,23 +19,31 @@ fn refusal_1_says_what_is_not_of_the_form() {
         ("000000\n", "000000\r\n", 2, "line 2 ends in CR: lines are closed by a line feed alone".into()),
         ("1\t0\n", "1\t0\r\n", 3, "line 3 ends in CR: lines are closed by a line feed alone".into()),
         ("1\t0\n", "1\t0", 3, "line 3 is not closed by a line feed".into()),
-        ("1\t0\n", "1\t0\n\n", 4, "bytes stand behind the last grid line: line 1 counts 1 ramp and 1 grid".into()),
-        ("1\t0\n", "1\t0\n#", 4, "bytes stand behind the last grid line: line 1 counts 1 ramp and 1 grid".into()),
+        ("1\t0\n", "1\t0\n\n", 4, "bytes stand behind the last grid line: line 1 counts 1 function and 1 grid".into()),
+        ("1\t0\n", "1\t0\n#", 4, "bytes stand behind the last grid line: line 1 counts 1 function and 1 grid".into()),
         (
             "1\t1\t1",
             "1\t1\t2",
             4,
-            "the header ends before line 4, a grid line: line 1 counts 1 ramp and 2 grids".into(),
+            "the header ends before line 4, a grid line: line 1 counts 1 function and 2 grids".into(),
         ),
-        ("ramp", "\nramp", 2, "line 2 is empty, but must be a ramp line".into()),
-        ("1\t1\t1", "1\t0\t1", 2, "line 2 begins with 'ramp', but must begin with 'grid'".into()),
+        ("ramp", "\nramp", 2, "line 2 is empty, but must be a ramp, step or ramp2 line".into()),
+        (
+            "1\t1\t1",
+            "1\t0\t1",
+            2,
+            "line 2 begins with 'ramp', but must begin with 'grid'; line 1 counts 0 functions and 1 grid".into(),
+        ),
         (
             "ramp\t100\t0\t200\t",
             "ramp 100 0 200 ",
             2,
-            "line 2 begins with 'ramp 100 0 200 1000000', but must begin with 'ramp'; fields are parted by tabs".into(),
+            "line 2 begins with 'ramp 100 0 200 1000000', but must begin with 'ramp', 'step' or 'ramp2'; \
+             fields are parted by tabs"
+                .into(),
         ),
-        ("\t200", "", 2, "line 2 has 4 fields parted by tabs, but a ramp line has 5".into()),
+        ("group", "grid", 1, "line 1 begins with 'grid', but must begin with 'group'".into()),
+        ("\t200", "", 2, "line 2 has 4 fields parted by tabs, but a ramp line has 5: ramp A S0 B S1".into()),
         ("metre", "meter", 1, "line 1: UNIT is 'meter', but must be arc-second or metre".into()),
         ("dock", "the dock", 1, format!("line 1: NAME is 'the dock', but must be {name}")),
         (
@@ -55,13 +63,51 @@ fn refusal_1_says_what_is_not_of_the_form() {
 }
 
 #[test]
+fn refusal_1_says_that_a_function_stands_behind_the_grids() {
+    let folder = Folder::new("hints-behind");
+    let counted = "line 1 counts 1 function and 1 grid";
+    for (word, line) in [
+        ("step", "step\t300\t0\t1000000\n"),
+        ("ramp", "ramp\t100\t0\t200\t1000000\n"),
+        ("ramp2", "ramp2\t100\t200\t150\t1000000"),
+    ] {
+        let words =
+            format!("a {word} line stands behind the last grid line: {counted}; functions stand before the grids");
+        refuses(&folder, "1\t0\n", &format!("1\t0\n{line}"), 1, 4, &words);
+    }
+    for line in ["steps\t300\t0\t1000000\n", "step 300 0 1000000\n", "grid\tpier\t90\t0\t10\t10\t3\t2\t1\t0\n"] {
+        let words = format!("bytes stand behind the last grid line: {counted}");
+        refuses(&folder, "1\t0\n", &format!("1\t0\n{line}"), 1, 4, &words);
+    }
+}
+
+#[test]
+fn refusal_1_says_what_line_1_counts_where_a_grid_is_due() {
+    let folder = Folder::new("hints-due");
+    for word in ["ramp", "ramps", "Grid"] {
+        let text = HEADER.replacen("1\t1\t1", "1\t0\t1", 1).replacen("ramp", word, 1);
+        let words =
+            format!("line 2 begins with '{word}', but must begin with 'grid'; line 1 counts 0 functions and 1 grid");
+        assert_eq!(folder.run_with(&["check", "-"], text.as_bytes()), refused(1, 2, &words));
+    }
+    refuses(&folder, "group", "groups", 1, 1, "line 1 begins with 'groups', but must begin with 'group'");
+}
+
+#[test]
+fn refusal_1_writes_the_fields_of_a_group_as_the_rules_do() {
+    let folder = Folder::new("hints-group");
+    let words = "line 1 has 6 fields parted by tabs, but a group line has 7: group NAME UNIT Q NP FUNCTIONS GRIDS";
+    refuses(&folder, "1\t1\t1", "1\t1", 1, 1, words);
+}
+
+#[test]
 fn refusal_2_names_the_number_and_its_limit() {
     let folder = Folder::new("hints-2");
     for (part, by, place, words) in [
         ("13", "21", 1, "line 1: Q is 21, its limit is 0 to 20"),
         ("13", "-1", 1, "line 1: Q is -1, its limit is 0 to 20"),
         ("13\t1", "13\t4", 1, "line 1: NP is 4, its limit is 1 to 3"),
-        ("1\t1\t1", "1\t9\t1", 1, "line 1: the count of ramps is 9, its limit is 0 to 8"),
+        ("1\t1\t1", "1\t9\t1", 1, "line 1: the count of functions is 9, its limit is 0 to 8"),
         ("1\t1\t1", "1\t1\t0", 1, "line 1: the count of grids is 0, its limit is 1 to 64"),
         ("\t100\t", "\t1000001\t", 2, "line 2: A is 1000001, its limit is -1000000 to 1000000"),
         ("\t100\t", "\t201\t", 2, "line 2: A is 201, above B, which is 200"),

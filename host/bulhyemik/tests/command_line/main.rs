@@ -3,6 +3,7 @@
 mod bad_input;
 mod coarse;
 mod formats;
+mod functions;
 mod good_input;
 mod help;
 mod hints;

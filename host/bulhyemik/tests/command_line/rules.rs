@@ -14,11 +14,11 @@ fn lines(keyword: &str) -> Vec<String> {
 #[test]
 fn the_example_lines_are_accepted() {
     let folder = Folder::new("rules-lines");
-    let [groups, ramps, grids] = ["group", "ramp", "grid"].map(lines);
-    assert_eq!([groups.len(), ramps.len(), grids.len()], [2, 3, 5]);
-    for ramp in &ramps {
+    let [groups, ramps, steps, ramp2s, grids] = ["group", "ramp", "step", "ramp2", "grid"].map(lines);
+    assert_eq!([&groups, &ramps, &steps, &ramp2s, &grids].map(Vec::len), [2, 3, 2, 2, 5]);
+    for function in [&ramps[..], &steps, &ramp2s].concat() {
         for grid in &grids {
-            let text = format!("{}\n{ramp}\n{grid}\n", groups[0]);
+            let text = format!("{}\n{function}\n{grid}\n", groups[0]);
             assert_eq!(folder.run_with(&["check", "-"], text.as_bytes()), accepted("accepted\n"), "{text}");
         }
     }

@@ -2,7 +2,7 @@
 
 use super::last_otherwise;
 use super::meridian::longitude_used;
-use interface::{Answer, Calls, Fault, Fix, Found, Grid, Group, MARK, MOST_PARAMETERS, Position, Timed};
+use interface::{Answer, Calls, Fault, Fix, Found, Function, Grid, Group, MARK, MOST_PARAMETERS, Position, Timed};
 use reference::{Reference, day_factor};
 
 /// The size of the greatest node value before order 6, and that of the greatest spacing then and now.
@@ -11,7 +11,7 @@ const OLD_SPACING: i64 = 1_000_000;
 const SPACING: i64 = 36_000_000;
 
 /// n / d to the nearest, a tie to the even one.
-fn nearest(n: i128, d: i128) -> i128 {
+pub fn nearest(n: i128, d: i128) -> i128 {
     let (q, r) = (n.div_euclid(d), n.rem_euclid(d));
     q + i128::from(2 * r > d || 2 * r == d && q % 2 != 0)
 }
@@ -41,6 +41,10 @@ pub trait Way {
 
     fn value(cell: &Cell) -> i128 {
         nearest(cell.sum(), cell.total)
+    }
+
+    fn factor(functions: &[Function], day: i64) -> i128 {
+        day_factor(functions, day)
     }
 
     fn result(value: i128, factor: i128) -> i64 {
@@ -212,7 +216,7 @@ fn cells(grid: &Grid, parameters: i64, nodes: &[i32], at: Position) -> impl Iter
 
 /// An accepted lookup worked out in another way: its number.
 fn worked_out<W: Way>(group: &Group, nodes: &[i32], at: Position, fix: &mut Fix) -> u64 {
-    let factor = day_factor(&group.ramp[..group.ramps as usize], at.day);
+    let factor = W::factor(&group.function[..group.functions as usize], at.day);
     let grid = &group.grid[fix.grid as usize - 1];
     let cells: Vec<Cell> = cells(grid, group.parameters, nodes, at).collect();
     if let Some(number) = cells.iter().find_map(W::refused) {
@@ -318,7 +322,7 @@ pub fn spacings_of_a_header_end_at_a_million(text: &[u8], group: &mut Group, pla
     let grids = &group.grid[..if number == 0 { group.grids as usize } else { 0 }];
     match grids.iter().position(|grid| since_order_6(grid.dlon) || since_order_6(grid.dlat)) {
         Some(k) => {
-            *place = 2 + group.ramps as u64 + k as u64;
+            *place = 2 + group.functions as u64 + k as u64;
             *group = before;
             2
         }

@@ -1,10 +1,12 @@
 //! The second program with one fault: what a differential test must find.
 
 mod coarse;
+mod functions;
 mod logs;
 mod meridian;
 
 use coarse::*;
+use functions::*;
 use interface::{
     Answer, Area, Calls, Fault, Fix, Found, Grid, Group, InForce, MARK, MOST_PARAMETERS, Part, Position, Screen, Timed,
     Uncovered,
@@ -75,9 +77,17 @@ macro_rules! mutants {
 mutants! {
     judge: clash_names_the_earlier_grid, far_edge_is_not_judged, name_is_that_of_the_grid_beside, a_whole_turn_is_too_wide,
         one_more_than_a_turn_is_accepted, any_width_is_accepted, clash_as_written, clash_one_turn_apart_at_most,
-        clash_beside_the_meridian_only, spacings_end_at_a_million, spacings_go_one_further;
-    read_header: only_the_first_grid_line_is_read, refused_header_zeroes_the_group, spacings_of_a_header_end_at_a_million;
-    write_header: one_byte_behind_the_text;
+        clash_beside_the_meridian_only, spacings_end_at_a_million, spacings_go_one_further,
+        ends_of_a_ramp2_may_be_equal, ends_of_a_ramp2_may_be_swapped, ends_of_a_ramp_may_not_be_equal,
+        another_kind_is_a_ramp, kind_of_32_bits, kind_of_8_bits, fourth_word_of_a_step_is_free, reference_has_no_limit,
+        mult_has_the_limit_of_a_day, mult_goes_one_further, kind_of_an_unused_function_is_free,
+        unused_function_has_a_line;
+    read_header: only_the_first_grid_line_is_read, refused_header_zeroes_the_group, spacings_of_a_header_end_at_a_million,
+        ramp2_of_three_numbers_is_beyond_a_limit, ramp2_of_three_numbers_is_a_step, step_of_four_numbers_is_read,
+        ramp2_is_read_as_a_ramp, line_of_a_ramp2_may_have_equal_ends, kinds_are_sorted_on_reading,
+        step_is_read_in_another_order, fourth_word_of_a_step_is_filled, ramps_alone_are_counted_on_reading;
+    write_header: one_byte_behind_the_text, kinds_are_sorted_on_writing, ramp2_is_written_as_a_ramp,
+        ramps_alone_are_counted_on_writing;
     field: past_the_last_field_is_zero;
     lookup: lookup_always_refuses, lookup_always_answers_zero, halves_away_from_zero,
         worse_grid_where_the_best_lacks_data, grid_and_first_result_swapped, lookup_by::<AsWritten>,
@@ -86,12 +96,20 @@ mutants! {
         lookup_in::<OneWord>, lookup_in::<OneWordByTheSpacing>, lookup_in::<OneWordByTheNodes>, lookup_in::<NoCarry>,
         lookup_in::<RemainderOfTheLowWord>, lookup_in::<TieByTheSum>, lookup_in::<RaisedByAnOddNumber>,
         lookup_in::<DifferencesOf32Bits>, lookup_in::<SumInFloats>, lookup_in::<ValueInASmallFloat>,
-        lookup_in::<ResultOf32Bits>, lookup_in::<OldLimitOfNodes>, lookup_in::<LeastValueIsTheMark>;
+        lookup_in::<ResultOf32Bits>, lookup_in::<OldLimitOfNodes>, lookup_in::<LeastValueIsTheMark>,
+        lookup_in::<TwoRoundings>, lookup_in::<MillionthsFirst>, lookup_in::<TieAwayFromZero>,
+        lookup_in::<FractionIsCut>, lookup_in::<NoReferenceOfARamp2>, lookup_in::<NoReferenceOfAStep>,
+        lookup_in::<StepBehindItsEvent>, lookup_in::<ReferenceBehindTheEvent>, lookup_in::<StepBackwards>,
+        lookup_in::<Ramp2Backwards>, lookup_in::<StepWithoutASign>, lookup_in::<Ramp2WithoutASign>, lookup_in::<ReferenceForTheStart>,
+        lookup_in::<StepByTheRuleOfARamp>, lookup_in::<Ramp2ByTheRuleOfARamp>, lookup_in::<Ramp2WithoutEnds>,
+        lookup_in::<ReferenceWithoutEnds>, lookup_in::<EndADayEarly>, lookup_in::<OneWithoutRamps>,
+        lookup_in::<RampsAlone>, lookup_in::<FirstAlone>;
     lookup_many: first_days_factor_for_all, last_point_is_left_out, results_although_13_refuses,
         too_few_nodes_refuse_each_point, results_may_be_too_many, length_is_judged_behind_the_nodes,
         refused_point_keeps_its_results, last_of_many_is_not_turned, last_of_many_in::<OneWord>,
         last_of_many_in::<NoCarry>, last_of_many_in::<RemainderOfTheLowWord>, last_of_many_in::<RaisedByAnOddNumber>,
-        last_of_many_in::<ResultOf32Bits>, last_of_many_in::<OldLimitOfNodes>;
+        last_of_many_in::<ResultOf32Bits>, last_of_many_in::<OldLimitOfNodes>, last_of_many_in::<TwoRoundings>,
+        last_of_many_in::<TieAwayFromZero>, last_of_many_in::<StepBehindItsEvent>, last_of_many_in::<RampsAlone>;
     grids_in_force: empty_list, full_list, corner_of_the_grid_for_its_first_coordinate, in_force_by::<AsWritten>,
         in_force_by::<OnlyATurnMore>, in_force_by::<OnlyATurnLess>, in_force_by::<EndsShort>, in_force_by::<BeginsLate>,
         areas_of_a_list_go_a_whole_turn, entry_at_the_first_longitude_is_at_the_last,
@@ -119,7 +137,7 @@ mutants! {
     screen_record: degrees_after_a_refusal, negative_parameters_are_three;
 }
 
-/// A lookup worked out as it should be, in the way of which the faults about coarse grids are changes.
+/// A lookup worked out as it should be, in the way of which the faults about coarse grids and functions are changes.
 pub const WORKED_OUT: Mutant = Mutant { lookup: lookup_in::<AsItShouldBe>, ..SOUND };
 
 fn clash_names_the_earlier_grid(group: &Group, place: &mut u64) -> u64 {
