@@ -27,14 +27,14 @@ const NEAR_SHIFT: u64 = NEAR_MOST as u64;
 pub const NEAR_TOTAL: u64 = 18446744073709551615 / (2 * NEAR_SHIFT);
 
 // The cell of a point along one axis: its index, from 0, and the distance from its node of lower index.
-#[derive(Drop)]
+#[derive(Clone, Copy)]
 pub struct Along {
     pub index: u64,
     pub rest: u64,
 }
 
 // The weights of the corners (0, 0), (1, 0), (0, 1), (1, 1) of a cell, which add to the total, the product of the spacing sizes.
-#[derive(Drop)]
+#[derive(Clone, Copy)]
 pub struct Weights {
     pub w00: u64,
     pub w10: u64,
@@ -44,7 +44,7 @@ pub struct Weights {
 }
 
 // What the corners (0, 0), (1, 0), (0, 1), (1, 1) of a cell hold, in steps.
-#[derive(Drop)]
+#[derive(Clone, Copy)]
 pub struct Corners {
     pub v00: i32,
     pub v10: i32,
@@ -53,7 +53,7 @@ pub struct Corners {
 }
 
 // A whole number in two parts: high times 2 to the power 32, and low, which is below that.
-#[derive(Drop)]
+#[derive(Clone, Copy)]
 pub struct TwoParts {
     pub high: i64,
     pub low: u64,

@@ -8,7 +8,7 @@ ghost use Rattle.choice.specs.Blocks.{blocks};
 ghost use Rattle.choice.specs.Holder.{held_by};
 
 // What holds a point: a rectangle's owner and its shift, or nothing.
-#[derive(Drop)]
+#[derive(Clone, Copy)]
 pub enum Held {
     By(u64, u64),
     Nothing,

@@ -33,7 +33,7 @@ const ANSWER_WORDS: usize = 6;
 const NO_DAY: i64 = group::DAY_MOST + 1;
 
 // A day and its factor, in millionths, which is 0 on a day outside the limit.
-#[derive(Drop)]
+#[derive(Clone, Copy)]
 pub struct Scale {
     pub day: i64,
     pub factor: i64,

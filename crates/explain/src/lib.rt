@@ -34,7 +34,7 @@ const OTHERS_FROM: usize = CELL_WORDS + PARAMETERS_WORDS;
 pub const EXPLANATION_WORDS: usize = OTHERS_FROM + GRIDS_MOST;
 
 // What a lookup is made of, in the order of include/bulhyemik.h; zeros beside a refusal.
-#[derive(Drop)]
+#[derive(Clone, Copy)]
 pub struct Explanation {
     pub verdict: Verdict,
     pub numbers: [i64; EXPLANATION_WORDS],

@@ -8,7 +8,7 @@ ghost use Rattle.extent.specs.Sides.{lon_from_least, lat_from_least, sides_of};
 use group::{Grid, Latitude, Longitude};
 
 // One direction of a grid: the first node, the spacing and the number of nodes.
-#[derive(Drop)]
+#[derive(Clone, Copy)]
 pub struct Axis {
     pub at: i64,
     pub step: i64,
@@ -16,28 +16,28 @@ pub struct Axis {
 }
 
 // From the least to the greatest number along one direction.
-#[derive(Drop)]
+#[derive(Clone, Copy)]
 pub struct Span {
     pub low: i64,
     pub high: i64,
 }
 
 // The longitudes of an extent.
-#[derive(Drop)]
+#[derive(Clone, Copy)]
 pub struct LonSpan {
     pub west: Longitude,
     pub east: Longitude,
 }
 
 // The latitudes of an extent.
-#[derive(Drop)]
+#[derive(Clone, Copy)]
 pub struct LatSpan {
     pub south: Latitude,
     pub north: Latitude,
 }
 
 // An extent as distances in mas from the least longitude and latitude, -LON_ZERO and -LAT_ZERO.
-#[derive(Drop)]
+#[derive(Clone, Copy)]
 pub struct Sides {
     pub west: u64,
     pub east: u64,

@@ -11,7 +11,7 @@ use group::Refusal;
 
 // A point in a grid: its distances in mas from node 0 and the spacing sizes, along parallel and meridian; the counts of nodes,
 // START and the count of parameters.
-#[derive(Drop)]
+#[derive(Clone, Copy)]
 pub struct Offset {
     pub dx: u64,
     pub dy: u64,
@@ -24,7 +24,7 @@ pub struct Offset {
 }
 
 // A point's cell: the indices of its node of lower indices, and the weights of its corners.
-#[derive(Drop)]
+#[derive(Clone, Copy)]
 pub struct Cell {
     pub i: u64,
     pub j: u64,
@@ -32,7 +32,7 @@ pub struct Cell {
 }
 
 // An accepted lookup: the chosen grid's number, from 1, and its results in steps, those of missing parameters 0.
-#[derive(Drop)]
+#[derive(Clone, Copy)]
 pub struct Fix {
     pub grid: u64,
     pub first: i64,
@@ -41,7 +41,7 @@ pub struct Fix {
 }
 
 // What a lookup answers.
-#[derive(Drop)]
+#[derive(Clone, Copy)]
 pub enum Lookup {
     Fix(Fix),
     Refused(Refusal),

@@ -90,16 +90,16 @@ pub const RESULT_MOST: u64 = VALUE_MOST as u64 * FACTOR_MOST / FACTOR_ONE as u64
 
 // A longitude in mas: a point's lies from LON_LEAST to LON_MOST, a grid's edge from LON_EDGE_LEAST to LON_EDGE_MOST.
 #[repr(C)]
-#[derive(Drop)]
+#[derive(Clone, Copy)]
 pub struct Longitude(pub i64);
 
 // A latitude in mas, with limits of the same kind.
 #[repr(C)]
-#[derive(Drop)]
+#[derive(Clone, Copy)]
 pub struct Latitude(pub i64);
 
 // A point, in mas.
-#[derive(Drop)]
+#[derive(Clone, Copy)]
 pub struct Point {
     pub lon: Longitude,
     pub lat: Latitude,
@@ -107,7 +107,7 @@ pub struct Point {
 
 // A point, in mas, on a day.
 #[repr(C)]
-#[derive(Drop)]
+#[derive(Clone, Copy)]
 pub struct Position {
     pub lon: Longitude,
     pub lat: Latitude,
@@ -115,21 +115,21 @@ pub struct Position {
 }
 
 // A name of 1 to 24 bytes of A to Z, a to z, 0 to 9, _ and -; every byte behind its length is 0.
-#[derive(Drop)]
+#[derive(Clone, Copy)]
 pub struct Name {
     pub bytes: [u8; NAME_MOST],
     pub len: u64,
 }
 
 // What node values and results are in, before the quantum.
-#[derive(Drop)]
+#[derive(Clone, Copy)]
 pub enum Unit {
     ArcSecond,
     Metre,
 }
 
 // A ramp: s0 millionths until the day a, s1 from the day b on, linear between.
-#[derive(Drop)]
+#[derive(Clone, Copy)]
 pub struct Ramp {
     pub a: i64,
     pub s0: i64,
@@ -138,7 +138,7 @@ pub struct Ramp {
 }
 
 // A step: it leaps by mult millionths on the day event, and is 0 on the day reference.
-#[derive(Drop)]
+#[derive(Clone, Copy)]
 pub struct Step {
     pub event: i64,
     pub reference: i64,
@@ -146,7 +146,7 @@ pub struct Step {
 }
 
 // A ramp2: it changes by mult millionths from the day start to the day end, linearly, and is 0 on the day reference.
-#[derive(Drop)]
+#[derive(Clone, Copy)]
 pub struct Ramp2 {
     pub start: i64,
     pub end: i64,
@@ -155,7 +155,7 @@ pub struct Ramp2 {
 }
 
 // The kinds of functions, each with just its numbers.
-#[derive(Drop)]
+#[derive(Clone, Copy)]
 pub enum Shape {
     Ramp(Ramp),
     Step(Step),
@@ -163,13 +163,13 @@ pub enum Shape {
 }
 
 // A function of time, of any kind.
-#[derive(Drop)]
+#[derive(Clone, Copy)]
 pub struct Function {
     pub shape: Shape,
 }
 
 // A grid: node (i, j) lies at lon + i·dlon, lat + j·dlat; rank 1 is best; start is its first position in the node list.
-#[derive(Drop)]
+#[derive(Clone, Copy)]
 pub struct Grid {
     pub name: Name,
     pub lon: Longitude,
@@ -183,7 +183,7 @@ pub struct Grid {
 }
 
 // A group: one step of a node value is 2 to the power -quantum of the unit; entries behind the two counts are unused.
-#[derive(Drop)]
+#[derive(Clone, Copy)]
 pub struct Group {
     pub name: Name,
     pub unit: Unit,
@@ -196,14 +196,14 @@ pub struct Group {
 }
 
 // A refusal of document 01: its number, and the line, grid or position that it names, 0 if none.
-#[derive(Drop)]
+#[derive(Clone, Copy)]
 pub struct Refusal {
     pub number: u64,
     pub place: u64,
 }
 
 // What a group is judged.
-#[derive(Drop)]
+#[derive(Clone, Copy)]
 pub enum Verdict {
     Accepted,
     Refused(Refusal),

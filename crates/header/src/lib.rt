@@ -18,7 +18,7 @@ use group::{Function, Grid, Group, Refusal, Verdict, blank_function, blank_grid,
 use line::Head;
 
 // Lines read as functions: the verdict, the entries (blank where none is read, and after a refusal), and the place behind the last.
-#[derive(Drop)]
+#[derive(Clone, Copy)]
 pub struct FunctionsRead {
     pub verdict: Verdict,
     pub functions: [Function; group::FUNCTIONS_MOST],
@@ -26,7 +26,7 @@ pub struct FunctionsRead {
 }
 
 // Lines read as grids.
-#[derive(Drop)]
+#[derive(Clone, Copy)]
 pub struct GridsRead {
     pub verdict: Verdict,
     pub grids: [Grid; group::GRIDS_MOST],
@@ -34,14 +34,14 @@ pub struct GridsRead {
 }
 
 // What reading a header answers: the verdict beside the group, which is blank after a refusal.
-#[derive(Drop)]
+#[derive(Clone, Copy)]
 pub struct Reading {
     pub verdict: Verdict,
     pub group: Group,
 }
 
 // What writing a header answers: the count of bytes, or the refusal.
-#[derive(Drop)]
+#[derive(Clone, Copy)]
 pub enum Written {
     Count(usize),
     Refused(Refusal),

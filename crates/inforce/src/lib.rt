@@ -30,14 +30,14 @@ const RECT_SIDES: usize = flat::ROWS * 4;
 const NUMBERS: usize = GRIDS_MOST + 1;
 
 // An area: all whole coordinates from west to east and from south to north, sides included, in mas.
-#[derive(Drop)]
+#[derive(Clone, Copy)]
 pub struct Area {
     pub lon: LonSpan,
     pub lat: LatSpan,
 }
 
 // A grid in force: its number, from 1, and the southmost, then westmost coordinate at which it is chosen, in mas.
-#[derive(Drop)]
+#[derive(Clone, Copy)]
 pub struct GridInForce {
     pub grid: u64,
     pub lon: Longitude,
@@ -45,7 +45,7 @@ pub struct GridInForce {
 }
 
 // The grids in force: how many, and 64 entries, best rank first; unused ones are zero, all of them beside a refusal.
-#[derive(Drop)]
+#[derive(Clone, Copy)]
 pub struct InForce {
     pub verdict: Verdict,
     pub count: u64,
@@ -54,7 +54,7 @@ pub struct InForce {
 
 // Whether an area has a coordinate at which no grid is chosen, and the southmost, then westmost such, in mas; zeros where it has none, and
 // beside a refusal.
-#[derive(Drop)]
+#[derive(Clone, Copy)]
 pub struct Uncovered {
     pub verdict: Verdict,
     pub found: bool,

@@ -27,7 +27,7 @@ const GRIDS: u64 = group::GRIDS_MOST as u64;
 const FOURS: usize = group::GRIDS_MOST * 4;
 
 // What a function entry can break.
-#[derive(Drop)]
+#[derive(Clone, Copy)]
 enum FunctionRule {
     Unused,
     Limits,
@@ -35,7 +35,7 @@ enum FunctionRule {
 
 // What two grids may not share: a name; or a rank, where they hold a coordinate in common: where their extents share one as they are
 // written, or round the earth.
-#[derive(Drop)]
+#[derive(Clone, Copy)]
 enum Shared {
     Name,
     Rank,
@@ -43,7 +43,7 @@ enum Shared {
 }
 
 // The numbers by which a grid is compared with another.
-#[derive(Drop)]
+#[derive(Clone, Copy)]
 struct Keys {
     key: u64,
     a: u64,
@@ -54,7 +54,7 @@ struct Keys {
 
 // What one pass over the grids finds: the first whose line is outside its limits, and the first whose far edge, width or node range is; each is
 // the count of grids if there is none.
-#[derive(Drop)]
+#[derive(Clone, Copy)]
 struct Scan {
     bad: u64,
     edge: u64,

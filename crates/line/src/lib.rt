@@ -24,7 +24,7 @@ use group::{
 use text::Number;
 
 // A group line: all of a group but its functions and grids.
-#[derive(Drop)]
+#[derive(Clone, Copy)]
 pub struct Head {
     pub name: Name,
     pub unit: Unit,
@@ -35,35 +35,35 @@ pub struct Head {
 }
 
 // Whether a field is a name.
-#[derive(Drop)]
+#[derive(Clone, Copy)]
 pub enum Form {
     Malformed,
     Named,
 }
 
 // A field as a unit.
-#[derive(Drop)]
+#[derive(Clone, Copy)]
 pub enum UnitRead {
     Unknown,
     Known(Unit),
 }
 
 // A line read as a group line: the verdict beside the record, which is blank after a refusal.
-#[derive(Drop)]
+#[derive(Clone, Copy)]
 pub struct HeadRead {
     pub verdict: Verdict,
     pub head: Head,
 }
 
 // A line read as a function.
-#[derive(Drop)]
+#[derive(Clone, Copy)]
 pub struct FunctionRead {
     pub verdict: Verdict,
     pub function: Function,
 }
 
 // A line read as a grid.
-#[derive(Drop)]
+#[derive(Clone, Copy)]
 pub struct GridRead {
     pub verdict: Verdict,
     pub grid: Grid,

@@ -24,21 +24,21 @@ use line::Form;
 use text::CUTS;
 
 // The first bad line of a log, from 1, and its kind: 1 form, 2 lookup refused, 3 other grid, 4 other shift; 0 and 0 if the log passes.
-#[derive(Drop)]
+#[derive(Clone, Copy)]
 pub struct Fault {
     pub line: u64,
     pub kind: u64,
 }
 
 // What judging a log answers: the fault, or the refusal.
-#[derive(Drop)]
+#[derive(Clone, Copy)]
 pub enum Judgement {
     Judged(Fault),
     Refused(Refusal),
 }
 
 // A line that was judged: its kind, 0 if it passes, and the scale of the day last looked up.
-#[derive(Drop)]
+#[derive(Clone, Copy)]
 pub struct Turn {
     pub kind: u64,
     pub scale: Scale,

@@ -25,7 +25,7 @@ use group::{Group, LON_TURN, Point, Refusal, Verdict};
 // A lookup's answer as C has it: the number and the place of its refusal, 0 and 0 if there is none, and the chosen grid's number and
 // its results in steps, zeros beside a refusal.
 #[repr(C)]
-#[derive(Drop)]
+#[derive(Clone, Copy)]
 pub struct Answer {
     pub number: u64,
     pub place: u64,

@@ -24,7 +24,7 @@ const GREATEST: u32 = 1325400063;
 const BLOCK: usize = 64;
 
 // What loading answers: all nodes are written, or nothing is.
-#[derive(Drop)]
+#[derive(Clone, Copy)]
 pub enum Loaded {
     Done,
     Refused(group::Refusal),

@@ -8,14 +8,14 @@ ghost use Rattle.pair.specs.Division.{Parts};
 const BASE: u64 = 4294967296;
 
 // The number high times 2 to the power 64, and low.
-#[derive(Drop)]
+#[derive(Clone, Copy)]
 pub struct Pair {
     pub high: u64,
     pub low: u64,
 }
 
 // What a division by one word leaves.
-#[derive(Drop)]
+#[derive(Clone, Copy)]
 struct Part {
     quotient: u64,
     rest: u64,

@@ -9,14 +9,14 @@ ghost use Rattle.region.specs.Rows.{RowAnswer};
 use numbers::smaller;
 
 // The point found: longitude and latitude.
-#[derive(Drop)]
+#[derive(Clone, Copy)]
 pub enum Spot {
     At(u64, u64),
     Nothing,
 }
 
 // The bounds of a search, included.
-#[derive(Drop)]
+#[derive(Clone, Copy)]
 pub struct Bounds {
     pub west: u64,
     pub east: u64,
@@ -25,7 +25,7 @@ pub struct Bounds {
 }
 
 // Of a row: its westmost free longitude, or the last row that the blockers of this one hold whole.
-#[derive(Drop)]
+#[derive(Clone, Copy)]
 enum Row {
     Open(u64),
     Shut(u64),

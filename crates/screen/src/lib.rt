@@ -7,14 +7,14 @@ ghost use Rattle.screen.specs.Screen.{admitted, neg_power, shift_of, shown_shift
 const DEGREE: f64 = group::MAS_IN_DEGREE as f64;
 
 // What the screen answers: three shifts in the group's unit, or the refusal.
-#[derive(Drop)]
+#[derive(Clone, Copy)]
 pub enum ScreenAnswer {
     Fix(f64, f64, f64),
     Refused(group::Refusal),
 }
 
 // The screen record: the point's degrees, and its shifts in the group's unit.
-#[derive(Drop)]
+#[derive(Clone, Copy)]
 pub struct ScreenRecord {
     pub longitude: f64,
     pub latitude: f64,

@@ -125,14 +125,14 @@ pub fn cut_field<'a>(line: &'a [u8], cuts: &[usize; CUTS], number: usize) -> &'a
 const NUMBER_MOST: u64 = 1000000000000000000;
 
 // A field as a number; NUMBER_MOST and -NUMBER_MOST stand for all that is beyond them.
-#[derive(Drop)]
+#[derive(Clone, Copy)]
 pub enum Number {
     Malformed,
     Whole(i64),
 }
 
 // Digits as a number; NUMBER_MOST stands for all that is beyond it.
-#[derive(Drop)]
+#[derive(Clone, Copy)]
 enum Natural {
     Bad,
     Value(u64),

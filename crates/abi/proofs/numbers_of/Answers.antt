@@ -1,0 +1,11 @@
+-- `numbers_of` meets its contract.
+use mathlib.Core.Path.{sym, ◌∙◌}
+use Rattle.abi.proofs.ListLaws.{sets_whole}
+use Rattle.abi.proofs.GroupLaws.{numbers_length}
+use borrow.Author.Rules.{rules}
+use Rattle.abi.proofs.numbers_of.Goals as goal
+
+pub returns : goal.returns
+returns c =
+    let g = c.args.group in
+    c.store_group.ensures ∙ sets_whole _ _ (sym (numbers_length g))

@@ -1,0 +1,18 @@
+-- `store_functions` meets its contract.
+use Prim.Native.Nat.{◌-◌}
+use mathlib.Core.Path.{◌≡◌, refl, sym, ap}
+use borrow.Author.Rules.{rules}
+use native.Mathlib.Omega.{arith}
+use lib.ListN.{length, get_or}
+use Rattle.group.specs.Numbers.{functions_most}
+use Rattle.abi.specs.Words.{head_words, function_words}
+use Rattle.group.specs.Blank.{blank_function}
+use Rattle.abi.specs.Abi.{function_numbers}
+use Rattle.abi.proofs.ListLaws.{Run, run_none, run_length, run_more, run_all}
+use Rattle.abi.proofs.store_functions.Given as goal
+
+abbrev pub invariant-loop-i : goal.invariant-loop-i
+invariant-loop-i l = Run (λ k. function_numbers (get_or l.functions k blank_function)) functions_most l.initial.out head_words l.i l.out
+
+abbrev pub decreases-loop-i : goal.decreases-loop-i
+decreases-loop-i l = functions_most - l.i

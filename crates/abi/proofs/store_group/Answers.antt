@@ -1,0 +1,9 @@
+-- `store_group` meets its contract.
+use Rattle.abi.proofs.GroupLaws.{numbers_stored}
+use borrow.Author.Rules.{rules}
+use Rattle.abi.proofs.store_group.Goals as goal
+
+pub returns : goal.returns
+returns c =
+    let s = c.args in
+    numbers_stored s.group _ _ _ _ _ c.head_numbers-head.ensures c.store_numbers.ensures c.store_functions.ensures c.store_grids.ensures

@@ -1,0 +1,182 @@
+-- `ramp_factor` meets its contract.
+use Prim.Native.Nat.{◌*◌, ◌≤◌}
+use mathlib.Core.Path.{◌≡◌, refl, sym, ◌∙◌, subst}
+use mathlib.Core.Bool.{false}
+use native.Mathlib.Nat.{mul-le-mul}
+use native.Mathlib.Omega.{arith}
+use lib.IntN.{ℤ, ◌+ℤ◌, ◌-ℤ◌, ◌*ℤ◌, nat_abs}
+use lib.Signed.{le_z}
+use mir.Syntax.{w64}
+use mir.Val.{SFits}
+use mir.ValLaws.{to_z-of_z}
+use Rattle.numbers.specs.Round.{round_z}
+use Rattle.numbers.proofs.Machine.{through}
+use Rattle.numbers.proofs.OrderLaws.{size_fits, size_mul}
+use Rattle.group.specs.Numbers.{day_most, function_factor_most}
+use Rattle.day.specs.Day.{ramp_factor}
+use Rattle.numbers.proofs.SignedLaws.{held, tested, gap_is, above, size_less, gap_positive, way, size_sum}
+use Rattle.day.proofs.DayLaws.{RampSizes, ramp_sizes}
+use Rattle.day.proofs.ramp_factor.Goals as goal
+
+-- what fits between the two days
+record Sloped (a s0 b s1 t : ℤ) : Type 0 where
+  left : SFits w64 (b -ℤ t)
+  right : SFits w64 (t -ℤ a)
+  whole : SFits w64 (b -ℤ a)
+  first : SFits w64 (s0 *ℤ (b -ℤ t))
+  second : SFits w64 (s1 *ℤ (t -ℤ a))
+  sum : SFits w64 (s0 *ℤ (b -ℤ t) +ℤ s1 *ℤ (t -ℤ a))
+  sum_most : nat_abs (s0 *ℤ (b -ℤ t) +ℤ s1 *ℤ (t -ℤ a)) ≤ function_factor_most * nat_abs (b -ℤ a)
+  whole_most : nat_abs (b -ℤ a) ≤ 2 * day_most
+
+sloped : (a s0 b s1 t : ℤ) → RampSizes a s0 b s1 → le_z b t ≡ false → le_z t a ≡ false → Sloped a s0 b s1 t
+sloped a s0 b s1 t z e f =
+    let v = way a t b f e in let za = z.a_most in let zb = z.b_most in
+    let l : nat_abs (b -ℤ a) ≤ 2 * day_most = omega (arith, size_less b a) in
+    let m = size_sum function_factor_most s0 s1 (b -ℤ t) (t -ℤ a) z.s0_most z.s1_most in
+    let n : nat_abs (s0 *ℤ (b -ℤ t) +ℤ s1 *ℤ (t -ℤ a)) ≤ function_factor_most * nat_abs (b -ℤ a) = rw (sym v) m in
+    let hl : nat_abs (b -ℤ t) ≤ 2 * day_most = omega arith in let hr : nat_abs (t -ℤ a) ≤ 2 * day_most = omega arith in
+    let p = mul-le-mul z.s0_most hl in let q = mul-le-mul z.s1_most hr in
+    record {
+      left = size_fits _ (omega arith);
+      right = size_fits _ (omega arith);
+      whole = size_fits _ (omega arith);
+      first = size_fits _ (omega (arith, size_mul s0 (b -ℤ t)));
+      second = size_fits _ (omega (arith, size_mul s1 (t -ℤ a)));
+      sum = size_fits _ (omega arith);
+      sum_most = n;
+      whole_most = l;
+    }
+
+pub returns-then-b-day : goal.returns-then-b-day
+unfolding ramp_factor
+returns-then-b-day c =
+    let s = c in
+    rw (tested c.args.b c.args.day c.ranges.b c.ranges.day c.if-b-day.true) (to_z-of_z w64 c.args.s1 c.ranges.s1)
+
+pub returns-then-day-a : goal.returns-then-day-a
+unfolding ramp_factor
+returns-then-day-a c =
+    let s = c in
+    rw (
+      tested c.args.b c.args.day c.ranges.b c.ranges.day c.if-b-day.false,
+      tested c.args.day c.args.a c.ranges.day c.ranges.a c.if-day-a.true,
+    )
+    (to_z-of_z w64 c.args.s0 c.ranges.s0)
+
+pub overflow_sub-b : goal.overflow_sub-b
+overflow_sub-b c =
+    let left_is : held c.args.b -ℤ held c.args.day ≡ c.args.b -ℤ c.args.day = gap_is c.args.b c.args.day c.fits.b c.fits.day in
+    let before_b : le_z c.args.b c.args.day ≡ false = tested c.args.b c.args.day c.fits.b c.fits.day c.if-b-day.false in
+    let behind_a : le_z c.args.day c.args.a ≡ false = tested c.args.day c.args.a c.fits.day c.fits.a c.if-day-a.false in
+    let facts : Sloped c.args.a c.args.s0 c.args.b c.args.s1 c.args.day =
+    sloped c.args.a c.args.s0 c.args.b c.args.s1 c.args.day
+    (ramp_sizes c.args.a c.args.s0 c.args.b c.args.s1 c.requires) before_b behind_a in
+    subst (SFits w64) (sym (left_is)) (facts).left
+
+pub overflow_mul-s0 : goal.overflow_mul-s0
+overflow_mul-s0 c =
+    let left_is : held c.args.b -ℤ held c.args.day ≡ c.args.b -ℤ c.args.day = gap_is c.args.b c.args.day c.fits.b c.fits.day in
+    let before_b : le_z c.args.b c.args.day ≡ false = tested c.args.b c.args.day c.fits.b c.fits.day c.if-b-day.false in
+    let behind_a : le_z c.args.day c.args.a ≡ false = tested c.args.day c.args.a c.fits.day c.fits.a c.if-day-a.false in
+    let facts : Sloped c.args.a c.args.s0 c.args.b c.args.s1 c.args.day =
+    sloped c.args.a c.args.s0 c.args.b c.args.s1 c.args.day
+    (ramp_sizes c.args.a c.args.s0 c.args.b c.args.s1 c.requires) before_b behind_a in
+    let first_is : held c.args.s0 *ℤ held (held c.args.b -ℤ held c.args.day)
+    ≡ c.args.s0 *ℤ (c.args.b -ℤ c.args.day) = λ i. to_z-of_z w64 c.args.s0 c.fits.s0 i *ℤ through w64 left_is facts.left i in
+    subst (SFits w64) (sym (first_is)) (facts).first
+
+pub overflow_sub-day : goal.overflow_sub-day
+overflow_sub-day c =
+    let right_is : held c.args.day -ℤ held c.args.a ≡ c.args.day -ℤ c.args.a = gap_is c.args.day c.args.a c.fits.day c.fits.a in
+    let before_b : le_z c.args.b c.args.day ≡ false = tested c.args.b c.args.day c.fits.b c.fits.day c.if-b-day.false in
+    let behind_a : le_z c.args.day c.args.a ≡ false = tested c.args.day c.args.a c.fits.day c.fits.a c.if-day-a.false in
+    let facts : Sloped c.args.a c.args.s0 c.args.b c.args.s1 c.args.day =
+    sloped c.args.a c.args.s0 c.args.b c.args.s1 c.args.day
+    (ramp_sizes c.args.a c.args.s0 c.args.b c.args.s1 c.requires) before_b behind_a in
+    subst (SFits w64) (sym (right_is)) (facts).right
+
+pub overflow_mul-s1 : goal.overflow_mul-s1
+overflow_mul-s1 c =
+    let right_is : held c.args.day -ℤ held c.args.a ≡ c.args.day -ℤ c.args.a = gap_is c.args.day c.args.a c.fits.day c.fits.a in
+    let before_b : le_z c.args.b c.args.day ≡ false = tested c.args.b c.args.day c.fits.b c.fits.day c.if-b-day.false in
+    let behind_a : le_z c.args.day c.args.a ≡ false = tested c.args.day c.args.a c.fits.day c.fits.a c.if-day-a.false in
+    let facts : Sloped c.args.a c.args.s0 c.args.b c.args.s1 c.args.day =
+    sloped c.args.a c.args.s0 c.args.b c.args.s1 c.args.day
+    (ramp_sizes c.args.a c.args.s0 c.args.b c.args.s1 c.requires) before_b behind_a in
+    let second_is : held c.args.s1 *ℤ held (held c.args.day -ℤ held c.args.a)
+    ≡ c.args.s1 *ℤ (c.args.day -ℤ c.args.a) = λ i. to_z-of_z w64 c.args.s1 c.fits.s1 i *ℤ through w64 right_is facts.right i in
+    subst (SFits w64) (sym (second_is)) (facts).second
+
+pub overflow_add-s0 : goal.overflow_add-s0
+overflow_add-s0 c =
+    let left_is : held c.args.b -ℤ held c.args.day ≡ c.args.b -ℤ c.args.day = gap_is c.args.b c.args.day c.fits.b c.fits.day in
+    let before_b : le_z c.args.b c.args.day ≡ false = tested c.args.b c.args.day c.fits.b c.fits.day c.if-b-day.false in
+    let behind_a : le_z c.args.day c.args.a ≡ false = tested c.args.day c.args.a c.fits.day c.fits.a c.if-day-a.false in
+    let facts : Sloped c.args.a c.args.s0 c.args.b c.args.s1 c.args.day =
+    sloped c.args.a c.args.s0 c.args.b c.args.s1 c.args.day
+    (ramp_sizes c.args.a c.args.s0 c.args.b c.args.s1 c.requires) before_b behind_a in
+    let first_is : held c.args.s0 *ℤ held (held c.args.b -ℤ held c.args.day)
+    ≡ c.args.s0 *ℤ (c.args.b -ℤ c.args.day) = λ i. to_z-of_z w64 c.args.s0 c.fits.s0 i *ℤ through w64 left_is facts.left i in
+    let right_is : held c.args.day -ℤ held c.args.a ≡ c.args.day -ℤ c.args.a = gap_is c.args.day c.args.a c.fits.day c.fits.a in
+    let second_is : held c.args.s1 *ℤ held (held c.args.day -ℤ held c.args.a)
+    ≡ c.args.s1 *ℤ (c.args.day -ℤ c.args.a) = λ i. to_z-of_z w64 c.args.s1 c.fits.s1 i *ℤ through w64 right_is facts.right i in
+    let sum_is : held (held c.args.s0 *ℤ held (held c.args.b -ℤ held c.args.day))
+    +ℤ held (held c.args.s1 *ℤ held (held c.args.day -ℤ held c.args.a))
+    ≡ c.args.s0 *ℤ (c.args.b -ℤ c.args.day) +ℤ c.args.s1 *ℤ (c.args.day -ℤ c.args.a) = λ i. through w64 first_is facts.first i +ℤ through w64 second_is facts.second i in
+    subst (SFits w64) (sym (sum_is)) (facts).sum
+
+pub overflow_sub-b-2 : goal.overflow_sub-b-2
+overflow_sub-b-2 c =
+    let whole_is : held c.args.b -ℤ held c.args.a ≡ c.args.b -ℤ c.args.a = gap_is c.args.b c.args.a c.fits.b c.fits.a in
+    let before_b : le_z c.args.b c.args.day ≡ false = tested c.args.b c.args.day c.fits.b c.fits.day c.if-b-day.false in
+    let behind_a : le_z c.args.day c.args.a ≡ false = tested c.args.day c.args.a c.fits.day c.fits.a c.if-day-a.false in
+    let facts : Sloped c.args.a c.args.s0 c.args.b c.args.s1 c.args.day =
+    sloped c.args.a c.args.s0 c.args.b c.args.s1 c.args.day
+    (ramp_sizes c.args.a c.args.s0 c.args.b c.args.s1 c.requires) before_b behind_a in
+    subst (SFits w64) (sym (whole_is)) (facts).whole
+
+pub rounded-requires : goal.rounded-requires
+rounded-requires c =
+    let before_b : le_z c.args.b c.args.day ≡ false = tested c.args.b c.args.day c.fits.b c.fits.day c.if-b-day.false in
+    let behind_a : le_z c.args.day c.args.a ≡ false = tested c.args.day c.args.a c.fits.day c.fits.a c.if-day-a.false in
+    let facts : Sloped c.args.a c.args.s0 c.args.b c.args.s1 c.args.day =
+    sloped c.args.a c.args.s0 c.args.b c.args.s1 c.args.day
+    (ramp_sizes c.args.a c.args.s0 c.args.b c.args.s1 c.requires) before_b behind_a in
+    let left_is : held c.args.b -ℤ held c.args.day ≡ c.args.b -ℤ c.args.day = gap_is c.args.b c.args.day c.fits.b c.fits.day in
+    let first_is : held c.args.s0 *ℤ held (held c.args.b -ℤ held c.args.day)
+    ≡ c.args.s0 *ℤ (c.args.b -ℤ c.args.day) = λ i. to_z-of_z w64 c.args.s0 c.fits.s0 i *ℤ through w64 left_is facts.left i in
+    let right_is : held c.args.day -ℤ held c.args.a ≡ c.args.day -ℤ c.args.a = gap_is c.args.day c.args.a c.fits.day c.fits.a in
+    let second_is : held c.args.s1 *ℤ held (held c.args.day -ℤ held c.args.a)
+    ≡ c.args.s1 *ℤ (c.args.day -ℤ c.args.a) = λ i. to_z-of_z w64 c.args.s1 c.fits.s1 i *ℤ through w64 right_is facts.right i in
+    let sum_is : held (held c.args.s0 *ℤ held (held c.args.b -ℤ held c.args.day))
+    +ℤ held (held c.args.s1 *ℤ held (held c.args.day -ℤ held c.args.a))
+    ≡ c.args.s0 *ℤ (c.args.b -ℤ c.args.day) +ℤ c.args.s1 *ℤ (c.args.day -ℤ c.args.a) = λ i. through w64 first_is facts.first i +ℤ through w64 second_is facts.second i in
+    let whole_is : held c.args.b -ℤ held c.args.a ≡ c.args.b -ℤ c.args.a = gap_is c.args.b c.args.a c.fits.b c.fits.a in
+    let s = c.args in let l = (facts).whole_most in
+    let h = above s.b s.day (before_b) in let k = above s.day s.a (behind_a) in
+    rw (through w64 (sum_is) (facts).sum, through w64 (whole_is) (facts).whole)
+    (gap_positive s.b s.a (omega arith), refl, (facts).sum_most, omega arith)
+
+pub returns : goal.returns
+unfolding ramp_factor
+returns c =
+    let before_b : le_z c.args.b c.args.day ≡ false = tested c.args.b c.args.day c.fits.b c.fits.day c.if-b-day.false in
+    let behind_a : le_z c.args.day c.args.a ≡ false = tested c.args.day c.args.a c.fits.day c.fits.a c.if-day-a.false in
+    let left_is : held c.args.b -ℤ held c.args.day ≡ c.args.b -ℤ c.args.day = gap_is c.args.b c.args.day c.fits.b c.fits.day in
+    let facts : Sloped c.args.a c.args.s0 c.args.b c.args.s1 c.args.day =
+    sloped c.args.a c.args.s0 c.args.b c.args.s1 c.args.day
+    (ramp_sizes c.args.a c.args.s0 c.args.b c.args.s1 c.requires) before_b behind_a in
+    let first_is : held c.args.s0 *ℤ held (held c.args.b -ℤ held c.args.day)
+    ≡ c.args.s0 *ℤ (c.args.b -ℤ c.args.day) = λ i. to_z-of_z w64 c.args.s0 c.fits.s0 i *ℤ through w64 left_is facts.left i in
+    let right_is : held c.args.day -ℤ held c.args.a ≡ c.args.day -ℤ c.args.a = gap_is c.args.day c.args.a c.fits.day c.fits.a in
+    let second_is : held c.args.s1 *ℤ held (held c.args.day -ℤ held c.args.a)
+    ≡ c.args.s1 *ℤ (c.args.day -ℤ c.args.a) = λ i. to_z-of_z w64 c.args.s1 c.fits.s1 i *ℤ through w64 right_is facts.right i in
+    let sum_is : held (held c.args.s0 *ℤ held (held c.args.b -ℤ held c.args.day))
+    +ℤ held (held c.args.s1 *ℤ held (held c.args.day -ℤ held c.args.a))
+    ≡ c.args.s0 *ℤ (c.args.b -ℤ c.args.day) +ℤ c.args.s1 *ℤ (c.args.day -ℤ c.args.a) = λ i. through w64 first_is facts.first i +ℤ through w64 second_is facts.second i in
+    let whole_is : held c.args.b -ℤ held c.args.a ≡ c.args.b -ℤ c.args.a = gap_is c.args.b c.args.a c.fits.b c.fits.a in
+    let b = c in
+    rw (before_b, behind_a)
+    (to_z-of_z w64 c.rounded.result (record { sfits = c.rounded.type-inv }) ∙ c.rounded.ensures
+    ∙ (λ i. round_z (through w64 (sum_is) (facts).sum i) (nat_abs (through w64 (whole_is) (facts).whole i))))

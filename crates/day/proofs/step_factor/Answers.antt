@@ -1,0 +1,64 @@
+-- `step_factor` meets its contract: over 1 nothing is rounded.
+use mathlib.Core.Path.{◌≡◌, sym, ◌∙◌, subst}
+use native.Mathlib.Omega.{arith}
+use mir.Syntax.{w64}
+use mir.Val.{SFits}
+use mir.ValLaws.{to_z-of_z}
+use Rattle.numbers.proofs.Machine.{through}
+use Rattle.day.specs.Day.{step_parts, relative}
+use Rattle.numbers.proofs.RoundLaws.{round_whole}
+use Rattle.numbers.proofs.SignedLaws.{held}
+use Rattle.day.proofs.DayLaws.{step_size, step_part, Gained, gained}
+use Rattle.day.proofs.step_factor.Goals as goal
+
+pub step_parts-requires : goal.step_parts-requires
+step_parts-requires c = tt
+
+pub step_parts-requires-2 : goal.step_parts-requires-2
+step_parts-requires-2 c = tt
+
+pub overflow_sub-result : goal.overflow_sub-result
+overflow_sub-result c =
+    let on_day : held c.step_parts.result ≡ step_parts c.args.event c.args.day =
+    to_z-of_z w64 c.step_parts.result (record { sfits = c.step_parts.type-inv }) ∙ c.step_parts.ensures
+    ∙ (λ i. step_parts (to_z-of_z w64 c.args.event c.fits.event i) (to_z-of_z w64 c.args.day c.fits.day i)) in
+    let on_reference : held c.step_parts-2.result ≡ step_parts c.args.event c.args.reference =
+    to_z-of_z w64 c.step_parts-2.result (record { sfits = c.step_parts-2.type-inv }) ∙ c.step_parts-2.ensures
+    ∙ (λ i. step_parts (to_z-of_z w64 c.args.event c.fits.event i) (to_z-of_z w64 c.args.reference c.fits.reference i)) in
+    let facts : Gained c.args.mult c.step_parts.result c.step_parts-2.result
+    (step_parts c.args.event c.args.day) (step_parts c.args.event c.args.reference) =
+    gained 1 c.args.mult (omega arith) (step_size c.args.event c.args.reference c.args.mult c.requires)
+    c.fits.mult on_day on_reference
+    (step_part c.args.event c.args.day) (step_part c.args.event c.args.reference) in
+    subst (SFits w64) (sym (facts).less_is) (facts).less_fits
+
+pub overflow_mul-result : goal.overflow_mul-result
+overflow_mul-result c =
+    let on_day : held c.step_parts.result ≡ step_parts c.args.event c.args.day =
+    to_z-of_z w64 c.step_parts.result (record { sfits = c.step_parts.type-inv }) ∙ c.step_parts.ensures
+    ∙ (λ i. step_parts (to_z-of_z w64 c.args.event c.fits.event i) (to_z-of_z w64 c.args.day c.fits.day i)) in
+    let on_reference : held c.step_parts-2.result ≡ step_parts c.args.event c.args.reference =
+    to_z-of_z w64 c.step_parts-2.result (record { sfits = c.step_parts-2.type-inv }) ∙ c.step_parts-2.ensures
+    ∙ (λ i. step_parts (to_z-of_z w64 c.args.event c.fits.event i) (to_z-of_z w64 c.args.reference c.fits.reference i)) in
+    let facts : Gained c.args.mult c.step_parts.result c.step_parts-2.result
+    (step_parts c.args.event c.args.day) (step_parts c.args.event c.args.reference) =
+    gained 1 c.args.mult (omega arith) (step_size c.args.event c.args.reference c.args.mult c.requires)
+    c.fits.mult on_day on_reference
+    (step_part c.args.event c.args.day) (step_part c.args.event c.args.reference) in
+    subst (SFits w64) (sym (facts).times_is) (facts).times_fits
+
+pub returns : goal.returns
+unfolding relative
+returns c =
+    let on_day : held c.step_parts.result ≡ step_parts c.args.event c.args.day =
+    to_z-of_z w64 c.step_parts.result (record { sfits = c.step_parts.type-inv }) ∙ c.step_parts.ensures
+    ∙ (λ i. step_parts (to_z-of_z w64 c.args.event c.fits.event i) (to_z-of_z w64 c.args.day c.fits.day i)) in
+    let on_reference : held c.step_parts-2.result ≡ step_parts c.args.event c.args.reference =
+    to_z-of_z w64 c.step_parts-2.result (record { sfits = c.step_parts-2.type-inv }) ∙ c.step_parts-2.ensures
+    ∙ (λ i. step_parts (to_z-of_z w64 c.args.event c.fits.event i) (to_z-of_z w64 c.args.reference c.fits.reference i)) in
+    let facts : Gained c.args.mult c.step_parts.result c.step_parts-2.result
+    (step_parts c.args.event c.args.day) (step_parts c.args.event c.args.reference) =
+    gained 1 c.args.mult (omega arith) (step_size c.args.event c.args.reference c.args.mult c.requires)
+    c.fits.mult on_day on_reference
+    (step_part c.args.event c.args.day) (step_part c.args.event c.args.reference) in
+    through w64 (facts).times_is (facts).times_fits ∙ sym (round_whole _)

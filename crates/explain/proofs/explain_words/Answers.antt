@@ -1,0 +1,40 @@
+-- `explain_words` meets its contract.
+use mathlib.Core.Path.{sym, ap, ◌∙◌}
+use native.Mathlib.Omega.{arith}
+use mir.Syntax.{w64}
+use mir.ValLaws.{to_z-of_z}
+use Rattle.abi.specs.Abi.{group_of_words}
+use Rattle.lookup.specs.Lookup.{looked_in}
+use Rattle.lookup.proofs.StageLaws.{looked_group, looked_accepted}
+use Rattle.explain.specs.Explain.{explained_by}
+use Rattle.explain.proofs.ExplainLaws.{by_refusal}
+use borrow.Author.Rules.{rules}
+use Rattle.explain.proofs.explain_words.Goals as goal
+
+pub explain_accepted-requires : goal.explain_accepted-requires
+explain_accepted-requires c =
+    let j = c.judge_into-verdict in let v = c.in-Accepted.is in (
+      sym j.ensures.0 ∙ v,
+      record {
+        flat = j.ensures.1 v;
+        room = record {
+          room = record { few = omega arith; sides_room = omega (arith, j.auto.1.0); ranks_room = omega (arith, j.auto.1.1.0) };
+          frames_room = omega (arith, j.auto.1.1.1.0);
+        };
+      },
+    )
+
+pub returns-in-Refused : goal.returns-in-Refused
+returns-in-Refused c =
+    let a = c.args in let j = c.judge_into-verdict in
+    c.unexplained.ensures
+    ∙ by_refusal (group_of_words a.words.now) a.nodes.now a.point a.day _
+    (looked_group (group_of_words a.words.now) a.nodes.now a.point a.day _ (sym j.ensures.0 ∙ c.in-Refused.is))
+
+pub returns-in-Accepted : goal.returns-in-Accepted
+returns-in-Accepted c =
+    let s = c in let a = c.args in let g = group_of_words a.words.now in
+    let j = c.judge_into-verdict in
+    c.explain_accepted.ensures
+    ∙ (λ i. explained_by g a.nodes.now a.point (to_z-of_z w64 a.day c.ranges.day i) (looked_in g a.nodes.now a.point (to_z-of_z w64 a.day c.ranges.day i)))
+    ∙ ap (explained_by g a.nodes.now a.point a.day) (sym (looked_accepted g a.nodes.now a.point a.day (sym j.ensures.0 ∙ c.in-Accepted.is)))

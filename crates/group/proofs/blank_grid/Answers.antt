@@ -1,0 +1,6 @@
+-- `blank_grid` meets its contract.
+use borrow.Author.Rules.{rules}
+use Rattle.group.proofs.blank_grid.Goals as goal
+
+pub returns : goal.returns
+returns c = rw c.blank_name-n.ensures

@@ -1,0 +1,6 @@
+-- `blank_group` meets its contract.
+use borrow.Author.Rules.{rules}
+use Rattle.group.proofs.blank_group.Goals as goal
+
+pub returns : goal.returns
+returns c = rw (c.blank_name-n.ensures, c.blank_grid-g.ensures, c.blank_function-r.ensures)

@@ -1,0 +1,6 @@
+-- `byte_bad` meets its contract.
+use borrow.Author.Rules.{rules}
+use Rattle.group.proofs.byte_bad.Goals as goal
+
+pub returns : goal.returns
+returns c = rw c.name_byte-used.ensures

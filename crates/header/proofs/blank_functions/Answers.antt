@@ -1,0 +1,6 @@
+-- `header::blank_functions` meets its contract.
+use borrow.Author.Rules.{rules}
+use Rattle.header.proofs.blank_functions.Goals as goal
+
+pub returns : goal.returns
+returns c = rw c.blank_function-function.ensures

@@ -1,0 +1,6 @@
+-- `header::blank_grids` meets its contract.
+use borrow.Author.Rules.{rules}
+use Rattle.header.proofs.blank_grids.Goals as goal
+
+pub returns : goal.returns
+returns c = rw c.blank_grid-grid.ensures

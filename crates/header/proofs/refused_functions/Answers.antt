@@ -1,0 +1,6 @@
+-- `header::refused_functions` meets its contract.
+use borrow.Author.Rules.{rules}
+use Rattle.header.proofs.refused_functions.Goals as goal
+
+pub returns : goal.returns
+returns c = rw c.blank_functions-functions.ensures

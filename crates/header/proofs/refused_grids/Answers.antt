@@ -1,0 +1,6 @@
+-- `header::refused_grids` meets its contract.
+use borrow.Author.Rules.{rules}
+use Rattle.header.proofs.refused_grids.Goals as goal
+
+pub returns : goal.returns
+returns c = rw c.blank_grids-grids.ensures

@@ -1,0 +1,6 @@
+-- `header::refused_reading` meets its contract.
+use borrow.Author.Rules.{rules}
+use Rattle.header.proofs.refused_reading.Goals as goal
+
+pub returns : goal.returns
+returns c = rw c.blank_group-group.ensures

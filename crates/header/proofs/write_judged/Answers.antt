@@ -1,0 +1,50 @@
+-- `write_judged` meets its contract.
+use Prim.Native.Nat.{ℕ}
+use mathlib.Core.Path.{◌≡◌, sym, ap, ◌∙◌}
+use mathlib.Core.List.{List}
+use native.Mathlib.Omega.{arith}
+use lib.ListN.{length}
+use Rattle.text.specs.Put.{put}
+use Rattle.group.specs.declared.Verdict.TheVariants.{Accepted}
+use Rattle.judge.specs.Judge.{judged}
+use Rattle.header.proofs.LengthLaws.{length_most}
+use Rattle.header.proofs.HeaderLaws.{front_of, front_le, refused_answer, short_answer, count_answer}
+use borrow.Author.Rules.{rules}
+use Rattle.header.proofs.write_judged.Goals as goal
+
+pub returns-in-Refused : goal.returns-in-Refused
+returns-in-Refused c =
+    let s = c in
+    refused_answer c.args.group c.args.out.now _ (sym c.requires ∙ c.in-Refused.is)
+
+pub put_group-n-requires : goal.put_group-n-requires
+put_group-n-requires c =
+    let fine : judged c.args.group ≡ Accepted = sym c.requires ∙ c.in_default.is in
+    let e = fine in
+    (e, length_most c.args.group e)
+
+pub returns-then-out-n : goal.returns-then-out-n
+returns-then-out-n c =
+    let fine : judged c.args.group ≡ Accepted = sym c.requires ∙ c.in_default.is in
+    let s = c.args in
+    let w = c.put_group-n.ensures.place in
+    let l = c.if-out-n.true in
+    short_answer s.group s.out.now (fine) (omega arith)
+
+pub put_front-requires : goal.put_front-requires
+put_front-requires c =
+    let k = c.put_group-n in
+    let l = c.if-out-n.false in
+    let w = k.ensures.place in
+    let f = ap length (front_of _ _ _ _ k.ensures) in
+    (front_le _ _ _ _ k.ensures, omega arith)
+
+pub returns : goal.returns
+returns c =
+    let fine : judged c.args.group ≡ Accepted = sym c.requires ∙ c.in_default.is in
+    let s = c.args in
+    let k = c.put_group-n in
+    let l = c.if-out-n.false in
+    let w = k.ensures.place in
+    count_answer s.group s.out.now (fine) _ _ (omega arith) (omega arith)
+    (c.put_front.ensures.holds ∙ ap (λ (t : List ℕ). put 0 t s.out.now) (front_of _ _ _ _ k.ensures))

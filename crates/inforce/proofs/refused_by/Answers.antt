@@ -1,0 +1,6 @@
+-- `refused_by` meets its contract.
+use borrow.Author.Rules.{rules}
+use Rattle.inforce.proofs.refused_by.Goals as goal
+
+pub returns : goal.returns
+returns c = rw c.blank_entry-none.ensures

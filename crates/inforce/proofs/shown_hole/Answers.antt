@@ -1,0 +1,21 @@
+-- `shown_hole` meets its contract: the coordinate is in mas.
+use mathlib.Core.Path.{sym, ◌∙◌, ap}
+use mathlib.Core.Bool.{true}
+use Rattle.group.specs.declared.Verdict.TheVariants.{Accepted}
+use Rattle.inforce.specs.Hole.{accepted_hole}
+use borrow.Author.Rules.{rules}
+use Rattle.inforce.proofs.shown_hole.Goals as goal
+
+pub lon_at-requires : goal.lon_at-requires
+lon_at-requires c = (c.requires _ _ c.in-At.is).0
+
+pub lat_at-requires : goal.lat_at-requires
+lat_at-requires c = (c.requires _ _ c.in-At.is).1
+
+pub returns-in-At : goal.returns-in-At
+returns-in-At c =
+    (λ i. record { verdict = Accepted; found = true; lon = record { 0 = c.lon_at.ensures i }; lat = record { 0 = c.lat_at.ensures i } })
+    ∙ ap accepted_hole (sym c.in-At.is)
+
+pub returns-in-Nothing : goal.returns-in-Nothing
+returns-in-Nothing c = c.no_hole.ensures ∙ ap accepted_hole (sym c.in-Nothing.is)

@@ -1,0 +1,6 @@
+-- `line::blank_head` meets its contract.
+use borrow.Author.Rules.{rules}
+use Rattle.line.proofs.blank_head.Goals as goal
+
+pub returns : goal.returns
+returns c = rw c.blank_name-name.ensures

@@ -1,0 +1,6 @@
+-- `line::refused_function` meets its contract.
+use borrow.Author.Rules.{rules}
+use Rattle.line.proofs.refused_function.Goals as goal
+
+pub returns : goal.returns
+returns c = rw c.blank_function-function.ensures

@@ -1,0 +1,6 @@
+-- `line::refused_grid` meets its contract.
+use borrow.Author.Rules.{rules}
+use Rattle.line.proofs.refused_grid.Goals as goal
+
+pub returns : goal.returns
+returns c = rw c.blank_grid-grid.ensures

@@ -1,0 +1,32 @@
+-- `log_words` meets its contract.
+use mathlib.Core.Path.{◌≡◌, sym, ap, ◌∙◌}
+use mathlib.Core.Bool.{true}
+use lib.ListN.{length}
+use Rattle.group.specs.declared.Group.{Group}
+use Rattle.group.specs.declared.Verdict.TheVariants.{Accepted}
+use Rattle.abi.specs.Abi.{group_of_words}
+use Rattle.exercise.specs.Exercise.{many_verdict}
+use Rattle.exercise.proofs.CallLaws.{call_ready}
+use Rattle.logs.specs.declared.Judgement.TheVariants.{Judged}
+use Rattle.logs.proofs.LoopLaws.{call_refused, call_accepted}
+use borrow.Author.Rules.{rules}
+use Rattle.logs.proofs.log_words.Goals as goal
+
+pub judge_lines-requires : goal.judge_lines-requires
+judge_lines-requires c =
+    let g : Group = group_of_words c.args.words.now in
+    let accepted : many_verdict g (length c.args.nodes.now) true ≡ Accepted = sym c.judge_call-verdict.ensures.0 ∙ c.in-Accepted.is in
+    let q = c in
+    call_ready (g) (length c.args.nodes.now) true (accepted) _ (c.judge_call-verdict.ensures.1 c.in-Accepted.is)
+
+pub returns-in-Refused : goal.returns-in-Refused
+returns-in-Refused c =
+    let a = c.args in
+    call_refused (group_of_words a.words.now) a.nodes.now a.log.now _ (sym c.judge_call-verdict.ensures.0 ∙ c.in-Refused.is)
+
+pub returns-in-Accepted : goal.returns-in-Accepted
+returns-in-Accepted c =
+    let g : Group = group_of_words c.args.words.now in
+    let accepted : many_verdict g (length c.args.nodes.now) true ≡ Accepted = sym c.judge_call-verdict.ensures.0 ∙ c.in-Accepted.is in
+    let q = c in
+    ap Judged c.judge_lines.ensures ∙ call_accepted (g) c.args.nodes.now c.args.log.now (accepted)

@@ -1,0 +1,28 @@
+-- `size`: by the exponent field.
+use mathlib.Core.Path.{sym, ◌∙◌}
+use Prim.Native.Nat.{◌%◌, ◌/◌}
+use lib.Dec.{leb}
+use lib.Ieee.{of_bits}
+use borrow.Author.Rules.{rules}
+use Rattle.nodes.proofs.Fields.{field_zero, field_some, field_ones}
+use Rattle.nodes.proofs.size.Goals as goal
+
+pub returns-then-field-eq255 : goal.returns-then-field-eq255
+unfolding of_bits
+returns-then-field-eq255 c =
+    let a = c.args in
+    sym (field_ones (leb 2147483648 a.b) (a.b % 2147483648 / 8388608) (a.b % 8388608) a.q c.if-field-eq255.true c.requires.1)
+
+pub returns-then-field-eq0 : goal.returns-then-field-eq0
+unfolding of_bits
+returns-then-field-eq0 c =
+    let a = c.args in
+    c.scaled.ensures
+    ∙ sym (field_zero (leb 2147483648 a.b) (a.b % 2147483648 / 8388608) (a.b % 8388608) a.q c.if-field-eq0.true)
+
+pub returns : goal.returns
+unfolding of_bits
+returns c =
+    let a = c.args in
+    c.scaled-2.ensures
+    ∙ sym (field_some (leb 2147483648 a.b) (a.b % 2147483648 / 8388608) (a.b % 8388608) a.q c.if-field-eq0.false c.if-field-eq255.false)

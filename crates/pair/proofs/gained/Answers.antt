@@ -1,0 +1,16 @@
+-- `gained`: below, above and at the tie.
+use borrow.Author.Rules.{rules}
+use Prim.Native.Nat.{◌*◌}
+use mathlib.Core.Path.{sym}
+use native.Mathlib.Omega.{arith}
+use Rattle.numbers.proofs.Nearest.{gain_0, gain_1, gain_tie}
+use Rattle.pair.proofs.gained.Goals as goal
+
+pub returns-then-r-s : goal.returns-then-r-s
+returns-then-r-s c = let a = c.args in sym (gain_0 (2 * a.r) a.d a.low (omega arith))
+
+pub returns-then-s-r : goal.returns-then-s-r
+returns-then-s-r c = let a = c.args in sym (gain_1 (2 * a.r) a.d a.low (omega arith))
+
+pub returns : goal.returns
+returns c = let a = c.args in sym (gain_tie (2 * a.r) a.d a.low (omega arith))

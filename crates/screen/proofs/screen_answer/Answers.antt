@@ -1,0 +1,86 @@
+-- `screen_answer`: the limits, then the lookup's answer.
+use Rattle.std.proofs.Common.{◌≡◌, ℕ, ◌≤◌, true, false, not, ◌&&◌, leb, sym, ap, ◌∙◌, w64, rules, leb-true}
+use lib.Ieee.{Float}
+use mir.ValLaws.{to_z-of_z}
+use borrow.Author.Tests.{not-true, not-false}
+use Rattle.numbers.proofs.Bools.{and_left}
+use Rattle.group.specs.declared.Refusal.{Refusal}
+use Rattle.group.specs.Refusals.{refusal}
+use Rattle.group.proofs.RefusalLaws.{if_here, if_past}
+use Rattle.group.specs.Numbers.{quantum_most, parameters_most}
+use Rattle.fix.specs.declared.Fix.{Fix}
+use Rattle.fix.specs.declared.Lookup.{Lookup}
+use Rattle.fix.specs.declared.Lookup.TheVariants as lookup
+use Rattle.screen.specs.declared.ScreenAnswer.TheVariants as answer
+use Rattle.screen.specs.Screen.{admitted, shown_shift, handed_on, shown, answer_of}
+use Rattle.screen.proofs.screen_answer.Goals as goal
+
+module _ (q np : ℕ) (found : Lookup) where
+  is_outside : admitted q np ≡ false → answer.Refused (refusal 2 0) ≡ answer_of found q np
+  unfolding answer_of
+  is_outside h = sym (if_here answer.Refused (not (admitted q np)) 2 0 (shown found q np) (ap not h))
+
+  is_shown : (l : Lookup) → admitted q np ≡ true → found ≡ l → shown l q np ≡ answer_of found q np
+  unfolding answer_of
+  is_shown l h e =
+      ap (λ (m : Lookup). shown m q np) (sym e) ∙ sym (if_past answer.Refused (not (admitted q np)) 2 0 (shown found q np) (ap not h))
+
+  is_fix : (f : Fix) (a b c : Float) → admitted q np ≡ true → found ≡ lookup.Fix f → a ≡ shown_shift q np 0 f.first → b ≡ shown_shift q np 1 f.second → c ≡ shown_shift q np 2 f.third → answer.Fix a b c ≡ answer_of found q np
+  unfolding shown
+  is_fix f a b c h e x y z = rw (x, y, z) (is_shown (lookup.Fix f) h e)
+
+  is_refused : (r s : Refusal) → admitted q np ≡ true → found ≡ lookup.Refused r → s ≡ handed_on r → answer.Refused s ≡ answer_of found q np
+  unfolding shown
+  is_refused r s h e t = rw t (is_shown (lookup.Refused r) h e)
+
+-- an admitted quantum
+quantum_limit : (q np : ℕ) → admitted q np ≡ true → q ≤ quantum_most
+quantum_limit q np h = leb-true q quantum_most (and_left (leb q quantum_most) (leb 1 np && leb np parameters_most) h)
+
+pub returns-then-not-admits : goal.returns-then-not-admits
+returns-then-not-admits c =
+    let a = c.args in
+    is_outside a.quantum a.parameters a.found (sym c.admits.ensures ∙ not-true _ c.if-not-admits.true)
+
+pub shown_shift-requires : goal.shown_shift-requires
+shown_shift-requires c =
+    let within : admitted c.args.quantum c.args.parameters ≡ true = sym c.admits.ensures ∙ not-false _ c.if-not-admits.false in
+    let limit : c.args.quantum ≤ quantum_most = quantum_limit c.args.quantum c.args.parameters (within) in
+    limit
+
+pub shown_shift-requires-in-Fix : goal.shown_shift-requires-in-Fix
+shown_shift-requires-in-Fix c =
+    let within : admitted c.args.quantum c.args.parameters ≡ true = sym c.admits.ensures ∙ not-false _ c.if-not-admits.false in
+    let limit : c.args.quantum ≤ quantum_most = quantum_limit c.args.quantum c.args.parameters (within) in
+    limit
+
+pub shown_shift-requires-in-Fix-2 : goal.shown_shift-requires-in-Fix-2
+shown_shift-requires-in-Fix-2 c =
+    let within : admitted c.args.quantum c.args.parameters ≡ true = sym c.admits.ensures ∙ not-false _ c.if-not-admits.false in
+    let limit : c.args.quantum ≤ quantum_most = quantum_limit c.args.quantum c.args.parameters (within) in
+    limit
+
+pub handed_on-requires : goal.handed_on-requires
+handed_on-requires c = tt
+
+pub returns-in-Fix : goal.returns-in-Fix
+returns-in-Fix c =
+    let within : admitted c.args.quantum c.args.parameters ≡ true = sym c.admits.ensures ∙ not-false _ c.if-not-admits.false in
+    let second = c in
+    let first = c in
+    let known = c in
+    let else = c in
+    let a = c.args in
+    let f = c.in-Fix.f in
+    is_fix a.quantum a.parameters a.found f c.shown_shift.result c.shown_shift-in-Fix.result c.shown_shift-in-Fix-2.result (within) c.in-Fix.is
+    (c.shown_shift.ensures ∙ ap (shown_shift a.quantum a.parameters 0) (to_z-of_z w64 f.first (record { sfits = c.struct_told-1.given.1.0.1 })))
+    (c.shown_shift-in-Fix.ensures ∙ ap (shown_shift a.quantum a.parameters 1) (to_z-of_z w64 f.second (record { sfits = c.struct_told-in-Fix-1.given.1.1.0.1 })))
+    (c.shown_shift-in-Fix-2.ensures ∙ ap (shown_shift a.quantum a.parameters 2) (to_z-of_z w64 f.third (record { sfits = c.struct_told-in-Fix-2-1.given.1.1.1.0.1 })))
+
+pub returns-in-Refused : goal.returns-in-Refused
+returns-in-Refused c =
+    let within : admitted c.args.quantum c.args.parameters ≡ true = sym c.admits.ensures ∙ not-false _ c.if-not-admits.false in
+    let known = c in
+    let else = c in
+    let a = c.args in
+    is_refused a.quantum a.parameters a.found c.in-Refused.r c.handed_on.result (within) c.in-Refused.is c.handed_on.ensures

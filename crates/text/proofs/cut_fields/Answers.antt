@@ -1,0 +1,61 @@
+-- `text::cut_fields` meets its contract.
+use Prim.Native.Nat.{◌+◌, ◌-◌}
+use mathlib.Core.Path.{◌≡◌, sym, ◌∙◌}
+use mathlib.Core.Logic.{⊎_elim}
+use native.Mathlib.Omega.{arith}
+use borrow.Author.Rules.{rules}
+use lib.ListN.{length, drop, set, length-drop}
+use lib.Seq.{set_out}
+use Rattle.text.proofs.PartLaws.{up_to_le}
+use Rattle.text.proofs.CutLaws.{Walked, none_cut, one_more, last_cut, next_cut}
+use Rattle.text.proofs.cut_fields.Goals as goal
+
+pub bounds-cuts-0 : goal.bounds-cuts-0
+bounds-cuts-0 c = omega arith
+
+pub loop-n-init : goal.loop-n-init
+loop-n-init c = none_cut c.args.line.now c.args.cuts.now c.requires
+
+pub overflow_add-i : goal.overflow_add-i
+overflow_add-i c =
+    let w = c.loop-n.invariant in
+    let s = c.args.line.now in
+    omega (arith, w.within, w.below, up_to_le 9 (drop c.loop-n.i s), length-drop c.loop-n.i s)
+
+pub overflow_add-n : goal.overflow_add-n
+overflow_add-n c =
+    let w = c.loop-n.invariant in
+    let s = c.args.line.now in
+    omega (arith, w.within, w.below, up_to_le 9 (drop c.loop-n.i s), length-drop c.loop-n.i s)
+
+pub offset_bounds-cuts-n : goal.offset_bounds-cuts-n
+offset_bounds-cuts-n c = omega arith
+
+pub bounds-cuts-n : goal.bounds-cuts-n
+bounds-cuts-n c = c.if-n-lt-CUTS.true
+
+pub returns-then-line-e : goal.returns-then-line-e
+returns-then-line-e c =
+    let stored : c.if-n-lt-CUTS.cuts ≡ set c.loop-n.cuts (c.loop-n.n + 1) (c.find_from-e.result + 1) =
+    let l = c.loop-n in
+    let r = l.invariant.room in
+    ⊎_elim (λ w. w.1) (λ w. w.1 ∙ sym (set_out l.cuts (l.n + 1) (c.find_from-e.result + 1) (let t = w.0.left in omega arith))) c.if-n-lt-CUTS.branch in
+    let l = c in
+    let s = c.args.line.now in
+    let e = c.find_from-e in
+    let n = last_cut s c.loop-n.cuts c.loop-n.n c.loop-n.i e.result c.loop-n.invariant e.ensures c.if-line-e.true in
+    (n, λ k h m. rw (stored) (one_more s c.loop-n.cuts c.loop-n.n c.loop-n.i e.result c.loop-n.invariant e.ensures k (omega arith) m))
+
+pub loop-n-smaller : goal.loop-n-smaller
+loop-n-smaller c = omega (arith, c.loop-n.invariant.within)
+
+pub loop-n-preserved : goal.loop-n-preserved
+loop-n-preserved c =
+    let stored : c.if-n-lt-CUTS.cuts ≡ set c.loop-n.cuts (c.loop-n.n + 1) (c.find_from-e.result + 1) =
+    let l = c.loop-n in
+    let r = l.invariant.room in
+    ⊎_elim (λ w. w.1) (λ w. w.1 ∙ sym (set_out l.cuts (l.n + 1) (c.find_from-e.result + 1) (let t = w.0.left in omega arith))) c.if-n-lt-CUTS.branch in
+    let l = c in
+    let s = c.args.line.now in
+    let e = c.find_from-e in
+    rw (stored) (next_cut s c.loop-n.cuts c.loop-n.n c.loop-n.i e.result c.loop-n.invariant e.ensures (omega arith))

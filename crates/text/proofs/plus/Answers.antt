@@ -1,0 +1,10 @@
+-- `text::plus` meets its contract.
+use borrow.Author.Rules.{rules}
+use native.Mathlib.Omega.{arith}
+use mir.Syntax.{w64}
+use mir.Facts.{to_z-of_z}
+use lib.IntN.{pos}
+use Rattle.text.proofs.plus.Goals as goal
+
+pub returns : goal.returns
+returns c = to_z-of_z {w = w64} {z = pos c.args.m} (record { sfits = omega arith })

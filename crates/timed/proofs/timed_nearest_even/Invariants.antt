@@ -1,0 +1,15 @@
+-- `timed_nearest_even` meets its contract: each turn rounds one more.
+use Prim.Native.Nat.{◌-◌, ◌≤◌, ◌<◌, min}
+use mathlib.Core.Path.{◌≡◌, ap, ◌∙◌}
+use native.Mathlib.Omega.{arith}
+use borrow.Author.Rules.{rules}
+use lib.ListN.{length}
+use Rattle.timed.specs.Timed.{Rounded, word}
+use Rattle.timed.proofs.RoundedLaws.{below_both, rounded_none, rounded_more}
+use Rattle.timed.proofs.timed_nearest_even.Given as goal
+
+abbrev pub invariant-loop-i : goal.invariant-loop-i
+invariant-loop-i l = (l.i ≤ l.n) × Rounded (word l.numerators l.divisors) l.i l.initial.out l.out
+
+abbrev pub decreases-loop-i : goal.decreases-loop-i
+decreases-loop-i l = l.n - l.i
