@@ -1,4 +1,6 @@
 // The C interface: every public call over numbers, slices and references to arrays, as include/bulhyemik.h documents it.
+#![tactic(auto)]
+
 ghost use Rattle.std.specs.Prelude.{◌≡◌, ◌≤◌, length, get_or};
 ghost use Rattle.std.proofs.lemmas.List.Edits.{sets};
 ghost use Rattle.group.specs.Numbers.{grids_most};

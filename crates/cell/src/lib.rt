@@ -1,4 +1,6 @@
 // The cell of a point along an axis, and the value of a cell at a point: the weighted mean of its used corners.
+#![tactic(auto)]
+
 ghost use Rattle.std.specs.Prelude.{◌≡◌, true, ◌^◌, ◌/◌, ◌%◌, ◌≤◌, ◌<◌, pos, ◌+ℤ◌, nat_abs};
 ghost use Rattle.group.specs.Numbers.{nodes_least, is_mark};
 ghost use Rattle.pair.specs.Pair.{pair_value};

@@ -1,5 +1,7 @@
 // Which grid is chosen at a point. Sides are four numbers a grid: west, east, south, north, edges included, grid i, from 0, at 4 * i.
 // Longitudes run round a circle: `turn` is a whole turn, and x + turn and x - turn are the point (x, y) too.
+#![tactic(auto)]
+
 ghost use Rattle.std.specs.Prelude.{◌≡◌, ◌+◌, ◌*◌, ◌<◌, ◌≤◌, ◌^◌, length};
 ghost use Rattle.numbers.specs.Lists.{at};
 ghost use Rattle.choice.specs.Rect.{rect_holds, turn_holds, turn_used, pair_count};

@@ -1,4 +1,6 @@
 // The factor of a group's functions on a day, and the result: a value times that factor.
+#![tactic(auto)]
+
 ghost use Rattle.std.specs.Prelude.{◌≡◌, true, ℕ, ◌*◌, ◌^◌, ◌≤◌, ◌<◌, length, pos, nat_abs, ◌<ℤ◌};
 ghost use Rattle.numbers.specs.Round.{round_z};
 ghost use Rattle.group.specs.Numbers.{functions_most, day_most, day_fits, factor_most, value_most};

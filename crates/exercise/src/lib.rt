@@ -1,4 +1,6 @@
 // A whole exercise at once: one call looks many points up, each on its own day, in one group.
+#![tactic(auto)]
+
 ghost use Rattle.std.specs.Prelude.{◌≡◌, ◌+◌, ◌*◌, ◌≤◌, eqb, length};
 ghost use Rattle.std.proofs.lemmas.List.Edits.{sets};
 ghost use Rattle.abi.specs.Abi.{group_of_words};

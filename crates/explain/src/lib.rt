@@ -1,4 +1,6 @@
 // What a lookup is made of: the numbers by which an examiner can work its answer out again.
+#![tactic(auto)]
+
 ghost use Rattle.std.specs.Prelude.{◌≡◌, false, [], ◌++◌, ℕ, ◌+◌, ◌^◌, ◌<◌, ◌≤◌, pos, nat_abs, length, replicate};
 ghost use Rattle.numbers.specs.Lists.{at};
 ghost use Rattle.group.specs.Numbers.{lon_turn, grids_most, rank_most, factor_most};

@@ -1,4 +1,6 @@
 // Where a grid lies: its extent, its node range and refusal 4; and its sides as unsigned numbers, which loops walk.
+#![tactic(auto)]
+
 ghost use Rattle.std.specs.Prelude.{◌≡◌, ◌+◌, ◌-◌, ◌*◌, ◌≤◌, nat_abs};
 ghost use Rattle.group.specs.Numbers.{parameters_most, spacing_most, nodes_least, nodes_most, start_most};
 ghost use Rattle.extent.specs.Extent.{lon_axis, lat_axis, far_edge, span_of, lon_span, lat_span, inside};

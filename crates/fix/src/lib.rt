@@ -1,4 +1,6 @@
 // The fix of a point in the grid chosen for it, or refusal 8.
+#![tactic(auto)]
+
 ghost use Rattle.std.specs.Prelude.{◌≡◌, ◌≤◌, ◌<◌, nat_abs, length};
 ghost use Rattle.group.specs.Numbers.{factor_most};
 ghost use Rattle.fix.specs.declared.Lookup.TheVariants as L;

@@ -1,4 +1,6 @@
 // The group record of document 01 and the limits of its lines, refusal 2.
+#![tactic(auto)]
+
 ghost use Rattle.std.specs.Prelude.{◌≡◌, not, ◌&&◌, ◌||◌, leb, ltb, eqb, pos};
 ghost use Rattle.numbers.specs.First.{every};
 ghost use Rattle.group.specs.Numbers.{name_most};

@@ -1,4 +1,6 @@
 // The header text: reading a group and writing it.
+#![tactic(auto)]
+
 ghost use Rattle.std.specs.Prelude.{◌≡◌, ◌+◌, ◌≤◌, length, take, drop, replicate};
 ghost use Rattle.group.specs.Numbers.{functions_most, grids_most};
 ghost use Rattle.abi.specs.Abi.{group_of_words};

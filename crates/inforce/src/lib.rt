@@ -1,4 +1,6 @@
 // Which grids of a group are chosen at one or more coordinates of an area, and where first: the grids in force. And where none is: the hole.
+#![tactic(auto)]
+
 ghost use Rattle.std.specs.Prelude.{◌≡◌, ◌<◌, ◌^◌};
 ghost use Rattle.group.specs.Numbers.{grids_most};
 ghost use Rattle.abi.specs.Abi.{group_of_words};

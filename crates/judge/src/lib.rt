@@ -1,4 +1,6 @@
 // The judge of a group handed over as a record or as a list of numbers: refusals 2 to 5.
+#![tactic(auto)]
+
 ghost use Rattle.std.specs.Prelude.{◌≡◌, true, false, cond, not, ◌&&◌, ◌||◌, ℕ, ◌+◌, ◌-◌, ◌*◌, ◌<◌, ◌≤◌, leb, eqb, length, set};
 ghost use Rattle.numbers.specs.First.{first, some};
 ghost use Rattle.group.specs.Numbers.{parameters_most, functions_most, grids_most};

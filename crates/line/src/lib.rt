@@ -1,4 +1,6 @@
 // The lines of a header: reading one and writing one.
+#![tactic(auto)]
+
 ghost use Rattle.std.specs.Prelude.{◌≡◌, cond, ◌&&◌, ◌∷◌, [], ◌++◌, map, ◌+◌, ◌≤◌, ◌<◌, eqb, length, take, drop};
 ghost use Rattle.text.specs.Parts.{split, led, join, field_of};
 ghost use Rattle.text.specs.Cuts.{fields_most, Cuts};

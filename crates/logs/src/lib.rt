@@ -1,4 +1,6 @@
 // Logs: the judge of other people's, and the writer of our own lines.
+#![tactic(auto)]
+
 ghost use Rattle.std.specs.Prelude.{◌≡◌, map, ◌+◌, ◌≤◌, ◌<◌, length, take, drop};
 ghost use Rattle.text.specs.Parts.{split, led};
 ghost use Rattle.text.specs.Cuts.{fields_most, Cuts};

@@ -1,4 +1,6 @@
 // The lookup: what a group of grids says of a point on a day.
+#![tactic(auto)]
+
 ghost use Rattle.std.specs.Prelude.{◌≡◌, true, ◌+◌, ◌*◌, ◌^◌, ◌<◌, ◌≤◌, ltb, nat_abs, length};
 ghost use Rattle.numbers.specs.First.{first};
 ghost use Rattle.group.specs.Numbers.{lon_turn, parameters_most, functions_most, grids_most, day_fits, factor_most};

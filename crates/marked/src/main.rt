@@ -1,5 +1,7 @@
 // Runs the marked cases of document 01 through the public calls and prints what they answer; M10 also in one call for many points, M11 and M12
 // also with their holes.
+#![tactic(auto)]
+
 use extent::{LatSpan, LonSpan};
 use fix::Lookup;
 use group::{Group, Latitude, Longitude, MARK, Point, Refusal, Verdict};

@@ -1,4 +1,6 @@
 // Rounding to the nearest whole number, ties to even; signed numbers as unsigned ones; a list of indices.
+#![tactic(auto)]
+
 ghost use Rattle.std.specs.Prelude.{◌≡◌, ◌+◌, ◌*◌, ◌≤◌, ◌<◌, ◌^◌, max, min, nat_abs, pos, ◌+ℤ◌, length};
 ghost use Rattle.std.specs.Int.Signed.{lt_z};
 ghost use Rattle.numbers.specs.Round.{gain, nearest};

@@ -1,4 +1,6 @@
 // Two-word whole numbers: the sum of four products, and rounding to the nearest over a divisor of one word.
+#![tactic(auto)]
+
 ghost use Rattle.std.specs.Prelude.{◌≡◌, ◌+◌, ◌*◌, ◌≤◌, ◌<◌, ◌^◌, ltb};
 ghost use Rattle.numbers.specs.Round.{gain, nearest};
 ghost use Rattle.pair.specs.Pair.{pair_value};

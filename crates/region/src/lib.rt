@@ -1,5 +1,7 @@
 // The southmost, then westmost point of a rectangle that no blocker holds. Blockers are rectangles, four unsigned numbers each in one flat
 // list: west, east, south, north, sides included.
+#![tactic(auto)]
+
 ghost use Rattle.std.specs.Prelude.{◌≡◌, ◌<◌, ◌≤◌};
 ghost use Rattle.region.specs.First.{first_in};
 ghost use Rattle.region.specs.Earlier.{earlier};

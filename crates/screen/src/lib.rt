@@ -1,4 +1,6 @@
 // What the screen shows of a lookup's answer: document 01, 'Loading and showing'.
+#![tactic(auto)]
+
 ghost use Rattle.std.specs.Prelude.{◌≡◌, ◌≤◌};
 ghost use Rattle.group.specs.Numbers.{quantum_most};
 ghost use Rattle.screen.specs.Screen.{admitted, neg_power, shift_of, shown_shift, degrees_of, handed_on, answer_of, record_of};

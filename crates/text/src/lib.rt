@@ -1,4 +1,6 @@
 // The parts of a text: fields between tabs, decimal numbers, words; and their writing into lent bytes.
+#![tactic(auto)]
+
 ghost use Rattle.std.specs.Prelude.{◌≡◌, true, ◌∷◌, [], ◌+◌, ◌-◌, ◌*◌, ◌≤◌, ◌<◌, min, pos, neg_ℤ, length, drop};
 ghost use Rattle.text.specs.Parts.{behind, split, up_to, start_of, Lacks, field_of};
 ghost use Rattle.text.specs.Cuts.{fields_most, Cut, Cuts};

@@ -1,4 +1,6 @@
 // The rounding alone, over lists, so that the benchmark can time it: no part of the library that users link.
+#![tactic(auto)]
+
 ghost use Rattle.std.specs.Prelude.{◌≡◌, min};
 ghost use Rattle.timed.specs.Timed.{RoundedWords, RoundedPairs};
 

@@ -1,5 +1,4 @@
 -- `added`: with and without a carry.
-use borrow.Author.Rules.{rules}
 use native.Mathlib.Omega.{arith}
 use Rattle.pair.specs.Pair.{pair_value}
 use Rattle.pair.proofs.PairLaws.{highs_fit, carry_fits}

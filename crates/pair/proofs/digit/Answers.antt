@@ -3,7 +3,7 @@ use Prim.Native.Nat.{◌*◌, ◌≤◌, ◌<◌}
 use mathlib.Core.Path.{sym, ◌∙◌}
 use native.Mathlib.Omega.{arith}
 use borrow.Author.Tests.{ltb-true, ltb-false}
-use Rattle.pair.proofs.DigitLaws.{Divides, Estimate, lower, number, first_fits, first_estimate, lower_fits, positive, next_fits, next_estimate, rest_below, is_whole, is_digit}
+use Rattle.pair.proofs.DigitLaws.{Divides, lower, number, first_fits, first_estimate, lower_fits, positive, next_fits, next_estimate, rest_below, is_whole, is_digit}
 use Rattle.pair.proofs.digit.Goals as goal
 
 pub nonzero_div-q : goal.nonzero_div-q

@@ -1,5 +1,4 @@
 -- `nearest_pair`: the high word divided alone, what is left over with the low word by two digits, and the gain of both.
-use borrow.Author.Rules.{rules}
 use Prim.Native.Nat.{ℕ, ◌+◌, ◌-◌, ◌*◌, ◌/◌, ◌%◌, ◌^◌, ◌<◌}
 use mathlib.Core.Path.{◌≡◌, sym, ap, ◌∙◌}
 use native.Mathlib.Nat.{zero-add, div-add-mod', mod-lt, mod-eq_of_lt, pos_of_ne-zero, lt_of_le_of_lt}

@@ -1,5 +1,4 @@
 -- `shifted_up`: not at all, and with what leaves the low word.
-use borrow.Author.Rules.{rules}
 use Prim.Native.Nat.{ℕ, ◌+◌, ◌-◌, ◌*◌, ◌/◌, ◌%◌, ◌^◌, ◌≤◌, ◌<◌}
 use mathlib.Core.Path.{◌≡◌, sym, ap, ◌∙◌}
 use native.Mathlib.Nat.{mul-one, one-mul, add-mul, mod-eq_of_lt}

@@ -1,5 +1,4 @@
 -- `sum_of_products`: twice two products.
-use borrow.Author.Rules.{rules}
 use native.Mathlib.Omega.{arith}
 use Rattle.pair.proofs.PairLaws.{product_below, sum_below}
 use Rattle.pair.proofs.sum_of_products.Goals as goal

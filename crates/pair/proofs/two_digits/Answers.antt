@@ -1,5 +1,4 @@
 -- `two_digits`: what the first digit leaves over goes before the second.
-use borrow.Author.Rules.{rules}
 use Prim.Native.Nat.{ℕ, ◌+◌, ◌*◌, ◌/◌, ◌%◌, ◌^◌}
 use mathlib.Core.Path.{◌≡◌}
 use native.Mathlib.Nat.{add-mul, mul_right_comm}

@@ -1,5 +1,4 @@
 -- `two_products`: far below what two words can hold.
-use borrow.Author.Rules.{rules}
 use native.Mathlib.Omega.{arith}
 use Rattle.pair.proofs.PairLaws.{product_below, sum_below}
 use Rattle.pair.proofs.two_products.Goals as goal
