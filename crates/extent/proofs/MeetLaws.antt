@@ -11,7 +11,6 @@ use lib.IntN.{ℤ, pos, neg_ℤ, nat_abs}
 use lib.Signed.{le_z}
 use Rattle.group.specs.Numbers.{lon_edge_most, lon_most, lat_most, lon_turn, lon_zero, lat_zero, lon_admitted, lat_admitted}
 use Rattle.numbers.specs.First.{first, some}
-use Rattle.numbers.specs.Order.{within}
 use Rattle.numbers.specs.Circle.{turns, turned_by}
 use Rattle.numbers.proofs.Bools.{and_left, and_right, both, or_cases, or_left, or_right, same_test, true_false}
 use Rattle.numbers.proofs.FirstLaws.{first_hit, some_by, by_some}

@@ -7,7 +7,6 @@ use lib.IntN.{ℤ, pos, nat_abs, ◌+ℤ◌, ◌*ℤ◌}
 use mir.Syntax.{w64}
 use mir.Val.{SFits, to_z, of_z}
 use mir.Facts.{to_z-of_z, to_z_pos}
-use borrow.Author.Rules.{rules}
 use Rattle.numbers.proofs.OrderLaws.{size_fits, size_add, size_mul}
 use Rattle.group.specs.Numbers.{spacing_most, nodes_most}
 use Rattle.extent.specs.declared.Axis.{Axis}

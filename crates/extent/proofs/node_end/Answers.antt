@@ -2,7 +2,6 @@
 use Prim.Native.Nat.{◌*◌, ◌≤◌}
 use native.Mathlib.Omega.{arith}
 use native.Mathlib.Nat.{mul-le-mul}
-use borrow.Author.Rules.{rules}
 use Rattle.group.specs.Numbers.{nodes_most, parameters_most}
 use Rattle.extent.proofs.node_end.Goals as goal
 

@@ -1,6 +1,5 @@
 -- `sides_of` meets its contract.
 use Rattle.extent.specs.Sides.{sides_of}
-use borrow.Author.Rules.{rules}
 use Rattle.extent.proofs.sides_of.Goals as goal
 
 pub returns : goal.returns
