@@ -14,7 +14,7 @@ use lib.Signed.{le_z, ◌≤ℤ◌, ≤ℤ_refl}
 use Rattle.numbers.specs.Round.{round_z}
 use Rattle.numbers.proofs.Bools.{and_left, and_right, both, or_cases, or_left, or_right}
 use Rattle.numbers.proofs.Nearest.{nearest_le}
-use Rattle.numbers.proofs.Diff.{up, dn, Diff, diff_self, diff_pos, diff_+, diff__, diff_scale, diff_as, diff_of, diff_one, diff_≡, diff_≤, ≤_diff, nat_abs_diff, up_or_dn, up_neg, dn_neg, up_pos, dn_pos}
+use Rattle.numbers.proofs.Diff.{up, dn, Diff, diff_self, diff_+, diff_scale, diff_as, diff_≡, diff_≤, ≤_diff, nat_abs_diff, up_or_dn, up_neg, dn_neg, up_pos, dn_pos}
 use Rattle.numbers.proofs.RoundZ.{round_biased, round_≥, round_≤, round_half_step}
 use Rattle.numbers.proofs.OrderLaws.{within_size, within_test, le_z_refl}
 use Rattle.group.specs.Numbers.{value_most, mark, value_fits, is_mark}

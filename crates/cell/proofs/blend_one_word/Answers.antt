@@ -1,5 +1,4 @@
 -- `blend_one_word` meets its contract.
-use borrow.Author.Rules.{rules}
 use Rattle.cell.specs.Unsigned.{blended}
 use Rattle.cell.proofs.blend_one_word.Goals as goal
 

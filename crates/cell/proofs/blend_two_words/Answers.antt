@@ -1,5 +1,4 @@
 -- `blend_two_words` meets its contract: what four numbers of half a word blend to fits one word.
-use borrow.Author.Rules.{rules}
 use Prim.Native.Nat.{ℕ}
 use mathlib.Core.Path.{ap, ◌∙◌}
 use native.Mathlib.Omega.{arith}

@@ -3,7 +3,6 @@ use Prim.Native.Nat.{◌≤◌}
 use mathlib.Core.Path.{◌≡◌, sym, subst}
 use native.Mathlib.Omega.{arith}
 use lib.IntN.{ℤ, pos, ◌+ℤ◌, nat_abs}
-use borrow.Author.Rules.{rules}
 use Rattle.cell.specs.Unsigned.{near_most}
 use Rattle.cell.proofs.WideLaws.{wide_fits, wide_same}
 use Rattle.cell.proofs.raised_near.Goals as goal
@@ -16,5 +15,4 @@ lifted-requires c = (subst (λ (z : ℤ). nat_abs z ≤ near_most) (sym (wide_sa
 
 pub returns : goal.returns
 returns c =
-    let s = c in
     subst (λ (z : ℤ). z +ℤ pos near_most ≡ pos c.lifted.result) (wide_same c.args.v c.ranges.v) c.lifted.ensures

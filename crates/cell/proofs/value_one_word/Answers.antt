@@ -1,6 +1,6 @@
 -- `value_one_word` meets its contract: the blend of the raised corners is the raised value, and the sum fits.
 use borrow.Author.Rules.{rules}
-use Prim.Native.Nat.{ℕ, ◌+◌, ◌*◌, ◌^◌, ◌≤◌, ◌<◌}
+use Prim.Native.Nat.{ℕ, ◌*◌, ◌^◌, ◌≤◌, ◌<◌}
 use mathlib.Core.Path.{◌≡◌, refl, sym, ◌∙◌, subst}
 use native.Mathlib.Nat.{mul-le-mul_left}
 use native.Mathlib.Omega.{arith}
@@ -27,28 +27,27 @@ raised_most v s d = let n = nat_abs_diff v in let e = d.diff in omega arith
 
 pub raised_near-requires : goal.raised_near-requires
 raised_near-requires c =
-    let s = c in asked c.args.v.v00 (record { sfits = c.struct_told-1.given.0.1 }) (near_sizes c.args.v c.requires.2).at00
+    asked c.args.v.v00 (search rules) (near_sizes c.args.v c.requires.2).at00
 
 pub raised_near-requires-2 : goal.raised_near-requires-2
 raised_near-requires-2 c =
-    let s = c in asked c.args.v.v10 (record { sfits = c.struct_told-2-1.given.1.0.1 }) (near_sizes c.args.v c.requires.2).at10
+    asked c.args.v.v10 (search rules) (near_sizes c.args.v c.requires.2).at10
 
 pub raised_near-requires-3 : goal.raised_near-requires-3
 raised_near-requires-3 c =
-    let s = c in asked c.args.v.v01 (record { sfits = c.struct_told-3-1.given.1.1.0.1 }) (near_sizes c.args.v c.requires.2).at01
+    asked c.args.v.v01 (search rules) (near_sizes c.args.v c.requires.2).at01
 
 pub raised_near-requires-4 : goal.raised_near-requires-4
 raised_near-requires-4 c =
-    let s = c in
-    asked c.args.v.v11 (record { sfits = c.struct_told-4-1.given.1.1.1.0.1 }) (near_sizes c.args.v c.requires.2).at11
+    asked c.args.v.v11 (search rules) (near_sizes c.args.v c.requires.2).at11
 
 pub blend_one_word-q-requires : goal.blend_one_word-q-requires
 blend_one_word-q-requires c =
     let near : NearSizes c.args.v = near_sizes c.args.v c.requires.2 in
-    let r00 : Diff c.args.v.v00 c.raised_near.result near_most = told (record { sfits = c.struct_told-1.given.0.1 }) c.raised_near.ensures in
-    let r10 : Diff c.args.v.v10 c.raised_near-2.result near_most = told (record { sfits = c.struct_told-1.given.1.0.1 }) c.raised_near-2.ensures in
-    let r01 : Diff c.args.v.v01 c.raised_near-3.result near_most = told (record { sfits = c.struct_told-1.given.1.1.0.1 }) c.raised_near-3.ensures in
-    let r11 : Diff c.args.v.v11 c.raised_near-4.result near_most = told (record { sfits = c.struct_told-1.given.1.1.1.0.1 }) c.raised_near-4.ensures in
+    let r00 : Diff c.args.v.v00 c.raised_near.result near_most = told (search rules) c.raised_near.ensures in
+    let r10 : Diff c.args.v.v10 c.raised_near-2.result near_most = told (search rules) c.raised_near-2.ensures in
+    let r01 : Diff c.args.v.v01 c.raised_near-3.result near_most = told (search rules) c.raised_near-3.ensures in
+    let r11 : Diff c.args.v.v11 c.raised_near-4.result near_most = told (search rules) c.raised_near-4.ensures in
     let sum : summed c.args.w c.raised_near.result c.raised_near-2.result c.raised_near-3.result c.raised_near-4.result < 2 ^ 64 =
     let s = sum_most c.requires.0 (2 * near_most) (raised_most c.args.v.v00 near.at00 r00) (raised_most c.args.v.v10 near.at10 r10) (raised_most c.args.v.v01 near.at01 r01) (raised_most c.args.v.v11 near.at11 r11) in
     let m = mul-le-mul_left (2 * near_most) c.requires.1 in
@@ -58,20 +57,20 @@ blend_one_word-q-requires c =
 pub lowered-requires : goal.lowered-requires
 lowered-requires c =
     let near : NearSizes c.args.v = near_sizes c.args.v c.requires.2 in
-    let r00 : Diff c.args.v.v00 c.raised_near.result near_most = told (record { sfits = c.struct_told-1.given.0.1 }) c.raised_near.ensures in
-    let r10 : Diff c.args.v.v10 c.raised_near-2.result near_most = told (record { sfits = c.struct_told-1.given.1.0.1 }) c.raised_near-2.ensures in
-    let r01 : Diff c.args.v.v01 c.raised_near-3.result near_most = told (record { sfits = c.struct_told-1.given.1.1.0.1 }) c.raised_near-3.ensures in
-    let r11 : Diff c.args.v.v11 c.raised_near-4.result near_most = told (record { sfits = c.struct_told-1.given.1.1.1.0.1 }) c.raised_near-4.ensures in
+    let r00 : Diff c.args.v.v00 c.raised_near.result near_most = told (search rules) c.raised_near.ensures in
+    let r10 : Diff c.args.v.v10 c.raised_near-2.result near_most = told (search rules) c.raised_near-2.ensures in
+    let r01 : Diff c.args.v.v01 c.raised_near-3.result near_most = told (search rules) c.raised_near-3.ensures in
+    let r11 : Diff c.args.v.v11 c.raised_near-4.result near_most = told (search rules) c.raised_near-4.ensures in
     let small : blended c.args.w c.raised_near.result c.raised_near-2.result c.raised_near-3.result c.raised_near-4.result ≤ 2 * near_most = blend_most c.requires.0 (2 * near_most) (raised_most c.args.v.v00 near.at00 r00) (raised_most c.args.v.v10 near.at10 r10) (raised_most c.args.v.v01 near.at01 r01) (raised_most c.args.v.v11 near.at11 r11) in
     let m = small in let e = c.blend_one_word-q.ensures in omega arith
 
 pub returns : goal.returns
 returns c =
-    let r00 : Diff c.args.v.v00 c.raised_near.result near_most = told (record { sfits = c.struct_told-1.given.0.1 }) c.raised_near.ensures in
-    let r10 : Diff c.args.v.v10 c.raised_near-2.result near_most = told (record { sfits = c.struct_told-1.given.1.0.1 }) c.raised_near-2.ensures in
-    let r01 : Diff c.args.v.v01 c.raised_near-3.result near_most = told (record { sfits = c.struct_told-1.given.1.1.0.1 }) c.raised_near-3.ensures in
-    let r11 : Diff c.args.v.v11 c.raised_near-4.result near_most = told (record { sfits = c.struct_told-1.given.1.1.1.0.1 }) c.raised_near-4.ensures in
-    let t = c in let s = c in let r = c.lowered.result in
-    to_z-of_z w64 r (record { sfits = c.lowered.type-inv })
+    let r00 : Diff c.args.v.v00 c.raised_near.result near_most = told (search rules) c.raised_near.ensures in
+    let r10 : Diff c.args.v.v10 c.raised_near-2.result near_most = told (search rules) c.raised_near-2.ensures in
+    let r01 : Diff c.args.v.v01 c.raised_near-3.result near_most = told (search rules) c.raised_near-3.ensures in
+    let r11 : Diff c.args.v.v11 c.raised_near-4.result near_most = told (search rules) c.raised_near-4.ensures in
+    let r = c.lowered.result in
+    to_z-of_z w64 r (record { sfits = c.lowered.type_inv })
     ∙ diff_join (diff_of r c.blend_one_word-q.result near_most c.lowered.ensures) c.blend_one_word-q.ensures
     (value_shifted c.requires.0 {v = c.args.v} near_most refl (r00) (r10) (r01) (r11))

@@ -16,15 +16,14 @@ pub added-raised-requires : goal.added-raised-requires
 added-raised-requires c =
     let below : pair_value c.sum_of_products-sum.result + pair_value c.product.result < 2 ^ 94 =
     raised_below c.requires c.sum_of_products-sum.ensures c.product.ensures
-    c.shifted-a.ok c.shifted-b.ok c.shifted-c.ok c.shifted-d.ok in
+    c.shifted-a.type_inv c.shifted-b.type_inv c.shifted-c.type_inv c.shifted-d.type_inv in
     lt_trans (below) (lit< tt)
 
 pub parted-requires : goal.parted-requires
 parted-requires c =
     let below : pair_value c.sum_of_products-sum.result + pair_value c.product.result < 2 ^ 94 =
     raised_below c.requires c.sum_of_products-sum.ensures c.product.ensures
-    c.shifted-a.ok c.shifted-b.ok c.shifted-c.ok c.shifted-d.ok in
-    let p = c in (
+    c.shifted-a.type_inv c.shifted-b.type_inv c.shifted-c.type_inv c.shifted-d.type_inv in (
       subst (λ (n : ℕ). n < 2 ^ 94) (sym c.added-raised.ensures) (below),
       omega (arith, c.requires.most),
     )
@@ -32,13 +31,12 @@ parted-requires c =
 pub returns : goal.returns
 returns c =
     let raised : Diff (weighted_sum c.args.w c.args.v) (pair_value c.sum_of_products-sum.result + pair_value c.product.result) (c.args.w.total * 2 ^ 32) =
-    let s = c.struct_told-1.given in
     raised_sum c.requires c.sum_of_products-sum.ensures c.product.ensures {v = c.args.v}
-    (corner_shifted (record { sfits = s.0.1 }) c.shifted-a.ensures)
-    (corner_shifted (record { sfits = s.1.0.1 }) c.shifted-b.ensures)
-    (corner_shifted (record { sfits = s.1.1.0.1 }) c.shifted-c.ensures)
-    (corner_shifted (record { sfits = s.1.1.1.0.1 }) c.shifted-d.ensures) in
-    let p = c in let s = c in let r = c.parted.result in let n = pair_value c.added-raised.result in
+    (corner_shifted (search rules) c.shifted-a.ensures)
+    (corner_shifted (search rules) c.shifted-b.ensures)
+    (corner_shifted (search rules) c.shifted-c.ensures)
+    (corner_shifted (search rules) c.shifted-d.ensures) in
+    let r = c.parted.result in let n = pair_value c.added-raised.result in
     parted_is (weighted_sum c.args.w c.args.v) n c.args.w.total r
     (subst (λ (k : ℕ). Diff (weighted_sum c.args.w c.args.v) k (c.args.w.total * 2 ^ 32)) (sym c.added-raised.ensures) (raised))
     (diff_of r.high (n / 2 ^ 32) c.args.w.total c.parted.ensures.0)
