@@ -5,7 +5,7 @@ use mathlib.Core.Logic.{⊎_elim}
 use native.Mathlib.Nat.{mul-le-mul_right, suc-mul, eq_of_mul-eq-mul_right}
 use native.Mathlib.Decide.{dec_lt}
 use native.Mathlib.Omega.{arith}
-use lib.IntN.{ℤ, pos, negsuc, ◌*ℤ◌, nat_abs, one, *ℤ_comm, *ℤ-one}
+use lib.IntN.{ℤ, pos, negsuc, nat_abs, one, *ℤ_comm, *ℤ-one}
 use lib.Signed.{◌≤ℤ◌}
 use Rattle.numbers.specs.Round.{nearest, round_z}
 use Rattle.numbers.proofs.Nearest.{three_ways, nearest_near, nearest_zero, nearest_0, nearest_le}

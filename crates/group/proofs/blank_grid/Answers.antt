@@ -1,5 +1,4 @@
 -- `blank_grid` meets its contract.
-use borrow.Author.Rules.{rules}
 use Rattle.group.proofs.blank_grid.Goals as goal
 
 pub returns : goal.returns

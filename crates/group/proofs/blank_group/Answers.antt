@@ -1,5 +1,4 @@
 -- `blank_group` meets its contract.
-use borrow.Author.Rules.{rules}
 use Rattle.group.proofs.blank_group.Goals as goal
 
 pub returns : goal.returns

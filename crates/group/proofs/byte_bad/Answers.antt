@@ -1,5 +1,4 @@
 -- `byte_bad` meets its contract.
-use borrow.Author.Rules.{rules}
 use Rattle.group.proofs.byte_bad.Goals as goal
 
 pub returns : goal.returns

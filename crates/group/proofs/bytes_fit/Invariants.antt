@@ -1,11 +1,7 @@
 -- `bytes_fit` meets its contract: all 24 bytes are tested, with no early answer.
 use Prim.Native.Nat.{◌-◌, ◌≤◌}
-use mathlib.Core.Bool.{Bool, true, false, not, ◌&&◌}
-use mathlib.Core.Path.{◌≡◌, refl, sym, ap, ap₂, ◌∙◌}
-use native.Mathlib.Omega.{arith}
-use borrow.Author.Rules.{rules}
+use mathlib.Core.Path.{◌≡◌}
 use Rattle.numbers.specs.First.{every}
-use Rattle.numbers.proofs.FirstLaws.{every_none, every_more}
 use Rattle.group.specs.Limits.{byte_fits}
 use Rattle.group.proofs.bytes_fit.Given as goal
 

@@ -1,5 +1,4 @@
 -- `function_blank` meets its contract.
-use borrow.Author.Rules.{rules}
 use mathlib.Core.Path.{sym, ap, ◌∙◌}
 use Rattle.group.specs.Limits.{shape_blank}
 use Rattle.group.proofs.function_blank.Goals as goal

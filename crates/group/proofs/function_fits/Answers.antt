@@ -1,5 +1,4 @@
 -- `function_fits` meets its contract.
-use borrow.Author.Rules.{rules}
 use mathlib.Core.Path.{sym, ap, ◌∙◌}
 use Rattle.group.specs.Limits.{shape_fits}
 use Rattle.group.proofs.function_fits.Goals as goal

@@ -1,6 +1,5 @@
 -- `grid_fits` meets its contract.
 use Rattle.group.specs.Limits.{grid_fits}
-use borrow.Author.Rules.{rules}
 use Rattle.group.proofs.grid_fits.Goals as goal
 
 pub returns : goal.returns

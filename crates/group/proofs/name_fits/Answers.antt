@@ -1,6 +1,5 @@
 -- `name_fits` meets its contract.
 use Rattle.group.specs.Limits.{name_fits}
-use borrow.Author.Rules.{rules}
 use Rattle.group.proofs.name_fits.Goals as goal
 
 pub returns : goal.returns

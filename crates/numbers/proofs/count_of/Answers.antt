@@ -4,7 +4,6 @@ use mir.Facts.{to_z-of_z}
 use lib.IntN.{ℤ, pos, nat_abs}
 use lib.Signed.{lt_z}
 use Rattle.numbers.proofs.OrderLaws.{count_below, count_above}
-use borrow.Author.Rules.{rules}
 use Rattle.numbers.proofs.count_of.Goals as goal
 
 pub returns-then-negative : goal.returns-then-negative

@@ -6,7 +6,6 @@ use lib.IntN.{ℤ, pos, ◌+ℤ◌, nat_abs}
 use mir.Syntax.{w64}
 use mir.Val.{SFits, to_z, of_z}
 use mir.ValLaws.{to_z-of_z, to_z_pos}
-use borrow.Author.Rules.{rules}
 use Rattle.numbers.specs.Order.{raised}
 use Rattle.numbers.proofs.OrderLaws.{raised_is, raised_bound}
 use Rattle.numbers.proofs.Machine.{through}

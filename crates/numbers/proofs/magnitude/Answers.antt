@@ -12,7 +12,6 @@ use mir.Syntax.{w64}
 use mir.Val.{SFits, Fits, to_z, of_z}
 use mir.Facts.{to_z-of_z}
 use borrow.Author.Tests.{ltb-true}
-use borrow.Author.Rules.{rules}
 use Rattle.numbers.proofs.magnitude.Goals as goal
 
 one_more : (n : ℕ) → pos 0 -ℤ suc_ℤ (negsuc n) ≡ pos n

@@ -1,5 +1,4 @@
 -- `nearest_even`: the quotient, settled by what is left over.
-use borrow.Author.Rules.{rules}
 use Prim.Native.Nat.{◌-◌, ◌*◌, ◌/◌}
 use mathlib.Core.Path.{sym, ap, ◌∙◌}
 use native.Mathlib.Nat.{div-add-mod', pos_of_ne-zero}

@@ -1,5 +1,4 @@
 -- `nearest_shifted`: the shifts are a division and a product by 2 to the power k.
-use borrow.Author.Rules.{rules}
 use Prim.Native.Nat.{ℕ, ◌-◌, ◌*◌, ◌/◌, ◌%◌, ◌^◌, ◌<◌}
 use mathlib.Core.Path.{◌≡◌, ◌∙◌}
 use native.Mathlib.Nat.{div-add-mod', mod-eq_of_lt}

@@ -1,5 +1,4 @@
 -- `nearest_shifted_32`: half a step more, cut off.
-use borrow.Author.Rules.{rules}
 use Rattle.numbers.proofs.Nearest.{half_added}
 use Rattle.numbers.proofs.nearest_shifted_32.Goals as goal
 

@@ -7,7 +7,6 @@ use lib.IntN.{pos, nat_abs}
 use lib.Signed.{lt_z}
 use mir.Facts.{to_z-of_z}
 use Rattle.numbers.proofs.OrderLaws.{raised_below, raised_above, size_bound}
-use borrow.Author.Rules.{rules}
 use Rattle.numbers.proofs.raised.Goals as goal
 
 pub returns-then-n-wide : goal.returns-then-n-wide

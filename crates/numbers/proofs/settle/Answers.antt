@@ -1,5 +1,4 @@
 -- `settle`: below, above and at the tie.
-use borrow.Author.Rules.{rules}
 use Prim.Native.Nat.{◌*◌}
 use native.Mathlib.Omega.{arith}
 use Rattle.numbers.proofs.Nearest.{gain_0, gain_1, gain_tie}

@@ -1,10 +1,8 @@
 -- `timed_nearest_even` meets its contract: each turn rounds one more.
-use Prim.Native.Nat.{◌-◌, ◌≤◌, ◌<◌, min}
+use Prim.Native.Nat.{◌<◌, min}
 use mathlib.Core.Path.{◌≡◌, ap, ◌∙◌}
 use native.Mathlib.Omega.{arith}
-use borrow.Author.Rules.{rules}
 use lib.ListN.{length}
-use Rattle.timed.specs.Timed.{Rounded, word}
 use Rattle.timed.proofs.RoundedLaws.{below_both, rounded_none, rounded_more}
 use Rattle.timed.proofs.timed_nearest_even.Goals as goal
 

@@ -1,12 +1,10 @@
 -- `timed_nearest_pairs` meets its contract: each turn rounds one more.
-use Prim.Native.Nat.{ℕ, ◌-◌, ◌%◌, ◌^◌, ◌≤◌, ◌<◌, min}
+use Prim.Native.Nat.{ℕ, ◌%◌, ◌^◌, ◌<◌, min}
 use mathlib.Core.Path.{◌≡◌, ap, ◌∙◌}
 use native.Mathlib.Omega.{arith}
-use borrow.Author.Rules.{rules}
 use lib.ListN.{length}
 use Rattle.pair.specs.Pair.{pair_value}
 use Rattle.pair.proofs.PairLaws.{pair_low_word}
-use Rattle.timed.specs.Timed.{Rounded, low_word}
 use Rattle.timed.proofs.RoundedLaws.{below_both, rounded_none, rounded_more}
 use Rattle.timed.proofs.timed_nearest_pairs.Goals as goal
 

@@ -1,13 +1,6 @@
 -- `timed_nearest_pairs` meets its contract: each turn rounds one more.
-use Prim.Native.Nat.{ℕ, ◌-◌, ◌%◌, ◌^◌, ◌≤◌, ◌<◌, min}
-use mathlib.Core.Path.{◌≡◌, ap, ◌∙◌}
-use native.Mathlib.Omega.{arith}
-use borrow.Author.Rules.{rules}
-use lib.ListN.{length}
-use Rattle.pair.specs.Pair.{pair_value}
-use Rattle.pair.proofs.PairLaws.{pair_low_word}
+use Prim.Native.Nat.{◌-◌, ◌≤◌}
 use Rattle.timed.specs.Timed.{Rounded, low_word}
-use Rattle.timed.proofs.RoundedLaws.{below_both, rounded_none, rounded_more}
 use Rattle.timed.proofs.timed_nearest_pairs.Given as goal
 
 abbrev pub invariant-loop-i : goal.invariant-loop-i
