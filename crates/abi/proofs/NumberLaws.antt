@@ -16,7 +16,7 @@ use Rattle.abi.specs.Abi.{unit_of, signed_most, stored}
 
 -- a result, read back of its bits
 pub told : {x y : ℤ} → mag x < 2 ^ 63 → x ≡ y → to_z w64 (of_z w64 x) ≡ y
-told h e = to_z-of_z (record { sfits = h }) ∙ e
+told {x} h e = to_z-of_z {w = w64} (record { sfits = h }) ∙ e
 
 -- an unsigned number that is no greater than the greatest signed one is stored as it is
 pub as_it_is : (n : ℕ) → n ≤ signed_most → stored n ≡ pos n

@@ -5,7 +5,6 @@ use native.Mathlib.Nat.{min-eq_left, min_comm}
 use lib.IntN.{pos}
 use mir.Syntax.{w64}
 use mir.Facts.{to_z-of_z}
-use borrow.Author.Rules.{rules}
 use Rattle.abi.specs.Abi.{signed_most}
 use Rattle.abi.proofs.as_stored.Goals as goal
 

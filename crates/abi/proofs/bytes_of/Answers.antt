@@ -1,11 +1,7 @@
 -- `bytes_of` meets its contract.
-use Prim.Native.Nat.{◌-◌, ◌/◌, ◌%◌}
 use mathlib.Core.Path.{refl}
-use lib.ListN.{get_or}
 use Rattle.group.specs.Numbers.{name_most}
-use Rattle.abi.specs.Abi.{byte_of}
-use Rattle.abi.proofs.ListLaws.{Filled, filled_none, filled_more, filled_all}
-use borrow.Author.Rules.{rules}
+use Rattle.abi.proofs.ListLaws.{filled_none, filled_more, filled_all}
 use Rattle.abi.proofs.bytes_of.Goals as goal
 
 pub loop-i-init : goal.loop-i-init

@@ -1,11 +1,9 @@
 -- `bytes_of` meets its contract.
 use Prim.Native.Nat.{◌-◌, ◌/◌, ◌%◌}
-use mathlib.Core.Path.{refl}
 use lib.ListN.{get_or}
 use Rattle.group.specs.Numbers.{name_most}
 use Rattle.abi.specs.Abi.{byte_of}
-use Rattle.abi.proofs.ListLaws.{Filled, filled_none, filled_more, filled_all}
-use borrow.Author.Rules.{rules}
+use Rattle.abi.proofs.ListLaws.{Filled}
 use Rattle.abi.proofs.bytes_of.Given as goal
 
 abbrev pub invariant-loop-i : goal.invariant-loop-i

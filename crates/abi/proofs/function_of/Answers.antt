@@ -17,8 +17,8 @@ returns-then-kind c =
     let as_read : function_of (bits c.args.kind) (bits c.args.a) (bits c.args.b) (bits c.args.c) (bits c.args.d)
     ≡ function_of c.args.kind c.args.a c.args.b c.args.c c.args.d =
     let kind = to_z-of_z c.ranges.kind in let a = to_z-of_z c.ranges.a in let b = to_z-of_z c.ranges.b in
-    let c = to_z-of_z c.ranges.c in let d = to_z-of_z c.ranges.d in
-    λ i. function_of (kind i) (a i) (b i) (c i) (d i) in
+    let third = to_z-of_z c.ranges.c in let d = to_z-of_z c.ranges.d in
+    λ i. function_of (kind i) (a i) (b i) (third i) (d i) in
     sym (is_ramp _ _ _ _ _ c.if-kind.true) ∙ as_read
 
 pub returns-then-kind-d : goal.returns-then-kind-d
@@ -27,8 +27,8 @@ returns-then-kind-d c =
     let as_read : function_of (bits c.args.kind) (bits c.args.a) (bits c.args.b) (bits c.args.c) (bits c.args.d)
     ≡ function_of c.args.kind c.args.a c.args.b c.args.c c.args.d =
     let kind = to_z-of_z c.ranges.kind in let a = to_z-of_z c.ranges.a in let b = to_z-of_z c.ranges.b in
-    let c = to_z-of_z c.ranges.c in let d = to_z-of_z c.ranges.d in
-    λ i. function_of (kind i) (a i) (b i) (c i) (d i) in
+    let third = to_z-of_z c.ranges.c in let d = to_z-of_z c.ranges.d in
+    λ i. function_of (kind i) (a i) (b i) (third i) (d i) in
     sym (is_step _ _ _ _ _ c.if-kind.false c.if-kind-d.true) ∙ as_read
 
 pub returns-then-kind-2 : goal.returns-then-kind-2
@@ -37,8 +37,8 @@ returns-then-kind-2 c =
     let as_read : function_of (bits c.args.kind) (bits c.args.a) (bits c.args.b) (bits c.args.c) (bits c.args.d)
     ≡ function_of c.args.kind c.args.a c.args.b c.args.c c.args.d =
     let kind = to_z-of_z c.ranges.kind in let a = to_z-of_z c.ranges.a in let b = to_z-of_z c.ranges.b in
-    let c = to_z-of_z c.ranges.c in let d = to_z-of_z c.ranges.d in
-    λ i. function_of (kind i) (a i) (b i) (c i) (d i) in
+    let third = to_z-of_z c.ranges.c in let d = to_z-of_z c.ranges.d in
+    λ i. function_of (kind i) (a i) (b i) (third i) (d i) in
     sym (is_ramp2 _ _ _ _ _ c.if-kind.false c.if-kind-d.false c.if-kind-2.true) ∙ as_read
 
 pub returns : goal.returns
@@ -47,6 +47,6 @@ returns c =
     let as_read : function_of (bits c.args.kind) (bits c.args.a) (bits c.args.b) (bits c.args.c) (bits c.args.d)
     ≡ function_of c.args.kind c.args.a c.args.b c.args.c c.args.d =
     let kind = to_z-of_z c.ranges.kind in let a = to_z-of_z c.ranges.a in let b = to_z-of_z c.ranges.b in
-    let c = to_z-of_z c.ranges.c in let d = to_z-of_z c.ranges.d in
-    λ i. function_of (kind i) (a i) (b i) (c i) (d i) in
+    let third = to_z-of_z c.ranges.c in let d = to_z-of_z c.ranges.d in
+    λ i. function_of (kind i) (a i) (b i) (third i) (d i) in
     sym (is_none _ _ _ _ _ c.if-kind.false c.if-kind-d.false c.if-kind-2.false) ∙ as_read

@@ -1,11 +1,9 @@
 -- `functions_of` meets its contract.
 use Prim.Native.Nat.{◌-◌}
-use mathlib.Core.Path.{refl}
-use borrow.Author.Rules.{rules}
 use Rattle.group.specs.Numbers.{functions_most}
 use Rattle.group.specs.Blank.{blank_function}
 use Rattle.abi.specs.Abi.{function_of_words}
-use Rattle.abi.proofs.ListLaws.{Filled, filled_none, filled_more, filled_all}
+use Rattle.abi.proofs.ListLaws.{Filled}
 use Rattle.abi.proofs.functions_of.Given as goal
 
 abbrev pub invariant-loop-i : goal.invariant-loop-i

@@ -2,7 +2,6 @@
 use mathlib.Core.Path.{◌∙◌}
 use mathlib.Core.Bool.{◌&&◌}
 use Rattle.abi.proofs.ClearLaws.{clear_blank}
-use borrow.Author.Rules.{rules}
 use Rattle.abi.proofs.grid_clear.Goals as goal
 
 pub returns : goal.returns

@@ -6,7 +6,6 @@ use Rattle.group.specs.Numbers.{name_most}
 use Rattle.abi.specs.Words.{grid_words, grids_from, grid_index}
 use Rattle.abi.specs.Abi.{count_at, byte_of, name_of_words, grid_of_words}
 use Rattle.abi.proofs.ListLaws.{get_or_list_of}
-use borrow.Author.Rules.{rules}
 use Rattle.abi.proofs.grid_name_byte.Goals as goal
 
 pub returns : goal.returns

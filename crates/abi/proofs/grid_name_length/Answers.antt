@@ -1,6 +1,5 @@
 -- `grid_name_length` meets its contract.
 use Rattle.abi.specs.Abi.{name_of_words, grid_of_words}
-use borrow.Author.Rules.{rules}
 use Rattle.abi.proofs.grid_name_length.Goals as goal
 
 pub returns : goal.returns

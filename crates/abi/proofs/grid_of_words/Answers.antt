@@ -2,7 +2,6 @@
 use mathlib.Core.Path.{ap, ◌∙◌}
 use Rattle.abi.specs.Abi.{name_of_words, grid_of_words}
 use Rattle.abi.proofs.NumberLaws.{told}
-use borrow.Author.Rules.{rules}
 use Rattle.abi.proofs.grid_of_words.Goals as goal
 
 pub returns : goal.returns
@@ -10,10 +9,10 @@ unfolding grid_of_words
 returns c =
     let len = c.count_at.ensures in
     let name = c.name_of_words-name.ensures ∙ ap (name_of_words _ _) len in
-    let lon = told c.number_at.type-inv c.number_at.ensures in
-    let lat = told c.number_at-2.type-inv c.number_at-2.ensures in
-    let dlon = told c.number_at-3.type-inv c.number_at-3.ensures in
-    let dlat = told c.number_at-4.type-inv c.number_at-4.ensures in
+    let lon = told c.number_at.type_inv c.number_at.ensures in
+    let lat = told c.number_at-2.type_inv c.number_at-2.ensures in
+    let dlon = told c.number_at-3.type_inv c.number_at-3.ensures in
+    let dlat = told c.number_at-4.type_inv c.number_at-4.ensures in
     let ni = c.count_at-2.ensures in
     let nj = c.count_at-3.ensures in
     let rank = c.count_at-4.ensures in

@@ -1,11 +1,9 @@
 -- `grids_of` meets its contract.
-use Prim.Native.Nat.{◌-◌}
 use mathlib.Core.Path.{refl}
-use borrow.Author.Rules.{rules}
 use Rattle.group.specs.Numbers.{grids_most}
 use Rattle.group.specs.Blank.{blank_grid}
 use Rattle.abi.specs.Abi.{grid_of_words}
-use Rattle.abi.proofs.ListLaws.{Filled, filled_none, filled_more, filled_all}
+use Rattle.abi.proofs.ListLaws.{filled_none, filled_more, filled_all}
 use Rattle.abi.proofs.grids_of.Goals as goal
 
 pub loop-i-init : goal.loop-i-init

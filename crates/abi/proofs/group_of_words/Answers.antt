@@ -1,6 +1,5 @@
 -- `group_of_words` meets its contract.
 use mathlib.Core.Path.{ap, ◌∙◌}
-use borrow.Author.Rules.{rules}
 use Rattle.abi.specs.Abi.{unit_of, group_of_words}
 use Rattle.abi.proofs.NumberLaws.{told}
 use Rattle.abi.proofs.group_of_words.Goals as goal
@@ -9,7 +8,7 @@ pub returns : goal.returns
 unfolding group_of_words
 returns c =
     let name = c.name_of-name.ensures in
-    let unit = c.unit_of.ensures ∙ ap unit_of (told c.number_at.type-inv c.number_at.ensures) in
+    let unit = c.unit_of.ensures ∙ ap unit_of (told c.number_at.type_inv c.number_at.ensures) in
     let function = c.functions_of-function.ensures in
     let grid = c.grids_of-grid.ensures in
     let quantum = c.quantum_of.ensures in

@@ -3,7 +3,6 @@ use mathlib.Core.Path.{ap, ◌∙◌}
 use Prim.Native.Nat.{◌+◌, ◌*◌}
 use Rattle.abi.specs.Abi.{stored, word_of}
 use Rattle.abi.proofs.NumberLaws.{told}
-use borrow.Author.Rules.{rules}
 use Rattle.abi.proofs.name_number.Goals as goal
 
 pub returns : goal.returns
@@ -11,4 +10,4 @@ unfolding word_of
 returns c =
     let low = c.four-low.ensures.0 in
     let high = c.four-high.ensures.0 in
-    told c.as_stored.type-inv (c.as_stored.ensures ∙ ap stored (λ i. low i + high i * 4294967296))
+    told c.as_stored.type_inv (c.as_stored.ensures ∙ ap stored (λ i. low i + high i * 4294967296))

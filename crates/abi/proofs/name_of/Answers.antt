@@ -1,6 +1,5 @@
 -- `name_of` meets its contract.
 use mathlib.Core.Path.{ap, ◌∙◌}
-use borrow.Author.Rules.{rules}
 use Rattle.abi.specs.Abi.{name_of_words, group_of_words}
 use Rattle.abi.proofs.name_of.Goals as goal
 

@@ -7,7 +7,6 @@ use lib.ListN.{get_or}
 use Rattle.group.specs.Numbers.{name_most}
 use Rattle.abi.specs.Abi.{count_at, byte_of, name_of_words}
 use Rattle.abi.proofs.ListLaws.{list_of_same, get_or_three}
-use borrow.Author.Rules.{rules}
 use Rattle.abi.proofs.name_of_words.Goals as goal
 
 pub returns : goal.returns

@@ -2,7 +2,6 @@
 use mathlib.Core.Path.{sym, ◌∙◌}
 use Rattle.abi.proofs.ListLaws.{sets_whole}
 use Rattle.abi.proofs.GroupLaws.{numbers_length}
-use borrow.Author.Rules.{rules}
 use Rattle.abi.proofs.numbers_of.Goals as goal
 
 pub returns : goal.returns

@@ -1,5 +1,4 @@
 -- `parameter_count` meets its contract.
-use borrow.Author.Rules.{rules}
 use Rattle.abi.specs.Abi.{group_of_words}
 use Rattle.abi.proofs.parameter_count.Goals as goal
 

@@ -1,14 +1,10 @@
 -- `store_functions` meets its contract.
-use Prim.Native.Nat.{◌-◌}
 use mathlib.Core.Path.{◌≡◌, refl, sym, ap}
-use borrow.Author.Rules.{rules}
 use native.Mathlib.Omega.{arith}
-use lib.ListN.{length, get_or}
+use lib.ListN.{length}
 use Rattle.group.specs.Numbers.{functions_most}
 use Rattle.abi.specs.Words.{head_words, function_words}
-use Rattle.group.specs.Blank.{blank_function}
-use Rattle.abi.specs.Abi.{function_numbers}
-use Rattle.abi.proofs.ListLaws.{Run, run_none, run_length, run_more, run_all}
+use Rattle.abi.proofs.ListLaws.{run_none, run_length, run_more, run_all}
 use Rattle.abi.proofs.store_functions.Goals as goal
 
 pub loop-i-init : goal.loop-i-init

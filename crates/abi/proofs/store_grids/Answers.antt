@@ -1,14 +1,10 @@
 -- `store_grids` meets its contract.
-use Prim.Native.Nat.{◌-◌}
 use mathlib.Core.Path.{◌≡◌, refl, sym, ap}
-use borrow.Author.Rules.{rules}
 use native.Mathlib.Omega.{arith}
-use lib.ListN.{length, get_or}
+use lib.ListN.{length}
 use Rattle.group.specs.Numbers.{grids_most}
 use Rattle.abi.specs.Words.{grid_words, grids_from}
-use Rattle.group.specs.Record.{no_grid}
-use Rattle.abi.specs.Abi.{grid_numbers}
-use Rattle.abi.proofs.ListLaws.{Run, run_none, run_length, run_more, run_all}
+use Rattle.abi.proofs.ListLaws.{run_none, run_length, run_more, run_all}
 use Rattle.abi.proofs.store_grids.Goals as goal
 
 pub loop-i-init : goal.loop-i-init

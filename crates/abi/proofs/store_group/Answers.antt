@@ -1,6 +1,5 @@
 -- `store_group` meets its contract.
 use Rattle.abi.proofs.GroupLaws.{numbers_stored}
-use borrow.Author.Rules.{rules}
 use Rattle.abi.proofs.store_group.Goals as goal
 
 pub returns : goal.returns

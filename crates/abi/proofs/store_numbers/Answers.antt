@@ -1,10 +1,7 @@
 -- `store_numbers` meets its contract.
-use Prim.Native.Nat.{◌-◌, ◌≤◌}
-use mathlib.Core.Path.{◌≡◌, refl, ap, ◌∙◌}
-use borrow.Author.Rules.{rules}
+use mathlib.Core.Path.{refl, ap, ◌∙◌}
 use native.Mathlib.Omega.{arith}
 use lib.IntN.{pos}
-use lib.ListN.{length, take}
 use Rattle.abi.proofs.ListLaws.{sets_more}
 use Rattle.abi.proofs.NumberLaws.{told}
 use lib.Seq.{sets, length-sets, take_all}

@@ -1,13 +1,8 @@
 -- `store_numbers` meets its contract.
 use Prim.Native.Nat.{◌-◌, ◌≤◌}
-use mathlib.Core.Path.{◌≡◌, refl, ap, ◌∙◌}
-use borrow.Author.Rules.{rules}
-use native.Mathlib.Omega.{arith}
-use lib.IntN.{pos}
+use mathlib.Core.Path.{◌≡◌}
 use lib.ListN.{length, take}
-use Rattle.abi.proofs.ListLaws.{sets_more}
-use Rattle.abi.proofs.NumberLaws.{told}
-use lib.Seq.{sets, length-sets, take_all}
+use lib.Seq.{sets}
 use Rattle.abi.proofs.store_numbers.Given as goal
 
 abbrev pub invariant-loop-i : goal.invariant-loop-i

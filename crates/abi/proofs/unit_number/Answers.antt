@@ -1,7 +1,6 @@
 -- `unit_number` meets its contract.
 use mathlib.Core.Path.{sym, ap}
 use Rattle.abi.specs.Abi.{unit_number}
-use borrow.Author.Rules.{rules}
 use Rattle.abi.proofs.unit_number.Goals as goal
 
 pub returns-in-ArcSecond : goal.returns-in-ArcSecond
