@@ -1,5 +1,4 @@
 -- `choice::chosen_at` meets its contract. The loop's invariant: c is the number of the grid chosen among the first i.
-use Prim.Native.Nat.{◌≤◌, ◌-◌}
 use mathlib.Core.Path.{◌≡◌, refl}
 use native.Mathlib.Omega.{arith}
 use Rattle.numbers.specs.Lists.{at}

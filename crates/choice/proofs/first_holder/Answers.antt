@@ -1,9 +1,8 @@
 -- `choice::first_holder` meets its contract, by the loop of FirstLaws.
-use Prim.Native.Nat.{◌-◌}
 use mathlib.Core.Path.{sym, ◌∙◌}
 use native.Mathlib.Omega.{arith}
 use Rattle.numbers.specs.Lists.{at}
-use Rattle.numbers.proofs.FirstLaws.{Passed, passed_none, passed_more, passed_end, passed_found}
+use Rattle.numbers.proofs.FirstLaws.{passed_none, passed_more, passed_end, passed_found}
 use Rattle.choice.specs.Rect.{rect_holds}
 use Rattle.choice.proofs.HolderLaws.{held_at, held_none}
 use Rattle.choice.proofs.first_holder.Goals as goal

@@ -5,7 +5,6 @@ use Prim.Native.Nat.{ℕ, zero, suc, ◌-◌}
 use native.Mathlib.Omega.{arith}
 use lib.Dec.{ltb}
 use Rattle.choice.specs.Blocks.{blocks}
-use borrow.Author.Rules.{rules}
 use Rattle.choice.proofs.is_blocker.Goals as goal
 
 -- none, and a grid

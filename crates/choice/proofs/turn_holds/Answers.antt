@@ -1,6 +1,5 @@
 -- `choice::turn_holds` meets its contract.
 use Rattle.choice.proofs.TurnHolds.{turn_holds_tests}
-use borrow.Author.Rules.{rules}
 use Rattle.choice.proofs.turn_holds.Goals as goal
 
 pub returns : goal.returns

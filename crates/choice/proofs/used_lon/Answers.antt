@@ -1,7 +1,6 @@
 -- `choice::used_lon` meets its contract.
 use mathlib.Core.Path.{sym, ◌∙◌}
 use Rattle.choice.proofs.TurnHolds.{used_here, used_east, used_west}
-use borrow.Author.Rules.{rules}
 use Rattle.choice.proofs.used_lon.Goals as goal
 
 pub returns-then-rect_holds : goal.returns-then-rect_holds
