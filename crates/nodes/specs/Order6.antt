@@ -1,5 +1,5 @@
 -- Order 6 of document 02 in its own words, of loading.
-use Rattle.std.specs.Prelude.{ℕ, ◌<◌, ◌≡◌, true, false, ◌⊎◌, ◌↔◌, ℤ, nat_abs, Float}
+use Rattle.std.specs.Prelude.{ℕ, ◌<◌, ◌≡◌, true, false, ◌⊎◌, ◌↔◌, nat_abs, Float}
 use Rattle.group.specs.Numbers.{mark}
 use Rattle.nodes.specs.Load.{marks, steps, infinite, refused_float}
 

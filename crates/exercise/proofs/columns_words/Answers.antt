@@ -84,7 +84,6 @@ scale_on-scale-requires c =
     let verdict : Verdict = c.judge_call-verdict.result in
     let accepted : verdict ≡ Accepted = counted_some verdict (length c.args.lons.now) c.loop-i.i (subst (λ (n : ℕ). c.loop-i.i < n) c.counted-count.ensures c.loop-i-test.true) in
     let told : many_verdict g (length c.args.nodes.now) c.columns_agree-agree.result ≡ Accepted = sym c.judge_call-verdict.ensures.0 ∙ accepted in
-    let q = c in let s = c in
     (call_judged (g) (length c.args.nodes.now) _ (told), c.loop-i.invariant.1)
 
 pub look_one-a-requires : goal.look_one-a-requires
@@ -93,7 +92,6 @@ look_one-a-requires c =
     let verdict : Verdict = c.judge_call-verdict.result in
     let accepted : verdict ≡ Accepted = counted_some verdict (length c.args.lons.now) c.loop-i.i (subst (λ (n : ℕ). c.loop-i.i < n) c.counted-count.ensures c.loop-i-test.true) in
     let told : many_verdict g (length c.args.nodes.now) c.columns_agree-agree.result ≡ Accepted = sym c.judge_call-verdict.ensures.0 ∙ accepted in
-    let q = c in let s = c in
     (call_ready (g) (length c.args.nodes.now) _ (told) _ (c.judge_call-verdict.ensures.1 (accepted)), c.scale_on-scale.ensures)
 
 pub store_answer-requires : goal.store_answer-requires
@@ -107,7 +105,7 @@ store_answer-requires c =
     × (length c.args.results.now ≡ length c.args.lons.now * answer_words) =
     columns_lengths (length c.args.lons.now) (length c.args.lats.now) (length c.args.days.now) (length c.args.results.now)
     (sym c.columns_agree-agree.ensures ∙ call_agree g (length c.args.nodes.now) c.columns_agree-agree.result told) in
-    let q = c in let e = run_length _ _ _ 0 _ _ c.loop-i.invariant.0 in omega (arith, below, (lengths).2)
+    let e = run_length _ _ _ 0 _ _ c.loop-i.invariant.0 in omega (arith, below, (lengths).2)
 
 pub loop-i-preserved : goal.loop-i-preserved
 loop-i-preserved c =
@@ -115,7 +113,7 @@ loop-i-preserved c =
     let verdict : Verdict = c.judge_call-verdict.result in
     let accepted : verdict ≡ Accepted = counted_some verdict (length c.args.lons.now) c.loop-i.i (subst (λ (n : ℕ). c.loop-i.i < n) c.counted-count.ensures c.loop-i-test.true) in
     let told : many_verdict g (length c.args.nodes.now) c.columns_agree-agree.result ≡ Accepted = sym c.judge_call-verdict.ensures.0 ∙ accepted in
-    let q = c in let a = c.args in let i = c.loop-i.i in let ns = a.nodes.now in let n = length ns in
+    let a = c.args in let i = c.loop-i.i in let ns = a.nodes.now in let n = length ns in
     let found = c.look_one-a in let scaled = c.scale_on-scale.ensures in
     let lon = machine c.p-1.given refl in let lat = machine c.p-in-loop-i-1.given refl in let day = machine c.day-1.given refl in (
       run_more (λ k. answer_numbers (answer_at (g) ns (position_at a.lons.now a.lats.now a.days.now k))) answer_words _ _ 0 i c.loop-i.results (stored_numbers found.result) _

@@ -25,7 +25,7 @@ slice_bounds-rank_rows-end c =
     sym (length-take-le c.grid_count-n.result c.args.ranks.now (ranked))
 
 pub slice_bounds-rank_rows-end-3 : goal.slice_bounds-rank_rows-end-3
-slice_bounds-rank_rows-end-3 c = let s = c in sym (rows_length c.args.tables.now c.requires.1)
+slice_bounds-rank_rows-end-3 c = sym (rows_length c.args.tables.now c.requires.1)
 
 pub rank_rows-count-requires : goal.rank_rows-count-requires
 rank_rows-count-requires c =
@@ -33,7 +33,7 @@ rank_rows-count-requires c =
     let few : c.grid_count-n.result ≤ grids_most = omega (arith, c.grid_count-n.ensures, (accepted_head g c.requires.0).grids) in
     let ranked : c.grid_count-n.result ≤ length c.args.ranks.now = omega (arith, few, c.requires.2.room.room.ranks_room) in
     let room : g.grids * 4 ≤ length c.args.sides.now = omega (arith, (accepted_head g c.requires.0).grids, c.requires.2.room.room.sides_room) in
-    let q = c in let s = c in let n = few in
+    let q = c in let n = few in
     let e = length-take-le q.grid-count.result c.args.ranks.now (ranked) in (
       omega arith,
       subst (SidesTurnable c.args.sides.now) (sym (e ∙ q.grid-count.ensures)) (flat_turnable (g) c.requires.0 c.args.sides.now c.args.ranks.now c.requires.2.flat.sided (room)),
@@ -56,7 +56,6 @@ bounds-tables-1600 c =
     subst (λ (l : List ℕ). P (put_mid shifts_from rows_most (put_mid owners_from rows_most (r ++ drop owners_from (t)) a) l)) (sym eb)
     (subst (λ (l : List ℕ). P (put_mid shifts_from rows_most (put_mid owners_from rows_most (r ++ drop owners_from (t)) l) (sets (take rows_most (drop shifts_from (put_mid owners_from rows_most (r ++ drop owners_from (t)) l))) 0 (v)))) (sym ea)
     h) in
-    let q = c in
     stored (λ l. count_index < length l) _ _ c.copy_front.ensures c.copy_front-2.ensures
     (omega (arith, shifted_length (t) (r) (o) (v) 0 c.requires.1 (er) (eo) (ev)))
 
@@ -76,7 +75,7 @@ shape_of-tables c =
     subst (λ (l : List ℕ). P (put_mid shifts_from rows_most (put_mid owners_from rows_most (r ++ drop owners_from (t)) a) l)) (sym eb)
     (subst (λ (l : List ℕ). P (put_mid shifts_from rows_most (put_mid owners_from rows_most (r ++ drop owners_from (t)) l) (sets (take rows_most (drop shifts_from (put_mid owners_from rows_most (r ++ drop owners_from (t)) l))) 0 (v)))) (sym ea)
     h) in
-    let q = c in let k = c.rank_rows-count.result in
+    let k = c.rank_rows-count.result in
     stored (λ l. length (set l count_index k) ≡ length (t)) _ _ c.copy_front.ensures c.copy_front-2.ensures
     (finished_length (t) (r) (o) (v) k c.requires.1 (er) (eo) (ev) ∙ sym c.requires.1)
 
@@ -100,7 +99,7 @@ returns c =
     let few : c.grid_count-n.result ≤ grids_most = omega (arith, c.grid_count-n.ensures, (accepted_head g c.requires.0).grids) in
     let ranked : c.grid_count-n.result ≤ length c.args.ranks.now = omega (arith, few, c.requires.2.room.room.ranks_room) in
     let room : g.grids * 4 ≤ length c.args.sides.now = omega (arith, (accepted_head g c.requires.0).grids, c.requires.2.room.room.sides_room) in
-    let q = c in let k = c.rank_rows-count.result in
-    let s = c in let n = c.grid_count-n in
+    let k = c.rank_rows-count.result in
+    let n = c.grid_count-n in
     stored (λ l. Tabled (g) (set l count_index k)) _ _ c.copy_front.ensures c.copy_front-2.ensures
     (tabled (t) (r) (o) (v) k c.requires.1 (er) (eo) (ev) (g) n.result c.args.sides.now c.args.ranks.now n.ensures (ranked) (room) c.requires.2.flat c.rank_rows-count.ensures.0)

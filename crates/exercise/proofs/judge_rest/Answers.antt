@@ -13,7 +13,7 @@ returns-then-not-agree c =
     (sym (many_12 (group_of_words a.words.now) a.nodes a.agree (not-true _ c.if-not-agree.true)), λ e. absurd (no_acceptance _ e))
 
 pub judge_nodes-verdict-requires : goal.judge_nodes-verdict-requires
-judge_nodes-verdict-requires c = let s = c in (c.requires.0, c.requires.2.flat.framed, c.requires.2.room.frames_room)
+judge_nodes-verdict-requires c = (c.requires.0, c.requires.2.flat.framed, c.requires.2.room.frames_room)
 
 pub returns-in-Refused : goal.returns-in-Refused
 returns-in-Refused c =

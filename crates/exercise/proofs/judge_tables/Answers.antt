@@ -23,7 +23,7 @@ judge_rest-requires c =
     let t : List ℕ = c.args.tables.now in
     let frames : List ℕ = c.judge_into-verdict.last.1.1.1.0 in
     let ef : length frames ≡ grids_most * 7 = c.judge_into-verdict.kept.1.1.1.0 ∙ frames_length t c.requires in
-    let q = c in let j = c.judge_into-verdict in (
+    let j = c.judge_into-verdict in (
       accepted,
       framed_length (t) (frames) c.requires (ef),
       record {
@@ -44,5 +44,5 @@ pub returns-in-Accepted : goal.returns-in-Accepted
 returns-in-Accepted c =
     let g : Group = group_of_words c.args.words.now in
     let accepted : judged g ≡ Accepted = sym c.judge_into-verdict.ensures.0 ∙ c.in-Accepted.is in
-    let q = c in let a = c.args in let j = c.judge_rest.ensures in
+    let a = c.args in let j = c.judge_rest.ensures in
     (j.0 ∙ sym (many_accepted (g) a.nodes a.agree (accepted)), j.1)

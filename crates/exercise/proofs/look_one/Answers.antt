@@ -16,14 +16,14 @@ pub look_ready-requires : goal.look_ready-requires
 look_ready-requires c =
     let g : Group = group_of_words c.args.words.now in
     let day : c.args.scale.day ≡ c.args.position.day = ap (λ (z : Scale). z.day) c.requires.1 ∙ scale_day g c.args.position.day in
-    let s = c in (c.requires.0, c.requires.1 ∙ ap (scale_for (g)) (sym (day)))
+    (c.requires.0, c.requires.1 ∙ ap (scale_for (g)) (sym (day)))
 
 pub returns : goal.returns
 unfolding answer_at
 returns c =
     let g : Group = group_of_words c.args.words.now in
     let day : c.args.scale.day ≡ c.args.position.day = ap (λ (z : Scale). z.day) c.requires.1 ∙ scale_day g c.args.position.day in
-    let s = c in let a = c.args in let found = c.look_ready.ensures in
+    let a = c.args in let found = c.look_ready.ensures in
     c.answer_of.ensures
     ∙ answer_stored (g) a.nodes.now _ a.scale.day c.look_ready.result found
     ∙ ap answer_record (found ∙ ap (looked (g) a.nodes.now (point_at a.position)) (day))

@@ -30,7 +30,7 @@ use Rattle.exercise.proofs.look_ready.Goals as goal
 pub returns-then-not-point_fits : goal.returns-then-not-point_fits
 returns-then-not-point_fits c =
     let g : Group = group_of_words c.args.words.now in
-    let s = c in let a = c.args in
+    let a = c.args in
     sym
     (looked_accepted (g) a.nodes.now a.point a.scale.day c.requires.0.accepted
     ∙ looked_6 (g) a.nodes.now a.point a.scale.day (sym c.point_fits.ensures ∙ not-true _ c.if-not-point_fits.true))
@@ -38,7 +38,7 @@ returns-then-not-point_fits c =
 pub returns-then-not-day_fits : goal.returns-then-not-day_fits
 returns-then-not-day_fits c =
     let g : Group = group_of_words c.args.words.now in
-    let s = c in let a = c.args in
+    let a = c.args in
     sym
     (looked_accepted (g) a.nodes.now a.point a.scale.day c.requires.0.accepted
     ∙ looked_9 (g) a.nodes.now a.point a.scale.day
@@ -46,10 +46,10 @@ returns-then-not-day_fits c =
     (day_told {t = a.scale.day} (record { sfits = c.struct_told-1.given.0.1 }) c.day_fits.ensures ∙ not-true _ c.if-not-day_fits.true))
 
 pub bounds-tables-1600 : goal.bounds-tables-1600
-bounds-tables-1600 c = let s = c in omega (arith, c.requires.0.tabled.long)
+bounds-tables-1600 c = omega (arith, c.requires.0.tabled.long)
 
 pub slice_bounds-look_ranked-end : goal.slice_bounds-look_ranked-end
-slice_bounds-look_ranked-end c = let s = c in sym (rows_length c.args.tables.now c.requires.0.tabled.long)
+slice_bounds-look_ranked-end c = sym (rows_length c.args.tables.now c.requires.0.tabled.long)
 
 pub look_ranked-requires : goal.look_ranked-requires
 look_ranked-requires c =
@@ -66,7 +66,7 @@ look_ranked-requires c =
     let factor : to_z w64 (of_z w64 c.args.scale.factor) ≡ factor_of (g).function (g).functions c.args.scale.day =
     to_z-of_z w64 c.args.scale.factor (record { sfits = c.struct_told-2-1.given.1.0.1 })
     ∙ ap (λ (s : Scale). s.factor) (c.requires.1 ∙ scale_in (g) c.args.scale.day day) in
-    let s = c in let a = c.args in let t = c.requires.0.tabled in let l = a.tables.now in let e = c.requires.0.accepted in let m = few_rows (g) l e t in (
+    let a = c.args in let t = c.requires.0.tabled in let l = a.tables.now in let e = c.requires.0.accepted in let m = few_rows (g) l e t in (
       rw c.parameter_count.ensures
           (ranked_laid (g) a.nodes.now a.point a.scale.day (ready) t.sides t.ranks (frames_in l) t.flat c.lat_from_least-y.ensures t.room
           (rows_in l) (owners_in l) (shifts_in l) (at l count_index) t.rows c.lon_from_least-x.ensures
@@ -90,7 +90,7 @@ returns c =
     let factor : to_z w64 (of_z w64 c.args.scale.factor) ≡ factor_of (g).function (g).functions c.args.scale.day =
     to_z-of_z w64 c.args.scale.factor (record { sfits = c.struct_told-2-1.given.1.0.1 })
     ∙ ap (λ (s : Scale). s.factor) (c.requires.1 ∙ scale_in (g) c.args.scale.day day) in
-    let q = c in let s = c in let a = c.args in let t = c.requires.0.tabled in let l = a.tables.now in
+    let a = c.args in let t = c.requires.0.tabled in let l = a.tables.now in
     let x = c.lon_from_least-x.result in let y = c.lat_from_least-y.result in
     c.look_ranked.ensures
     ∙ (λ i. fix_ranked (rows_in l) (owners_in l) (shifts_in l) (frames_in l) (at l count_index) (c.parameter_count.ensures i) a.nodes.now (to_z w64 (of_z w64 a.scale.factor)) x y)

@@ -12,7 +12,7 @@ use Rattle.exercise.proofs.lookup_columns.Goals as goal
 
 pub returns : goal.returns
 returns c =
-    let s = c in let a = c.args in let h = machine_shaped a.group _ c.well_formed.0 in
+    let a = c.args in let h = machine_shaped a.group _ c.well_formed.0 in
     let agree = columns_agree (length a.lons.now) (length a.lats.now) (length a.days.now) (length a.results.now) in
     let e = c.columns_words.ensures in let n = c.numbers_of-words.ensures in (
       e.0 ∙ ap (λ (ns : List ℤ). many_verdict (group_of_words ns) (length a.nodes.now) agree) n ∙ many_stored a.group h (length a.nodes.now) agree,

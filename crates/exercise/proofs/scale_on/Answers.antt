@@ -20,19 +20,18 @@ use Rattle.exercise.proofs.scale_on.Goals as goal
 
 pub returns-then-day-before : goal.returns-then-day-before
 returns-then-day-before c =
-    let s = c in let a = c.args in
+    let a = c.args in
     let same = sym (to_z-of_z w64 a.day c.ranges.day) ∙ ap (to_z w64) c.if-day-before.true ∙ to_z-of_z w64 a.before.day (record { sfits = c.struct_told-1.given.0.1 }) in
     c.requires.1 ∙ ap (scale_for (group_of_words a.words.now)) (sym same)
 
 pub returns-then-not-day_fits : goal.returns-then-not-day_fits
 returns-then-not-day_fits c =
-    let s = c in
     (λ i. record { day = to_z-of_z w64 c.args.day c.ranges.day i; factor = pos 0 })
     ∙ sym (scale_out (group_of_words c.args.words.now) c.args.day (day_told c.ranges.day c.day_fits.ensures ∙ not-true _ c.if-not-day_fits.true))
 
 pub factor_on-factor-requires : goal.factor_on-factor-requires
 factor_on-factor-requires c =
-    let s = c in let ns = c.args.words.now in let e = c.function_count.ensures in (
+    let ns = c.args.words.now in let e = c.function_count.ensures in (
       (search rules),
       omega (arith, (accepted_head (group_of_words ns) c.requires.0).functions, e),
       subst (FunctionsFit ns) (sym e) (rows_fit ns c.requires.0),
@@ -41,7 +40,7 @@ factor_on-factor-requires c =
 
 pub returns : goal.returns
 returns c =
-    let s = c in let ns = c.args.words.now in
+    let ns = c.args.words.now in
     let day = to_z-of_z w64 c.args.day c.ranges.day in
     let factor =
     to_z-of_z w64 c.factor_on-factor.result (record { sfits = c.factor_on-factor.type-inv }) ∙ c.factor_on-factor.ensures

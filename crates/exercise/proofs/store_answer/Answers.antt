@@ -10,7 +10,6 @@ use Rattle.exercise.proofs.store_answer.Goals as goal
 
 pub returns : goal.returns
 returns c =
-    let e = c in
     let a = c.args in
     let t = c.struct_told-1.given in
     let number = told c.as_stored.type-inv c.as_stored.ensures in

@@ -2,11 +2,10 @@
 use mathlib.Core.Path.{◌≡◌, refl, sym, ◌∙◌, subst}
 use mathlib.Core.List.{List}
 use mathlib.Core.Bool.{Bool, true, ◌&&◌}
-use Prim.Native.Nat.{ℕ, ◌+◌, ◌-◌, ◌≤◌}
+use Prim.Native.Nat.{ℕ, ◌+◌}
 use native.Mathlib.Omega.{arith}
 use lib.Ieee.{Float, nan}
 use lib.ListN.{get_or}
-use borrow.Author.Rules.{rules}
 use Rattle.numbers.proofs.Bools.{and_left, and_right}
 use Rattle.numbers.proofs.Nearest.{three_ways}
 use Rattle.nodes.specs.Plain.{plain_float, AllPlain}
@@ -34,7 +33,6 @@ loop-i-smaller c = omega arith
 pub loop-i-preserved : goal.loop-i-preserved
 unfolding plain_float
 loop-i-preserved c =
-    let l = c in
     let a = c.args in
     (omega arith, omega arith, more a.hi a.flag a.floats.now a.a c.loop-i.i c.loop-i.all _ c.loop-i.invariant.2 refl)
 

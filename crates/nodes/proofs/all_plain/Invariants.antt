@@ -1,15 +1,8 @@
 -- `all_plain`: the floats before i are plain where `all` says so.
-use mathlib.Core.Path.{◌≡◌, refl, sym, ◌∙◌, subst}
-use mathlib.Core.List.{List}
-use mathlib.Core.Bool.{Bool, true, ◌&&◌}
-use Prim.Native.Nat.{ℕ, ◌+◌, ◌-◌, ◌≤◌}
-use native.Mathlib.Omega.{arith}
-use lib.Ieee.{Float, nan}
-use lib.ListN.{get_or}
-use borrow.Author.Rules.{rules}
-use Rattle.numbers.proofs.Bools.{and_left, and_right}
-use Rattle.numbers.proofs.Nearest.{three_ways}
-use Rattle.nodes.specs.Plain.{plain_float, AllPlain}
+use mathlib.Core.Path.{◌≡◌}
+use mathlib.Core.Bool.{true}
+use Prim.Native.Nat.{◌-◌, ◌≤◌}
+use Rattle.nodes.specs.Plain.{AllPlain}
 use Rattle.nodes.proofs.all_plain.Given as goal
 
 abbrev pub invariant-loop-i : goal.invariant-loop-i

@@ -1,9 +1,7 @@
 -- `fill`: block after block.
 use Prim.Native.Nat.{◌-◌, ◌≤◌}
-use native.Mathlib.Omega.{arith}
 use lib.ListN.{length}
 use Rattle.nodes.specs.Plain.{Filled}
-use Rattle.nodes.proofs.Blocks.{filled_none, filled_all}
 use Rattle.nodes.proofs.fill.Given as goal
 
 abbrev pub invariant-loop-at : goal.invariant-loop-at

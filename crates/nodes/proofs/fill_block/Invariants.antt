@@ -1,19 +1,6 @@
 -- `fill_block`: node by node, or, where all floats are plain, by their bits.
-use mathlib.Core.Path.{◌≡◌, ◌∙◌, subst}
-use mathlib.Core.Bool.{true}
-use Prim.Native.Nat.{ℕ, ◌-◌, ◌≤◌}
-use native.Mathlib.Omega.{arith}
-use lib.Ieee.{Float, nan, binary32, fits}
-use lib.Ieee.Bits.{is_true}
-use lib.ListN.{get_or}
-use mir.Syntax.{w32}
-use mir.ValLaws.{to_z-of_z}
-use borrow.Author.Rules.{rules}
-use borrow.Author.Tests.{not-false}
-use Rattle.nodes.specs.Plain.{AllPlain, Filled, greatest}
-use Rattle.nodes.proofs.High.{ByBits, by_bits}
-use Rattle.nodes.proofs.Plain.{plain_unmarked}
-use Rattle.nodes.proofs.Blocks.{none_refused, filled_more}
+use Prim.Native.Nat.{◌-◌, ◌≤◌}
+use Rattle.nodes.specs.Plain.{Filled}
 use Rattle.nodes.proofs.fill_block.Given as goal
 
 abbrev pub invariant-loop-k : goal.invariant-loop-k

@@ -1,10 +1,9 @@
 -- `fill_each`: the first k nodes are those of the first k floats.
 use mathlib.Core.Path.{◌≡◌, ◌∙◌, subst}
-use Prim.Native.Nat.{ℕ, ◌-◌, ◌≤◌}
+use Prim.Native.Nat.{ℕ}
 use native.Mathlib.Omega.{arith}
 use mir.Syntax.{w32}
 use mir.ValLaws.{to_z-of_z}
-use borrow.Author.Rules.{rules}
 use Rattle.nodes.specs.Plain.{Filled}
 use Rattle.nodes.proofs.Blocks.{none_refused, filled_more}
 use Rattle.nodes.proofs.fill_each.Goals as goal
@@ -17,8 +16,6 @@ bounds-floats-k c = omega arith
 
 pub node-requires : goal.node-requires
 node-requires c =
-    let l = c in
-    let s = c in
     (c.requires.q_le_quantum_most.0, none_refused c.args.q c.args.flag c.args.floats.now c.loop-k.k c.requires.filled.1 (omega arith))
 
 pub bounds-nodes-k : goal.bounds-nodes-k
@@ -32,23 +29,20 @@ loop-k-smaller c = omega arith
 
 pub loop-k-preserved : goal.loop-k-preserved
 loop-k-preserved c =
-    let l = c in
     let a = c.args in (
       omega arith,
       filled_more a.q a.flag a.floats.now c.loop-k.nodes c.loop-k.k _ c.loop-k.invariant.1 (omega arith)
-          (to_z-of_z w32 _ (record { sfits = c.node.type-inv }) ∙ c.node.ensures),
+          (to_z-of_z w32 _ (record { sfits = c.node.type_inv }) ∙ c.node.ensures),
     )
 
 pub shape_of-nodes : goal.shape_of-nodes
 shape_of-nodes c =
-    let l = c in
     let m = c.loop-k.invariant.1.many in
     let n = c.requires.filled.0.many in
     omega arith
 
 pub returns : goal.returns
 returns c =
-    let l = c in
     let a = c.args in
     let e : c.loop-k.k ≡ a.e = omega arith in
     subst (λ (k : ℕ). Filled a.q a.flag a.floats.now k c.loop-k.nodes) e c.loop-k.invariant.1

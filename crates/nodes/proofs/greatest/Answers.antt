@@ -6,7 +6,6 @@ use native.Mathlib.Omega.{arith}
 use lib.Dec.{T}
 use lib.Ieee.{binary32}
 use lib.Ieee.Bits.{nan_bits_above}
-use borrow.Author.Rules.{rules}
 use borrow.Author.Tests.{le-ltb}
 use Rattle.nodes.specs.Plain.{greatest}
 use Rattle.nodes.proofs.greatest.Goals as goal

@@ -8,7 +8,6 @@ use lib.Dec.{ltb, eqb}
 use lib.IntN.{ℤ}
 use lib.Ieee.{Float, nan}
 use lib.ListN.{length, get_or}
-use borrow.Author.Rules.{rules}
 use borrow.Author.Tests.{lt-ltb, le-ltb, eq-eqb, ne_eqb}
 use Rattle.numbers.proofs.FirstLaws.{first_le}
 use Rattle.group.specs.Refusals.{refusal, refuse_first, lent_after}
@@ -60,15 +59,17 @@ pub returns-then-quantum-gt-QUANTUM_MOST : goal.returns-then-quantum-gt-QUANTUM_
 unfolding lent_after
 returns-then-quantum-gt-QUANTUM_MOST c =
     let a = c.args in
-    answered a.quantum a.flag a.floats.now a.nodes.now (Refused (refusal 2 0))
-    (by_quantum a.quantum a.flag a.floats.now a.nodes.now c.if-quantum-gt-QUANTUM_MOST.true)
+    let e = answered a.quantum a.flag a.floats.now a.nodes.now (Refused (refusal 2 0))
+    (by_quantum a.quantum a.flag a.floats.now a.nodes.now c.if-quantum-gt-QUANTUM_MOST.true) in
+    record { value = e.0; nodes_after = e.1 }
 
 pub returns-then-floats-nodes : goal.returns-then-floats-nodes
 unfolding lent_after
 returns-then-floats-nodes c =
     let a = c.args in
-    answered a.quantum a.flag a.floats.now a.nodes.now (Refused (refusal 12 0))
-    (by_count a.quantum a.flag a.floats.now a.nodes.now c.if-quantum-gt-QUANTUM_MOST.false c.if-floats-nodes.true)
+    let e = answered a.quantum a.flag a.floats.now a.nodes.now (Refused (refusal 12 0))
+    (by_count a.quantum a.flag a.floats.now a.nodes.now c.if-quantum-gt-QUANTUM_MOST.false c.if-floats-nodes.true) in
+    record { value = e.0; nodes_after = e.1 }
 
 pub greatest-hi-requires : goal.greatest-hi-requires
 greatest-hi-requires c = c.if-quantum-gt-QUANTUM_MOST.false
@@ -79,28 +80,23 @@ first_refused-i-requires c = (c.if-quantum-gt-QUANTUM_MOST.false, c.greatest-hi.
 pub returns-then-i-floats : goal.returns-then-i-floats
 unfolding lent_after
 returns-then-i-floats c =
-    let f = c in
-    let s = c in
     let a = c.args in
-    answered a.quantum a.flag a.floats.now a.nodes.now (Refused (refusal 11 (c.first_refused-i.result + 1)))
-    (by_float a.quantum a.flag a.floats.now a.nodes.now c.if-quantum-gt-QUANTUM_MOST.false c.if-floats-nodes.false c.first_refused-i.result c.first_refused-i.ensures c.if-i-floats.true)
+    let e = answered a.quantum a.flag a.floats.now a.nodes.now (Refused (refusal 11 (c.first_refused-i.result + 1)))
+    (by_float a.quantum a.flag a.floats.now a.nodes.now c.if-quantum-gt-QUANTUM_MOST.false c.if-floats-nodes.false c.first_refused-i.result c.first_refused-i.ensures c.if-i-floats.true) in
+    record { value = e.0; nodes_after = e.1 }
 
 pub fill-requires : goal.fill-requires
 fill-requires c =
-    let f = c in
-    let s = c in
-    let a = c.args in (
-      (c.if-quantum-gt-QUANTUM_MOST.false, c.greatest-hi.ensures, c.if-floats-nodes.false),
-      all_passed a.quantum a.flag a.floats.now c.first_refused-i.result c.first_refused-i.ensures c.if-i-floats.false,
-    )
+    let a = c.args in
+    record {
+      q_le_quantum_most = (c.if-quantum-gt-QUANTUM_MOST.false, c.greatest-hi.ensures, c.if-floats-nodes.false);
+      floats_value = all_passed a.quantum a.flag a.floats.now c.first_refused-i.result c.first_refused-i.ensures c.if-i-floats.false;
+    }
 
 pub returns : goal.returns
 unfolding lent_after
 returns c =
-    let t = c in
-    let f = c in
-    let s = c in
     let a = c.args in
     let e = answered a.quantum a.flag a.floats.now a.nodes.now Done
     (by_none a.quantum a.flag a.floats.now a.nodes.now c.if-quantum-gt-QUANTUM_MOST.false c.if-floats-nodes.false c.first_refused-i.result c.first_refused-i.ensures c.if-i-floats.false) in
-    (e.0, c.fill.ensures ∙ e.1)
+    record { value = e.0; nodes_after = c.fill.ensures ∙ e.1 }

@@ -1,11 +1,10 @@
 -- `refused_from`: none from a up to j is refused.
 use mathlib.Core.Path.{◌≡◌, sym, ◌∙◌, subst}
 use mathlib.Core.Bool.{false}
-use Prim.Native.Nat.{ℕ, ◌-◌, ◌≤◌, ◌<◌}
+use Prim.Native.Nat.{ℕ}
 use native.Mathlib.Omega.{arith}
 use lib.Ieee.{nan}
 use lib.ListN.{get_or}
-use borrow.Author.Rules.{rules}
 use Rattle.numbers.proofs.Nearest.{three_ways}
 use Rattle.nodes.specs.Load.{refused_float}
 use Rattle.nodes.proofs.refused_from.Goals as goal
@@ -29,7 +28,6 @@ loop-j-smaller c = omega arith
 
 pub loop-j-preserved : goal.loop-j-preserved
 loop-j-preserved c =
-    let l = c in
     let a = c.args in (
       omega arith,
       omega arith,

@@ -1,12 +1,9 @@
 -- `refused_from`: none from a up to j is refused.
-use mathlib.Core.Path.{◌≡◌, sym, ◌∙◌, subst}
+use mathlib.Core.Path.{◌≡◌}
 use mathlib.Core.Bool.{false}
 use Prim.Native.Nat.{ℕ, ◌-◌, ◌≤◌, ◌<◌}
-use native.Mathlib.Omega.{arith}
 use lib.Ieee.{nan}
 use lib.ListN.{get_or}
-use borrow.Author.Rules.{rules}
-use Rattle.numbers.proofs.Nearest.{three_ways}
 use Rattle.nodes.specs.Load.{refused_float}
 use Rattle.nodes.proofs.refused_from.Given as goal
 

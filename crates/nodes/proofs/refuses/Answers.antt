@@ -4,7 +4,6 @@ use mathlib.Core.Bool.{not}
 use native.Mathlib.Omega.{arith}
 use lib.Dec.{T, ltb}
 use lib.Ieee.{Float, is_nan}
-use borrow.Author.Rules.{rules}
 use Rattle.group.specs.Numbers.{value_most}
 use Rattle.nodes.specs.Load.{refused_float}
 use Rattle.nodes.specs.Size.{size_of}
@@ -34,7 +33,6 @@ size-requires c =
 pub returns : goal.returns
 returns c =
     let read : Read c.args.x = unmarked _ _ c.well_formed.0.1 (sym c.marked.ensures ∙ c.if-marked.false) in
-    let e = c in
     let a = c.args in
     ap (ltb value_most) (c.size.ensures ∙ ap (size_of a.q) (read).back)
     ∙ refused_size a.q a.flag a.x (sym c.marked.ensures ∙ c.if-marked.false)

@@ -3,7 +3,6 @@ use mathlib.Core.Path.{◌≡◌, sym, ◌∙◌, subst}
 use Prim.Native.Nat.{ℕ, ◌-◌, ◌^◌, ◌≤◌, ◌<◌, min}
 use native.Mathlib.Nat.{le_of_lt, min-eq_left, min-eq_right}
 use native.Mathlib.Omega.{arith}
-use borrow.Author.Rules.{rules}
 use Rattle.numbers.proofs.Nearest.{nearest_most}
 use Rattle.nodes.proofs.ScaledLaws.{large, product, quotient, small, shift_up, shift_lt}
 use Rattle.nodes.proofs.scaled.Goals as goal
@@ -25,7 +24,6 @@ returns-then-up-ge149 c =
 
 pub returns-then-down-gt24 : goal.returns-then-down-gt24
 returns-then-down-gt24 c =
-    let s = c in
     let a = c.args in
     uncut 0 _ (sym (quotient a.digits a.up (omega arith) ∙ small a.digits (149 - a.up) c.requires.0 c.if-down-gt24.true)) (omega arith)
 

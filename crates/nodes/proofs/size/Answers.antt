@@ -3,7 +3,6 @@ use mathlib.Core.Path.{sym, ◌∙◌}
 use Prim.Native.Nat.{◌%◌, ◌/◌}
 use lib.Dec.{leb}
 use lib.Ieee.{of_bits}
-use borrow.Author.Rules.{rules}
 use Rattle.nodes.proofs.Fields.{field_zero, field_some, field_ones}
 use Rattle.nodes.proofs.size.Goals as goal
 

@@ -7,7 +7,6 @@ use lib.IntN.{ℤ, pos, neg_ℤ, ◌-ℤ◌, +ℤ_idl}
 use mir.Syntax.{w32}
 use mir.Val.{SFits, to_z}
 use mir.ValLaws.{to_z_pos}
-use borrow.Author.Rules.{rules}
 use Rattle.numbers.proofs.Machine.{through}
 use Rattle.nodes.specs.Load.{signed}
 use Rattle.nodes.proofs.with_sign.Goals as goal

@@ -16,8 +16,6 @@ of_fix p x y a b c r d e f = rw (d, e) (ap (record_of p) f)
 
 pub returns-in-Fix : goal.returns-in-Fix
 returns-in-Fix c =
-    let east = c in
-    let known = c in
     let p = c.args.point in
     let v = c.answer-1.given in
     of_fix p c.degrees.result c.degrees-in-Fix.result v.0.0 v.0.1.0 v.0.1.1.0 _

@@ -66,10 +66,6 @@ handed_on-requires c = tt
 pub returns-in-Fix : goal.returns-in-Fix
 returns-in-Fix c =
     let within : admitted c.args.quantum c.args.parameters ≡ true = sym c.admits.ensures ∙ not-false _ c.if-not-admits.false in
-    let second = c in
-    let first = c in
-    let known = c in
-    let else = c in
     let a = c.args in
     let f = c.in-Fix.f in
     is_fix a.quantum a.parameters a.found f c.shown_shift.result c.shown_shift-in-Fix.result c.shown_shift-in-Fix-2.result (within) c.in-Fix.is
@@ -80,7 +76,5 @@ returns-in-Fix c =
 pub returns-in-Refused : goal.returns-in-Refused
 returns-in-Refused c =
     let within : admitted c.args.quantum c.args.parameters ≡ true = sym c.admits.ensures ∙ not-false _ c.if-not-admits.false in
-    let known = c in
-    let else = c in
     let a = c.args in
     is_refused a.quantum a.parameters a.found c.in-Refused.r c.handed_on.result (within) c.in-Refused.is c.handed_on.ensures

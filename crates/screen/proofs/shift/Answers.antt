@@ -8,6 +8,5 @@ use Rattle.screen.proofs.shift.Goals as goal
 pub returns : goal.returns
 unfolding shift_of
 returns c =
-    let s = c in
     ap (λ (x : Float). mul binary64 x c.power.result) (c.nearest_i64_to_f64.ensures ∙ ap (of_int binary64) (to_z-of_z w64 c.args.steps c.ranges.steps))
     ∙ ap (mul binary64 (of_int binary64 c.args.steps)) c.power.ensures

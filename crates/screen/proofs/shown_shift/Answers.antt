@@ -8,7 +8,6 @@ use Rattle.screen.proofs.shown_shift.Goals as goal
 pub returns-then-p-parameters : goal.returns-then-p-parameters
 unfolding shown_shift
 returns-then-p-parameters c =
-    let s = c in
     c.shift.ensures
     ∙ ap (shift_of c.args.q) (to_z-of_z w64 c.args.steps c.ranges.steps)
     ∙ rw (lt-ltb _ _ c.if-p-parameters.true)
