@@ -2,7 +2,6 @@
 use mathlib.Core.Logic.{inl, inr}
 use native.Mathlib.Omega.{arith}
 use Rattle.region.proofs.SearchLaws.{earlier_alone, earlier_first, earlier_second}
-use borrow.Author.Rules.{rules}
 use Rattle.region.proofs.earlier_spot.Goals as goal
 
 pub returns-in_default-b : goal.returns-in_default-b

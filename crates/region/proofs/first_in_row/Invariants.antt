@@ -1,13 +1,9 @@
 -- `region::first_in_row` meets its contract. The loop's invariant: rectangles hold all from west up to below x, in each row from y to top,
 -- and of those walked through none holds x.
 use Prim.Native.Nat.{◌≤◌, ◌-◌, ◌+◌, ◌*◌}
-use mathlib.Core.Path.{◌≡◌, refl, sym, ◌∙◌}
-use mathlib.Core.Bool.{false}
-use native.Mathlib.Omega.{arith}
-use Rattle.choice.specs.Rect.{east_of}
+use mathlib.Core.Path.{◌≡◌}
 use Rattle.region.specs.Free.{rect_count}
-use Rattle.region.proofs.FreeLaws.{Shut-to, Walked, free_is, shut_more, walked_none, walked_by, walked_ahead, walked_on, less_left}
-use borrow.Author.Rules.{rules}
+use Rattle.region.proofs.FreeLaws.{Shut-to, Walked}
 use Rattle.region.proofs.first_in_row.Given as goal
 
 abbrev pub invariant-loop-i : goal.invariant-loop-i

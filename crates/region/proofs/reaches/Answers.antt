@@ -1,7 +1,6 @@
 -- `region::reaches` meets its contract.
 use mathlib.Core.Path.{refl}
 use Rattle.region.specs.Free.{reaches}
-use borrow.Author.Rules.{rules}
 use Rattle.region.proofs.reaches.Goals as goal
 
 pub returns : goal.returns
