@@ -6,7 +6,6 @@ use extent::{LatSpan, LonSpan};
 use fix::Lookup;
 use group::{Group, Latitude, Longitude, MARK, Point, Refusal, Verdict};
 use inforce::{Area, GridInForce, InForce, Uncovered};
-use libc::STDOUT_FILENO;
 use nodes::Loaded;
 
 // The group of an accepted header text.
@@ -56,269 +55,287 @@ fn area(west: i64, east: i64, south: i64, north: i64) -> Area {
 }
 
 // Writes text to standard output.
-fn say(text: &[u8]) {
-    io::write_all(STDOUT_FILENO, text);
+fn say(rt: &impl Print, text: &str) -> io::Result<()> {
+    print!(rt; "{text}")
 }
 
 // Writes a number that is not below zero.
-fn say_count(n: u64) {
-    io::print_decimal(STDOUT_FILENO, n);
+fn say_count(rt: &impl Print, n: u64) -> io::Result<()> {
+    print!(rt; "{n}")
 }
 
 // Writes a number, led by a minus sign where it is below zero.
-fn say_number(z: i64) {
+fn say_number(rt: &impl Print, z: i64) -> io::Result<()> {
     if numbers::negative(z) {
-        say(b"-");
+        say(rt, "-")?;
     }
-    say_count(numbers::magnitude(z));
+    say_count(rt, numbers::magnitude(z))
 }
 
 // Writes a longitude and a latitude, in mas.
-fn say_point(lon: Longitude, lat: Latitude) {
-    say(b"(");
-    say_number(lon.0);
-    say(b", ");
-    say_number(lat.0);
-    say(b")");
+fn say_point(rt: &impl Print, lon: Longitude, lat: Latitude) -> io::Result<()> {
+    say(rt, "(")?;
+    say_number(rt, lon.0)?;
+    say(rt, ", ")?;
+    say_number(rt, lat.0)?;
+    say(rt, ")")
 }
 
 // Writes a refusal's number, and its place where it names one.
-fn say_refused(r: Refusal) {
-    say(b"refused ");
-    say_count(r.number);
+fn say_refused(rt: &impl Print, r: Refusal) -> io::Result<()> {
+    say(rt, "refused ")?;
+    say_count(rt, r.number)?;
     if r.place != 0 {
-        say(b" at ");
-        say_count(r.place);
+        say(rt, " at ")?;
+        say_count(rt, r.place)?;
     }
+    Ok(())
 }
 
 // What reading a header text answers: accepted, or the refusal.
-fn header(label: &[u8], text: &[u8]) {
-    say(label);
-    say(b": ");
+fn header(rt: &impl Print, label: &str, text: &[u8]) -> io::Result<()> {
+    say(rt, label)?;
+    say(rt, ": ")?;
     let reading = header::read_header(text);
     let verdict = reading.verdict;
     match verdict {
-        Verdict::Accepted => say(b"accepted"),
-        Verdict::Refused(r) => say_refused(r),
+        Verdict::Accepted => say(rt, "accepted")?,
+        Verdict::Refused(r) => say_refused(rt, r)?,
     }
-    say(b"\n");
+    say(rt, "\n")
 }
 
 // A lookup's answer at a point in mas: the chosen grid's number and its first result, or the refusal.
-fn looked(label: &[u8], group: Group, nodes: &[i32], lon: i64, lat: i64, day: i64) {
+fn looked(
+    rt: &impl Print,
+    label: &str,
+    group: Group,
+    nodes: &[i32],
+    lon: i64,
+    lat: i64,
+    day: i64,
+) -> io::Result<()> {
     let p = Point {
         lon: Longitude(lon),
         lat: Latitude(lat),
     };
-    say(label);
-    say(b" ");
-    say_point(p.lon, p.lat);
-    say(b": ");
+    say(rt, label)?;
+    say(rt, " ")?;
+    say_point(rt, p.lon, p.lat)?;
+    say(rt, ": ")?;
     match lookup::lookup(group, nodes, p, day) {
         Lookup::Fix(f) => {
-            say(b"grid ");
-            say_count(f.grid);
-            say(b", ");
-            say_number(f.first);
+            say(rt, "grid ")?;
+            say_count(rt, f.grid)?;
+            say(rt, ", ")?;
+            say_number(rt, f.first)?;
         }
-        Lookup::Refused(r) => say_refused(r),
+        Lookup::Refused(r) => say_refused(rt, r)?,
     }
-    say(b"\n");
+    say(rt, "\n")
 }
 
 // The answer in grid `basin` with no functions, where the day plays no part.
-fn looked_plain(label: &[u8], nodes: &[i32], lon: i64, lat: i64) {
-    looked(label, plain(), nodes, lon, lat, 0);
+fn looked_plain(rt: &impl Print, label: &str, nodes: &[i32], lon: i64, lat: i64) -> io::Result<()> {
+    looked(rt, label, plain(), nodes, lon, lat, 0)
 }
 
 // Writes an entry of the grids in force, behind a comma if it isn't the first.
-fn say_entry(first: bool, e: GridInForce) {
+fn say_entry(rt: &impl Print, first: bool, e: GridInForce) -> io::Result<()> {
     if !first {
-        say(b", ");
+        say(rt, ", ")?;
     }
-    say_count(e.grid);
-    say(b" at ");
-    say_point(e.lon, e.lat);
+    say_count(rt, e.grid)?;
+    say(rt, " at ")?;
+    say_point(rt, e.lon, e.lat)
 }
 
 // Writes the grids in force, each with its coordinate.
-fn say_list(list: InForce) {
+fn say_list(rt: &impl Print, list: InForce) -> io::Result<()> {
     let n = list.count;
     let mut i = 0;
     while i < 64 {
         if (i as u64) < n {
             let e = list.entries[i];
-            say_entry(i == 0, e);
+            say_entry(rt, i == 0, e)?;
         }
         i += 1;
     }
+    Ok(())
 }
 
 // The grids in force in an area, or the refusal.
-fn in_force(label: &[u8], group: Group, a: Area) {
-    say(label);
-    say(b": ");
+fn in_force(rt: &impl Print, label: &str, group: Group, a: Area) -> io::Result<()> {
+    say(rt, label)?;
+    say(rt, ": ")?;
     let list = inforce::grids_in_force(group, a);
     let verdict = list.verdict;
     match verdict {
-        Verdict::Accepted => say_list(list),
-        Verdict::Refused(r) => say_refused(r),
+        Verdict::Accepted => say_list(rt, list)?,
+        Verdict::Refused(r) => say_refused(rt, r)?,
     }
-    say(b"\n");
+    say(rt, "\n")
 }
 
 // Writes where a hole is, if there is one.
-fn say_hole(h: Uncovered) {
+fn say_hole(rt: &impl Print, h: Uncovered) -> io::Result<()> {
     if h.found {
-        say(b"at ");
-        say_point(h.lon, h.lat);
-        return;
+        say(rt, "at ")?;
+        return say_point(rt, h.lon, h.lat);
     }
-    say(b"none");
+    say(rt, "none")
 }
 
 // The hole in an area, or the refusal.
-fn hole(label: &[u8], group: Group, a: Area) {
-    say(label);
-    say(b": ");
+fn hole(rt: &impl Print, label: &str, group: Group, a: Area) -> io::Result<()> {
+    say(rt, label)?;
+    say(rt, ": ")?;
     let found = inforce::hole(group, a);
     let verdict = found.verdict;
     match verdict {
-        Verdict::Accepted => say_hole(found),
-        Verdict::Refused(r) => say_refused(r),
+        Verdict::Accepted => say_hole(rt, found)?,
+        Verdict::Refused(r) => say_refused(rt, r)?,
     }
-    say(b"\n");
+    say(rt, "\n")
 }
 
 // Writes a node's value, in steps.
-fn say_node(n: i32) {
-    say_number(n as i64);
+fn say_node(rt: &impl Print, n: i32) -> io::Result<()> {
+    say_number(rt, n as i64)
 }
 
 // The node that a float loads as at quantum 0, or the refusal.
-fn loaded(label: &[u8], x: f32) {
+fn loaded(rt: &impl Print, label: &str, x: f32) -> io::Result<()> {
     let floats = [x];
     let mut nodes = [MARK];
-    say(label);
-    say(b": ");
+    say(rt, label)?;
+    say(rt, ": ")?;
     match nodes::load_nodes(&floats, -1.0, 0, &mut nodes) {
-        Loaded::Done => say_node(nodes[0]),
-        Loaded::Refused(r) => say_refused(r),
+        Loaded::Done => say_node(rt, nodes[0])?,
+        Loaded::Refused(r) => say_refused(rt, r)?,
     }
-    say(b"\n");
+    say(rt, "\n")
 }
 
 // M1 to M3.
-fn lookups() {
+fn lookups(rt: &impl Print) -> io::Result<()> {
     let nodes = [0, 10, 20, 100, 110, 120];
-    looked_plain(b"M1", &nodes, 5, 5);
-    looked_plain(b"M2", &nodes, 20, 10);
-    looked_plain(b"M3", &nodes, 21, 10);
+    looked_plain(rt, "M1", &nodes, 5, 5)?;
+    looked_plain(rt, "M2", &nodes, 20, 10)?;
+    looked_plain(rt, "M3", &nodes, 21, 10)
 }
 
 // M4 to M7: ties go to the even step.
-fn ties() {
-    looked_plain(b"M4", &[0, 1, 0, 0, 1, 0], 5, 5);
-    looked_plain(b"M5", &[1, 2, 0, 1, 2, 0], 5, 5);
-    looked_plain(b"M6", &[0, -1, 0, 0, -1, 0], 5, 5);
-    looked_plain(b"M7", &[-1, -2, 0, -1, -2, 0], 5, 5);
+fn ties(rt: &impl Print) -> io::Result<()> {
+    looked_plain(rt, "M4", &[0, 1, 0, 0, 1, 0], 5, 5)?;
+    looked_plain(rt, "M5", &[1, 2, 0, 1, 2, 0], 5, 5)?;
+    looked_plain(rt, "M6", &[0, -1, 0, 0, -1, 0], 5, 5)?;
+    looked_plain(rt, "M7", &[-1, -2, 0, -1, -2, 0], 5, 5)
 }
 
 // M8 and M9, with the mark at node (1, 0), and a latitude beyond the limit.
-fn marks() {
+fn marks(rt: &impl Print) -> io::Result<()> {
     let nodes = [0, MARK, 20, 100, 110, 120];
-    looked_plain(b"M8", &nodes, 0, 5);
-    looked_plain(b"M9", &nodes, 1, 5);
-    looked_plain(b"a latitude beyond the limit", &nodes, 5, 324000001);
+    looked_plain(rt, "M8", &nodes, 0, 5)?;
+    looked_plain(rt, "M9", &nodes, 1, 5)?;
+    looked_plain(rt, "a latitude beyond the limit", &nodes, 5, 324000001)
 }
 
 // M10: where every node is 1,000,000, the result is the day factor.
-fn factors() {
+fn factors(rt: &impl Print) -> io::Result<()> {
     let nodes = [1000000; 6];
-    looked(b"M10, day 99", basin(), &nodes, 5, 5, 99);
-    looked(b"M10, day 133", basin(), &nodes, 5, 5, 133);
-    looked(b"M10, day 200", basin(), &nodes, 5, 5, 200);
+    looked(rt, "M10, day 99", basin(), &nodes, 5, 5, 99)?;
+    looked(rt, "M10, day 133", basin(), &nodes, 5, 5, 133)?;
+    looked(rt, "M10, day 200", basin(), &nodes, 5, 5, 200)
 }
 
 // Writes an answer of the columns: the chosen grid's number and its first result, or the refusal.
-fn say_answer(number: i64, grid: i64, first: i64) {
+fn say_answer(rt: &impl Print, number: i64, grid: i64, first: i64) -> io::Result<()> {
     if number == 0 {
-        say(b"grid ");
-        say_number(grid);
-        say(b", ");
-        say_number(first);
+        say(rt, "grid ")?;
+        say_number(rt, grid)?;
+        say(rt, ", ")?;
+        say_number(rt, first)?;
     } else {
-        say(b"refused ");
-        say_number(number);
+        say(rt, "refused ")?;
+        say_number(rt, number)?;
     }
+    Ok(())
 }
 
 // M10's three days and a day beyond the limit in one call, as columns.
-fn days_at_once() {
+fn days_at_once(rt: &impl Print) -> io::Result<()> {
     let nodes = [1000000; 6];
     let days = [99, 133, 200, 1000001];
     let mut results = [-1i64; 24];
     let verdict = exercise::lookup_columns(basin(), &nodes, &[5; 4], &[5; 4], &days, &mut results);
-    say(b"M10, its days and 1000001 at once: ");
+    say(rt, "M10, its days and 1000001 at once: ")?;
     match verdict {
         Verdict::Accepted => {
-            say_answer(results[0], results[2], results[3]);
-            say(b"; ");
-            say_answer(results[6], results[8], results[9]);
-            say(b"; ");
-            say_answer(results[12], results[14], results[15]);
-            say(b"; ");
-            say_answer(results[18], results[20], results[21]);
+            say_answer(rt, results[0], results[2], results[3])?;
+            say(rt, "; ")?;
+            say_answer(rt, results[6], results[8], results[9])?;
+            say(rt, "; ")?;
+            say_answer(rt, results[12], results[14], results[15])?;
+            say(rt, "; ")?;
+            say_answer(rt, results[18], results[20], results[21])?;
         }
-        Verdict::Refused(r) => say_refused(r),
+        Verdict::Refused(r) => say_refused(rt, r)?,
     }
-    say(b"\n");
+    say(rt, "\n")
 }
 
 // M11 and M12, and M11 in the area of longitudes ±648,000,000 and latitudes ±324,000,000.
-fn areas() {
+fn areas(rt: &impl Print) -> io::Result<()> {
     let small = area(0, 20, 0, 10);
-    in_force(b"M11", m11(), small);
-    in_force(b"M12", m12(), small);
+    in_force(rt, "M11", m11(), small)?;
+    in_force(rt, "M12", m12(), small)?;
     let earth = area(-648000000, 648000000, -324000000, 324000000);
-    in_force(b"M11 in the whole earth", m11(), earth);
+    in_force(rt, "M11 in the whole earth", m11(), earth)
 }
 
 // No hole in M11's area, one a column beyond it, one at the last coordinate of M12's north row, since G3 ends at 22 there, and a refused area.
-fn holes() {
-    hole(b"M11, the hole", m11(), area(0, 20, 0, 10));
+fn holes(rt: &impl Print) -> io::Result<()> {
+    hole(rt, "M11, the hole", m11(), area(0, 20, 0, 10))?;
     hole(
-        b"M11, one column wider, the hole",
+        rt,
+        "M11, one column wider, the hole",
         m11(),
         area(0, 21, 0, 10),
-    );
+    )?;
     hole(
-        b"M12, its north row up to 23, the hole",
+        rt,
+        "M12, its north row up to 23, the hole",
         m12(),
         area(0, 23, 10, 10),
-    );
-    hole(b"M11, west above east, the hole", m11(), area(20, 0, 0, 10));
+    )?;
+    hole(
+        rt,
+        "M11, west above east, the hole",
+        m11(),
+        area(20, 0, 0, 10),
+    )
 }
 
 // M11 with G2 and G3 of equal ranks.
-fn equal_ranks() {
+fn equal_ranks(rt: &impl Print) -> io::Result<()> {
     header(
-        b"M11 with G2 and G3 of equal ranks",
+        rt,
+        "M11 with G2 and G3 of equal ranks",
         b"group\tdock\tmetre\t13\t1\t0\t3\ngrid\tG1\t0\t0\t10\t10\t3\t2\t3\t0\ngrid\tG2\t0\t0\t10\t10\t2\t2\t1\t0\ngrid\tG3\t10\t0\t10\t10\t2\t2\t1\t0\n",
-    );
+    )
 }
 
 // Every marked case, one line each.
-fn main() {
-    lookups();
-    ties();
-    marks();
-    factors();
-    days_at_once();
-    areas();
-    holes();
-    equal_ranks();
-    loaded(b"0.5 at Q 0", 0.5);
-    loaded(b"1.5 at Q 0", 1.5);
+fn main(rt: HostRuntime) -> io::Result<()> {
+    lookups(&rt)?;
+    ties(&rt)?;
+    marks(&rt)?;
+    factors(&rt)?;
+    days_at_once(&rt)?;
+    areas(&rt)?;
+    holes(&rt)?;
+    equal_ranks(&rt)?;
+    loaded(&rt, "0.5 at Q 0", 0.5)?;
+    loaded(&rt, "1.5 at Q 0", 1.5)
 }
