@@ -3,7 +3,7 @@ use mathlib.Core.Path.{◌≡◌, refl, sym, ap, ◌∙◌, subst}
 use mathlib.Core.Bool.{false}
 use mathlib.Core.List.{List, [], ◌∷◌, Memᴰ}
 use mathlib.Core.Logic.{inl, inr}
-use Prim.Native.Nat.{ℕ, suc, ◌≤◌, ◌<◌}
+use Prim.Native.Nat.{ℕ, suc, ◌<◌}
 use native.Mathlib.Omega.{arith}
 use native.Mathlib.Decide.{dec_lt}
 use borrow.Author.Tests.{eq-eqb, eqb-true}
@@ -23,8 +23,8 @@ use Rattle.coverage.proofs.EntryLaws.{entries≤, mem_entries, entries_mem, pair
 
 module _ (choose : ℕ → ℕ → ℕ) (a : Bounds) where
   -- where the grid numbered k is chosen first, or none where k is 0
-  pub first_taken : (k x y : ℕ) → first_taken choose a k ≡ At x y → IsFirstTaken choose a k x y
-  first_taken k x y e =
+  pub first_taken_lem : (k x y : ℕ) → first_taken choose a k ≡ At x y → IsFirstTaken choose a k x y
+  first_taken_lem k x y e =
       let f = at_first (λ u v. eqb (choose u v) k) a.west a.east a.south a.north x y e in
       record {
         inside = record { west≤ = f.west≤; ≤east = f.≤east; south≤ = f.south≤; ≤north = f.≤north };
@@ -76,7 +76,7 @@ in_force_lem choose Before n a order o taken =
         let b = o.number i.0 i.1 in
         record {
           number = (omega (arith, b.0, i.2), omega (arith, b.1, i.2));
-          first = first_taken choose a e.grid e.lon e.lat p.1;
+          first = first_taken_lem choose a e.grid e.lon e.lat p.1;
         }
 
     named : (x y g : ℕ) → Inside a x y → choose x y ≡ suc g → (i : ℕ) × (i < length es) × ((get_or es i no_entry).grid ≡ suc g)

@@ -49,6 +49,7 @@ module _ (spot : ℕ → Spot) where
 
   pub entries_mem : {k : ℕ} {ks : List ℕ} → Memᴰ k ks → (x y : ℕ) → spot k ≡ At x y → Memᴰ (record { grid = k; lon = x; lat = y }) (entries_of spot ks)
   unfolding entries_of
+  entries_mem {k} {ks = []} m x y e = absurd (Memᴰ.not-nil m)
   entries_mem {k} {ks = j ∷ ks} (Memᴰ.head p) x y e = Memᴰ.append_left {s = entry_of j (spot j)} (entries_of spot ks) (rw (← p, e) (Memᴰ.head refl))
   entries_mem {k} {ks = j ∷ ks} (Memᴰ.tail m) x y e = Memᴰ.append_right (entry_of j (spot j)) (entries_mem m x y e)
 
