@@ -1,13 +1,12 @@
 -- `text::cut_fields` meets its contract.
-use Prim.Native.Nat.{◌+◌, ◌-◌}
+use Prim.Native.Nat.{◌+◌}
 use mathlib.Core.Path.{◌≡◌, sym, ◌∙◌}
-use mathlib.Core.Logic.{⊎_elim}
 use native.Mathlib.Omega.{arith}
-use borrow.Author.Rules.{rules}
-use lib.ListN.{length, drop, set, length-drop}
+use lib.ListN.{drop, set, length-drop}
 use lib.Seq.{set_out}
 use Rattle.text.proofs.PartLaws.{up_to_le}
-use Rattle.text.proofs.CutLaws.{Walked, none_cut, one_more, last_cut, next_cut}
+use Rattle.text.proofs.CutLaws.{none_cut, one_more, last_cut, next_cut}
+use Rattle.text.proofs.cut_fields.Goals.{then-n-lt-CUTS, else-n-lt-CUTS}
 use Rattle.text.proofs.cut_fields.Goals as goal
 
 pub bounds-cuts-0 : goal.bounds-cuts-0
@@ -39,12 +38,14 @@ returns-then-line-e c =
     let stored : c.if-n-lt-CUTS.cuts ≡ set c.loop-n.cuts (c.loop-n.n + 1) (c.find_from-e.result + 1) =
     let l = c.loop-n in
     let r = l.invariant.room in
-    ⊎_elim (λ w. w.1) (λ w. w.1 ∙ sym (set_out l.cuts (l.n + 1) (c.find_from-e.result + 1) (let t = w.0.left in omega arith))) c.if-n-lt-CUTS.branch in
-    let l = c in
+    elim c.if-n-lt-CUTS.branch [
+      | then-n-lt-CUTS w ↦ w.cuts-is
+      | else-n-lt-CUTS w ↦ w.cuts-is ∙ sym (set_out l.cuts (l.n + 1) (c.find_from-e.result + 1) (let t = w.if-n-lt-CUTS.false in omega arith))
+    ] in
     let s = c.args.line.now in
     let e = c.find_from-e in
     let n = last_cut s c.loop-n.cuts c.loop-n.n c.loop-n.i e.result c.loop-n.invariant e.ensures c.if-line-e.true in
-    (n, λ k h m. rw (stored) (one_more s c.loop-n.cuts c.loop-n.n c.loop-n.i e.result c.loop-n.invariant e.ensures k (omega arith) m))
+    record { value = n; cuts = λ k h m. rw (stored) (one_more s c.loop-n.cuts c.loop-n.n c.loop-n.i e.result c.loop-n.invariant e.ensures k (omega arith) m) }
 
 pub loop-n-smaller : goal.loop-n-smaller
 loop-n-smaller c = omega (arith, c.loop-n.invariant.within)
@@ -54,8 +55,10 @@ loop-n-preserved c =
     let stored : c.if-n-lt-CUTS.cuts ≡ set c.loop-n.cuts (c.loop-n.n + 1) (c.find_from-e.result + 1) =
     let l = c.loop-n in
     let r = l.invariant.room in
-    ⊎_elim (λ w. w.1) (λ w. w.1 ∙ sym (set_out l.cuts (l.n + 1) (c.find_from-e.result + 1) (let t = w.0.left in omega arith))) c.if-n-lt-CUTS.branch in
-    let l = c in
+    elim c.if-n-lt-CUTS.branch [
+      | then-n-lt-CUTS w ↦ w.cuts-is
+      | else-n-lt-CUTS w ↦ w.cuts-is ∙ sym (set_out l.cuts (l.n + 1) (c.find_from-e.result + 1) (let t = w.if-n-lt-CUTS.false in omega arith))
+    ] in
     let s = c.args.line.now in
     let e = c.find_from-e in
     rw (stored) (next_cut s c.loop-n.cuts c.loop-n.n c.loop-n.i e.result c.loop-n.invariant e.ensures (omega arith))

@@ -1,10 +1,5 @@
 -- `text::find_from` meets its contract.
-use Prim.Native.Nat.{◌+◌, ◌-◌}
-use mathlib.Core.Path.{◌≡◌}
 use native.Mathlib.Omega.{arith}
-use borrow.Author.Rules.{rules}
-use lib.ListN.{length, drop}
-use Rattle.text.specs.Parts.{up_to}
 use Rattle.text.proofs.PartLaws.{up_to_here, up_to_more, up_to_end}
 use Rattle.text.proofs.find_from.Goals as goal
 

@@ -1,14 +1,7 @@
 -- `text::lacks` meets its contract.
-use Prim.Native.Nat.{ℕ, ◌+◌, ◌-◌, ◌≤◌}
-use mathlib.Core.Path.{◌≡◌, sym, ap, ◌∙◌}
-use mathlib.Core.Bool.{Bool, true, not, ◌&&◌}
-use mathlib.Core.List.{List}
-use native.Mathlib.Omega.{arith}
-use lib.Dec.{eqb}
-use lib.ListN.{get_or}
-use borrow.Author.Tests.{eq-eqb}
-use Rattle.numbers.proofs.Bools.{and_left, and_right, true_false}
-use Rattle.numbers.proofs.Nearest.{three_ways}
+use Prim.Native.Nat.{◌-◌, ◌≤◌}
+use mathlib.Core.Path.{◌≡◌}
+use mathlib.Core.Bool.{true}
 use Rattle.text.specs.Parts.{Lacks}
 use Rattle.text.proofs.lacks.Given as goal
 

@@ -1,9 +1,7 @@
 -- `text::part_start` meets its contract.
-use Prim.Native.Nat.{◌≤◌, ◌+◌}
 use mathlib.Core.Path.{◌≡◌, ap}
 use native.Mathlib.Omega.{arith}
-use borrow.Author.Rules.{rules}
-use lib.ListN.{length, drop}
+use lib.ListN.{drop}
 use Rattle.text.specs.Parts.{start_of}
 use Rattle.text.proofs.PartLaws.{start_of_zero, start_on, start_off}
 use Rattle.text.proofs.part_start.Goals as goal

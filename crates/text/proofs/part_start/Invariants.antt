@@ -1,11 +1,8 @@
 -- `text::part_start` meets its contract.
 use Prim.Native.Nat.{◌≤◌, ◌+◌}
-use mathlib.Core.Path.{◌≡◌, ap}
-use native.Mathlib.Omega.{arith}
-use borrow.Author.Rules.{rules}
+use mathlib.Core.Path.{◌≡◌}
 use lib.ListN.{length, drop}
 use Rattle.text.specs.Parts.{start_of}
-use Rattle.text.proofs.PartLaws.{start_of_zero, start_on, start_off}
 use Rattle.text.proofs.part_start.Given as goal
 
 abbrev pub invariant-loop-seps : goal.invariant-loop-seps

@@ -1,11 +1,6 @@
 -- `text::past_blocks` meets its contract.
-use Prim.Native.Nat.{◌+◌, ◌-◌}
-use mathlib.Core.Path.{◌≡◌, refl}
+use mathlib.Core.Path.{refl}
 use native.Mathlib.Omega.{arith}
-use borrow.Author.Rules.{rules}
-use borrow.Author.Tests.{not-false}
-use lib.ListN.{length, drop}
-use Rattle.text.specs.Parts.{up_to}
 use Rattle.text.proofs.PartLaws.{up_to_past}
 use Rattle.text.proofs.past_blocks.Goals as goal
 
@@ -29,7 +24,7 @@ loop-i-preserved c =
     let l = c in
     let a = c.args in
     let v = c.loop-i.invariant in
-    let p = up_to_past a.c a.s.now c.loop-i.i 16 (omega arith) (c.lacks.ensures (not-false _ c.if-not-lacks.false)) in
+    let p = up_to_past a.c a.s.now c.loop-i.i 16 (omega arith) (c.lacks.ensures c.if-not-lacks.false) in
     omega arith
 
 pub returns : goal.returns

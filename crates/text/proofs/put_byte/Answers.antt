@@ -1,7 +1,6 @@
 -- `text::put_byte` meets its contract.
 use mathlib.Core.Path.{refl}
 use Rattle.text.proofs.PutLaws.{put_one}
-use borrow.Author.Rules.{rules}
 use Rattle.text.proofs.put_byte.Goals as goal
 
 pub returns : goal.returns

@@ -11,7 +11,6 @@ use Rattle.text.specs.Decimal.{decimal, int_text}
 use Rattle.text.specs.Put.{put}
 use Rattle.text.proofs.DecimalLaws.{int_text_below, int_text_above}
 use Rattle.text.proofs.PutLaws.{put_one, put_two, put_more}
-use borrow.Author.Rules.{rules}
 use Rattle.text.proofs.put_number.Goals as goal
 
 pub bounds-out-at-then-negative : goal.bounds-out-at-then-negative
@@ -33,7 +32,7 @@ shape_of-out-then-negative c =
     let d = c in
     let a = c.args in
     let k = c.put_digits in
-    k.auto.1.0 ∙ simp length-set
+    k.auto.out ∙ simp length-set
 
 pub returns-then-negative : goal.returns-then-negative
 returns-then-negative c =
@@ -46,7 +45,7 @@ returns-then-negative c =
     let e = ap length (below) in
     record {
       place = omega (arith, e);
-      holds = put_more a.at (a.at + 2) (9 ∷ 45 ∷ []) (decimal c.magnitude.result) a.out.now (set (set a.out.now a.at 9) (a.at + 1) 45) k.new.1.0
+      holds = put_more a.at (a.at + 2) (9 ∷ 45 ∷ []) (decimal c.magnitude.result) a.out.now (set (set a.out.now a.at 9) (a.at + 1) 45) k.new.out
           (put_two a.at 9 45 a.out.now (omega (arith, e))) refl k.ensures.holds (omega (arith, e))
           ∙ ap (λ (l : List ℕ). put a.at (9 ∷ l) a.out.now) (sym (below));
     }
@@ -60,7 +59,7 @@ put_digits-requires-2 c =
 pub shape_of-out : goal.shape_of-out
 shape_of-out c =
     let k = c.put_digits-2 in
-    k.auto.1.0 ∙ simp length-set
+    k.auto.out ∙ simp length-set
 
 pub returns : goal.returns
 returns c =
@@ -72,7 +71,7 @@ returns c =
     let e = ap length (above) in
     record {
       place = omega (arith, e);
-      holds = put_more a.at (a.at + 1) (9 ∷ []) (decimal c.magnitude-2.result) a.out.now (set a.out.now a.at 9) k.new.1.0
+      holds = put_more a.at (a.at + 1) (9 ∷ []) (decimal c.magnitude-2.result) a.out.now (set a.out.now a.at 9) k.new.out
           (put_one a.at 9 a.out.now (omega (arith, e))) refl k.ensures.holds (omega (arith, e))
           ∙ ap (λ (l : List ℕ). put a.at (9 ∷ l) a.out.now) (sym (above));
     }

@@ -1,11 +1,10 @@
 -- `text::read_digits` meets its contract.
-use Prim.Native.Nat.{ℕ, ◌≤◌, ◌+◌, ◌-◌}
-use mathlib.Core.Path.{◌≡◌, refl, sym, ap, ◌∙◌}
+use Prim.Native.Nat.{ℕ, ◌+◌}
+use mathlib.Core.Path.{refl, sym, ap, ◌∙◌}
 use native.Mathlib.Omega.{arith}
-use borrow.Author.Rules.{rules}
-use lib.ListN.{length, drop}
+use lib.ListN.{drop}
 use Rattle.text.specs.Decimal.{digits_from}
-use Rattle.text.specs.Number.{number_most, natural_of}
+use Rattle.text.specs.Number.{natural_of}
 use Rattle.text.proofs.NumberLaws.{digits_low, digits_high, digits_step, digits_end}
 use Rattle.text.proofs.read_digits.Goals as goal
 

@@ -1,12 +1,9 @@
 -- `text::read_digits` meets its contract.
-use Prim.Native.Nat.{ℕ, ◌≤◌, ◌+◌, ◌-◌}
-use mathlib.Core.Path.{◌≡◌, refl, sym, ap, ◌∙◌}
-use native.Mathlib.Omega.{arith}
-use borrow.Author.Rules.{rules}
+use Prim.Native.Nat.{◌≤◌, ◌-◌}
+use mathlib.Core.Path.{◌≡◌}
 use lib.ListN.{length, drop}
 use Rattle.text.specs.Decimal.{digits_from}
 use Rattle.text.specs.Number.{number_most, natural_of}
-use Rattle.text.proofs.NumberLaws.{digits_low, digits_high, digits_step, digits_end}
 use Rattle.text.proofs.read_digits.Given as goal
 
 abbrev pub invariant-loop-i : goal.invariant-loop-i

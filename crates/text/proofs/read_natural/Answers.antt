@@ -1,12 +1,11 @@
 -- `read_natural` meets its contract.
 use mathlib.Core.Path.{◌≡◌, sym, ap, ◌∙◌}
-use mathlib.Core.Logic.{⊎_elim}
 use native.Mathlib.Omega.{arith}
 use lib.ListN.{drop}
 use Rattle.text.specs.Decimal.{digits_from, read_nat}
 use Rattle.text.specs.Number.{natural_of}
 use Rattle.text.proofs.NumberLaws.{nat_empty, nat_zero, nat_one, nat_more}
-use borrow.Author.Rules.{rules}
+use Rattle.text.proofs.read_natural.Goals.{then-n-gt1+else-s-a-eq48, else-n-gt1}
 use Rattle.text.proofs.read_natural.Goals as goal
 
 pub returns-then-n-eq0 : goal.returns-then-n-eq0
@@ -23,8 +22,8 @@ pub returns : goal.returns
 returns c =
     let a = c.args in
     let same : digits_from 0 (drop a.a a.s.now) ≡ read_nat (drop a.a a.s.now) =
-    ⊎_elim
-    (λ w. sym (nat_more a.s.now a.a (omega arith) w.2.left))
-    (λ w. sym (nat_one a.s.now a.a (omega arith)))
-    c.if-n-gt1.branch in
+    elim c.if-n-gt1.branch [
+      | then-n-gt1+else-s-a-eq48 w ↦ sym (nat_more a.s.now a.a (omega arith) w.if-s-a-eq48.false)
+      | else-n-gt1 w ↦ sym (nat_one a.s.now a.a (omega arith))
+    ] in
     c.read_digits.ensures ∙ ap natural_of same

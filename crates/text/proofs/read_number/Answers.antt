@@ -8,7 +8,6 @@ use Rattle.text.specs.Decimal.{read_nat}
 use Rattle.text.specs.Number.{number_of}
 use Rattle.text.specs.declared.Number.TheVariants.{Whole}
 use Rattle.text.proofs.NumberLaws.{int_empty, int_minus, int_plain, below_bad, below_zero, below_some, above_bad, above_some, value_le}
-use borrow.Author.Rules.{rules}
 use Rattle.text.proofs.read_number.Goals as goal
 
 pub returns-then-s-eq0 : goal.returns-then-s-eq0
@@ -17,49 +16,42 @@ returns-then-s-eq0 c =
 
 pub returns-in_default : goal.returns-in_default
 returns-in_default c =
-    let d = c in
     let s = c.args.s.now in
     sym (ap number_of (int_minus s (omega arith) c.if-s-eq45.true) ∙ below_bad (read_nat (drop 1 s)) (sym c.read_natural.ensures ∙ c.in_default.is))
 
 pub returns-then-m-eq0 : goal.returns-then-m-eq0
 returns-then-m-eq0 c =
-    let d = c in
-    let g = c.m-1.given in
+    let g = c.in-Value in
     let s = c.args.s.now in
-    sym (ap number_of (int_minus s (omega arith) c.if-s-eq45.true) ∙ below_zero (read_nat (drop 1 s)) g.0.0 (sym c.read_natural.ensures ∙ g.1) c.if-m-eq0.true)
+    sym (ap number_of (int_minus s (omega arith) c.if-s-eq45.true) ∙ below_zero (read_nat (drop 1 s)) g.m (sym g.ensures) c.if-m-eq0.true)
 
 pub minus-requires : goal.minus-requires
 minus-requires c =
-    let d = c in
-    let g = c.m-1.given in
+    let g = c.in-Value in
     let s = c.args.s.now in
-    value_le (read_nat (drop 1 s)) g.0.0 (sym c.read_natural.ensures ∙ g.1)
+    value_le (read_nat (drop 1 s)) g.m (sym g.ensures)
 
 pub returns-then-s-eq45 : goal.returns-then-s-eq45
 returns-then-s-eq45 c =
-    let d = c in
-    let g = c.m-1.given in
+    let g = c.in-Value in
     let s = c.args.s.now in
-    ap Whole (to_z-of_z {w = w64} (record { sfits = c.minus.type-inv }) ∙ c.minus.ensures)
-    ∙ sym (ap number_of (int_minus s (omega arith) c.if-s-eq45.true) ∙ below_some (read_nat (drop 1 s)) g.0.0 (sym c.read_natural.ensures ∙ g.1) c.if-m-eq0.false)
+    ap Whole (to_z-of_z {w = w64} (record { sfits = c.minus.type_inv }) ∙ c.minus.ensures)
+    ∙ sym (ap number_of (int_minus s (omega arith) c.if-s-eq45.true) ∙ below_some (read_nat (drop 1 s)) g.m (sym g.ensures) c.if-m-eq0.false)
 
 pub returns-in_default-read_natural : goal.returns-in_default-read_natural
 returns-in_default-read_natural c =
-    let d = c in
     let s = c.args.s.now in
     sym (ap number_of (int_plain s (omega arith) c.if-s-eq45.false) ∙ above_bad (read_nat s) (sym c.read_natural-2.ensures ∙ c.in_default-read_natural.is))
 
 pub plus-requires : goal.plus-requires
 plus-requires c =
-    let d = c in
-    let g = c.m-in-Value-read_natural-2-1.given in
+    let g = c.in-Value-read_natural in
     let s = c.args.s.now in
-    value_le (read_nat s) g.0.0 (sym c.read_natural-2.ensures ∙ g.1)
+    value_le (read_nat s) g.m (sym g.ensures)
 
 pub returns : goal.returns
 returns c =
-    let d = c in
-    let g = c.m-in-Value-read_natural-2-1.given in
+    let g = c.in-Value-read_natural in
     let s = c.args.s.now in
-    ap Whole (to_z-of_z {w = w64} (record { sfits = c.plus.type-inv }) ∙ c.plus.ensures)
-    ∙ sym (ap number_of (int_plain s (omega arith) c.if-s-eq45.false) ∙ above_some (read_nat s) g.0.0 (sym c.read_natural-2.ensures ∙ g.1))
+    ap Whole (to_z-of_z {w = w64} (record { sfits = c.plus.type_inv }) ∙ c.plus.ensures)
+    ∙ sym (ap number_of (int_plain s (omega arith) c.if-s-eq45.false) ∙ above_some (read_nat s) g.m (sym g.ensures))
