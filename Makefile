@@ -7,10 +7,10 @@
 # make uninstall [PREFIX=/usr/local] [DESTDIR=]
 #               takes away what make install put there
 # make demo     the examples through the command line
-# make check    the quick round: every crate proved and every program run, without the must-fail edits
+# make check    the quick round: every crate proved, without the must-fail edits and the programs' runs
 # make test     the gate: every test there is
 # make bench    times against plain C and plain Rust; where the tools for it are installed, instructions, divisions, and times against PROJ
-# make clean    removes build/ and target/: the next make proves every crate anew
+# make clean    removes build/ and the out/ of each crate: the next make proves every crate anew
 # make help     this list
 .PHONY: all library programs pages install uninstall demo check test bench clean help tools always
 
@@ -30,7 +30,7 @@ need = command -v $(1) > /dev/null 2>&1 || { echo 'make: $(1) is missing: it $(2
 all_there = if [ $$missing = 1 ]; then echo 'make: install it, or put its folder into PATH' >&2; exit 1; fi
 tools:
 	@missing=0; \
-	$(call need,rt,proves the crates and builds the library,rt of rattle-kit-5b); \
+	$(call need,rt,proves the crates and builds the library,rt of rattle-kit-13f); \
 	$(call need,cargo,builds the command line and runs the tests,cargo 1.95.0); \
 	$(call need,cc,links the programs and compiles the C tests,gcc 12.2.0); \
 	$(all_there)
@@ -42,7 +42,7 @@ library: build/libbulhyemik.a
 build/crates.sums: always | tools
 	@mkdir -p build
 	@rt version > $@.new
-	@find crates.txt crates -name must-fail -prune -o -type f -print | LC_ALL=C sort | xargs sha256sum >> $@.new
+	@find crates.txt crates \( -name must-fail -o -name out \) -prune -o -type f -print | LC_ALL=C sort | xargs sha256sum >> $@.new
 	@if cmp -s $@.new $@; then rm $@.new; else mv $@.new $@; fi
 
 # The library, and for the benchmark alone the rounding by itself: each is made of one crate with those below it, and has its C functions.
@@ -51,10 +51,10 @@ build/libtimed.a: crate = timed
 
 build/libbulhyemik.a build/libtimed.a: build/crates.sums
 	@echo "proving crate $(crate) and those below it and building $@ (some minutes for the first on a fresh clone)"
-	@rt staticlib $(crate) > $(@:.a=.log) 2>&1 || { cat $(@:.a=.log); exit 1; }
-	@cp target/staticlib/lib$(crate).a $@
+	@(cd crates/$(crate) && rt lib) > $(@:.a=.log) 2>&1 || { cat $(@:.a=.log); exit 1; }
+	@cp crates/$(crate)/out/lib$(crate).a $@
 
-# rt writes target/: one archive after the other, however many jobs make runs
+# both stand on the same crates below: one archive after the other, however many jobs make runs
 build/libtimed.a: | build/libbulhyemik.a
 
 # The same code for programs that load it when they start, under the name that a program of this major version asks for.
@@ -87,7 +87,7 @@ demo: all
 	@sh examples/demo.sh build/bulhyemik
 
 check: | tools
-	@rt check
+	@rt all check
 
 test: | tools
 	@missing=0; \
@@ -107,7 +107,7 @@ bench: all
 	else echo 'make: no PROJ: nothing is timed against it'; fi
 
 clean:
-	@rm -rf build target
+	@rm -rf build crates/*/out
 
 help:
 	@sed -n '/^#/!q; s/^# //p' Makefile

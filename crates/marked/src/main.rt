@@ -7,6 +7,7 @@ use fix::Lookup;
 use group::{Group, Latitude, Longitude, MARK, Point, Refusal, Verdict};
 use inforce::{Area, GridInForce, InForce, Uncovered};
 use nodes::Loaded;
+use std::io;
 
 // The group of an accepted header text.
 fn read(text: &[u8]) -> Group {
