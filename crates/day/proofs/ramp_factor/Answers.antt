@@ -66,9 +66,9 @@ returns-then-day-a c =
 
 pub overflow_sub-b : goal.overflow_sub-b
 overflow_sub-b c =
-    let left_is : held c.args.b -ℤ held c.args.day ≡ c.args.b -ℤ c.args.day = gap_is c.args.b c.args.day c.fits.b c.fits.day in
-    let before_b : le_z c.args.b c.args.day ≡ false = tested c.args.b c.args.day c.fits.b c.fits.day c.if-b-day.false in
-    let behind_a : le_z c.args.day c.args.a ≡ false = tested c.args.day c.args.a c.fits.day c.fits.a c.if-day-a.false in
+    let left_is : held c.args.b -ℤ held c.args.day ≡ c.args.b -ℤ c.args.day = gap_is c.args.b c.args.day c.ranges.b c.ranges.day in
+    let before_b : le_z c.args.b c.args.day ≡ false = tested c.args.b c.args.day c.ranges.b c.ranges.day c.if-b-day.false in
+    let behind_a : le_z c.args.day c.args.a ≡ false = tested c.args.day c.args.a c.ranges.day c.ranges.a c.if-day-a.false in
     let facts : Sloped c.args.a c.args.s0 c.args.b c.args.s1 c.args.day =
     sloped c.args.a c.args.s0 c.args.b c.args.s1 c.args.day
     (ramp_sizes c.args.a c.args.s0 c.args.b c.args.s1 c.requires) before_b behind_a in
@@ -76,21 +76,21 @@ overflow_sub-b c =
 
 pub overflow_mul-s0 : goal.overflow_mul-s0
 overflow_mul-s0 c =
-    let left_is : held c.args.b -ℤ held c.args.day ≡ c.args.b -ℤ c.args.day = gap_is c.args.b c.args.day c.fits.b c.fits.day in
-    let before_b : le_z c.args.b c.args.day ≡ false = tested c.args.b c.args.day c.fits.b c.fits.day c.if-b-day.false in
-    let behind_a : le_z c.args.day c.args.a ≡ false = tested c.args.day c.args.a c.fits.day c.fits.a c.if-day-a.false in
+    let left_is : held c.args.b -ℤ held c.args.day ≡ c.args.b -ℤ c.args.day = gap_is c.args.b c.args.day c.ranges.b c.ranges.day in
+    let before_b : le_z c.args.b c.args.day ≡ false = tested c.args.b c.args.day c.ranges.b c.ranges.day c.if-b-day.false in
+    let behind_a : le_z c.args.day c.args.a ≡ false = tested c.args.day c.args.a c.ranges.day c.ranges.a c.if-day-a.false in
     let facts : Sloped c.args.a c.args.s0 c.args.b c.args.s1 c.args.day =
     sloped c.args.a c.args.s0 c.args.b c.args.s1 c.args.day
     (ramp_sizes c.args.a c.args.s0 c.args.b c.args.s1 c.requires) before_b behind_a in
     let first_is : held c.args.s0 *ℤ held (held c.args.b -ℤ held c.args.day)
-    ≡ c.args.s0 *ℤ (c.args.b -ℤ c.args.day) = λ i. to_z-of_z w64 c.args.s0 c.fits.s0 i *ℤ through w64 left_is facts.left i in
+    ≡ c.args.s0 *ℤ (c.args.b -ℤ c.args.day) = λ i. to_z-of_z w64 c.args.s0 c.ranges.s0 i *ℤ through w64 left_is facts.left i in
     subst (SFits w64) (sym (first_is)) (facts).first
 
 pub overflow_sub-day : goal.overflow_sub-day
 overflow_sub-day c =
-    let right_is : held c.args.day -ℤ held c.args.a ≡ c.args.day -ℤ c.args.a = gap_is c.args.day c.args.a c.fits.day c.fits.a in
-    let before_b : le_z c.args.b c.args.day ≡ false = tested c.args.b c.args.day c.fits.b c.fits.day c.if-b-day.false in
-    let behind_a : le_z c.args.day c.args.a ≡ false = tested c.args.day c.args.a c.fits.day c.fits.a c.if-day-a.false in
+    let right_is : held c.args.day -ℤ held c.args.a ≡ c.args.day -ℤ c.args.a = gap_is c.args.day c.args.a c.ranges.day c.ranges.a in
+    let before_b : le_z c.args.b c.args.day ≡ false = tested c.args.b c.args.day c.ranges.b c.ranges.day c.if-b-day.false in
+    let behind_a : le_z c.args.day c.args.a ≡ false = tested c.args.day c.args.a c.ranges.day c.ranges.a c.if-day-a.false in
     let facts : Sloped c.args.a c.args.s0 c.args.b c.args.s1 c.args.day =
     sloped c.args.a c.args.s0 c.args.b c.args.s1 c.args.day
     (ramp_sizes c.args.a c.args.s0 c.args.b c.args.s1 c.requires) before_b behind_a in
@@ -98,29 +98,29 @@ overflow_sub-day c =
 
 pub overflow_mul-s1 : goal.overflow_mul-s1
 overflow_mul-s1 c =
-    let right_is : held c.args.day -ℤ held c.args.a ≡ c.args.day -ℤ c.args.a = gap_is c.args.day c.args.a c.fits.day c.fits.a in
-    let before_b : le_z c.args.b c.args.day ≡ false = tested c.args.b c.args.day c.fits.b c.fits.day c.if-b-day.false in
-    let behind_a : le_z c.args.day c.args.a ≡ false = tested c.args.day c.args.a c.fits.day c.fits.a c.if-day-a.false in
+    let right_is : held c.args.day -ℤ held c.args.a ≡ c.args.day -ℤ c.args.a = gap_is c.args.day c.args.a c.ranges.day c.ranges.a in
+    let before_b : le_z c.args.b c.args.day ≡ false = tested c.args.b c.args.day c.ranges.b c.ranges.day c.if-b-day.false in
+    let behind_a : le_z c.args.day c.args.a ≡ false = tested c.args.day c.args.a c.ranges.day c.ranges.a c.if-day-a.false in
     let facts : Sloped c.args.a c.args.s0 c.args.b c.args.s1 c.args.day =
     sloped c.args.a c.args.s0 c.args.b c.args.s1 c.args.day
     (ramp_sizes c.args.a c.args.s0 c.args.b c.args.s1 c.requires) before_b behind_a in
     let second_is : held c.args.s1 *ℤ held (held c.args.day -ℤ held c.args.a)
-    ≡ c.args.s1 *ℤ (c.args.day -ℤ c.args.a) = λ i. to_z-of_z w64 c.args.s1 c.fits.s1 i *ℤ through w64 right_is facts.right i in
+    ≡ c.args.s1 *ℤ (c.args.day -ℤ c.args.a) = λ i. to_z-of_z w64 c.args.s1 c.ranges.s1 i *ℤ through w64 right_is facts.right i in
     subst (SFits w64) (sym (second_is)) (facts).second
 
 pub overflow_add-s0 : goal.overflow_add-s0
 overflow_add-s0 c =
-    let left_is : held c.args.b -ℤ held c.args.day ≡ c.args.b -ℤ c.args.day = gap_is c.args.b c.args.day c.fits.b c.fits.day in
-    let before_b : le_z c.args.b c.args.day ≡ false = tested c.args.b c.args.day c.fits.b c.fits.day c.if-b-day.false in
-    let behind_a : le_z c.args.day c.args.a ≡ false = tested c.args.day c.args.a c.fits.day c.fits.a c.if-day-a.false in
+    let left_is : held c.args.b -ℤ held c.args.day ≡ c.args.b -ℤ c.args.day = gap_is c.args.b c.args.day c.ranges.b c.ranges.day in
+    let before_b : le_z c.args.b c.args.day ≡ false = tested c.args.b c.args.day c.ranges.b c.ranges.day c.if-b-day.false in
+    let behind_a : le_z c.args.day c.args.a ≡ false = tested c.args.day c.args.a c.ranges.day c.ranges.a c.if-day-a.false in
     let facts : Sloped c.args.a c.args.s0 c.args.b c.args.s1 c.args.day =
     sloped c.args.a c.args.s0 c.args.b c.args.s1 c.args.day
     (ramp_sizes c.args.a c.args.s0 c.args.b c.args.s1 c.requires) before_b behind_a in
     let first_is : held c.args.s0 *ℤ held (held c.args.b -ℤ held c.args.day)
-    ≡ c.args.s0 *ℤ (c.args.b -ℤ c.args.day) = λ i. to_z-of_z w64 c.args.s0 c.fits.s0 i *ℤ through w64 left_is facts.left i in
-    let right_is : held c.args.day -ℤ held c.args.a ≡ c.args.day -ℤ c.args.a = gap_is c.args.day c.args.a c.fits.day c.fits.a in
+    ≡ c.args.s0 *ℤ (c.args.b -ℤ c.args.day) = λ i. to_z-of_z w64 c.args.s0 c.ranges.s0 i *ℤ through w64 left_is facts.left i in
+    let right_is : held c.args.day -ℤ held c.args.a ≡ c.args.day -ℤ c.args.a = gap_is c.args.day c.args.a c.ranges.day c.ranges.a in
     let second_is : held c.args.s1 *ℤ held (held c.args.day -ℤ held c.args.a)
-    ≡ c.args.s1 *ℤ (c.args.day -ℤ c.args.a) = λ i. to_z-of_z w64 c.args.s1 c.fits.s1 i *ℤ through w64 right_is facts.right i in
+    ≡ c.args.s1 *ℤ (c.args.day -ℤ c.args.a) = λ i. to_z-of_z w64 c.args.s1 c.ranges.s1 i *ℤ through w64 right_is facts.right i in
     let sum_is : held (held c.args.s0 *ℤ held (held c.args.b -ℤ held c.args.day))
     +ℤ held (held c.args.s1 *ℤ held (held c.args.day -ℤ held c.args.a))
     ≡ c.args.s0 *ℤ (c.args.b -ℤ c.args.day) +ℤ c.args.s1 *ℤ (c.args.day -ℤ c.args.a) = λ i. through w64 first_is facts.first i +ℤ through w64 second_is facts.second i in
@@ -128,9 +128,9 @@ overflow_add-s0 c =
 
 pub overflow_sub-b-2 : goal.overflow_sub-b-2
 overflow_sub-b-2 c =
-    let whole_is : held c.args.b -ℤ held c.args.a ≡ c.args.b -ℤ c.args.a = gap_is c.args.b c.args.a c.fits.b c.fits.a in
-    let before_b : le_z c.args.b c.args.day ≡ false = tested c.args.b c.args.day c.fits.b c.fits.day c.if-b-day.false in
-    let behind_a : le_z c.args.day c.args.a ≡ false = tested c.args.day c.args.a c.fits.day c.fits.a c.if-day-a.false in
+    let whole_is : held c.args.b -ℤ held c.args.a ≡ c.args.b -ℤ c.args.a = gap_is c.args.b c.args.a c.ranges.b c.ranges.a in
+    let before_b : le_z c.args.b c.args.day ≡ false = tested c.args.b c.args.day c.ranges.b c.ranges.day c.if-b-day.false in
+    let behind_a : le_z c.args.day c.args.a ≡ false = tested c.args.day c.args.a c.ranges.day c.ranges.a c.if-day-a.false in
     let facts : Sloped c.args.a c.args.s0 c.args.b c.args.s1 c.args.day =
     sloped c.args.a c.args.s0 c.args.b c.args.s1 c.args.day
     (ramp_sizes c.args.a c.args.s0 c.args.b c.args.s1 c.requires) before_b behind_a in
@@ -138,21 +138,21 @@ overflow_sub-b-2 c =
 
 pub rounded-requires : goal.rounded-requires
 rounded-requires c =
-    let before_b : le_z c.args.b c.args.day ≡ false = tested c.args.b c.args.day c.fits.b c.fits.day c.if-b-day.false in
-    let behind_a : le_z c.args.day c.args.a ≡ false = tested c.args.day c.args.a c.fits.day c.fits.a c.if-day-a.false in
+    let before_b : le_z c.args.b c.args.day ≡ false = tested c.args.b c.args.day c.ranges.b c.ranges.day c.if-b-day.false in
+    let behind_a : le_z c.args.day c.args.a ≡ false = tested c.args.day c.args.a c.ranges.day c.ranges.a c.if-day-a.false in
     let facts : Sloped c.args.a c.args.s0 c.args.b c.args.s1 c.args.day =
     sloped c.args.a c.args.s0 c.args.b c.args.s1 c.args.day
     (ramp_sizes c.args.a c.args.s0 c.args.b c.args.s1 c.requires) before_b behind_a in
-    let left_is : held c.args.b -ℤ held c.args.day ≡ c.args.b -ℤ c.args.day = gap_is c.args.b c.args.day c.fits.b c.fits.day in
+    let left_is : held c.args.b -ℤ held c.args.day ≡ c.args.b -ℤ c.args.day = gap_is c.args.b c.args.day c.ranges.b c.ranges.day in
     let first_is : held c.args.s0 *ℤ held (held c.args.b -ℤ held c.args.day)
-    ≡ c.args.s0 *ℤ (c.args.b -ℤ c.args.day) = λ i. to_z-of_z w64 c.args.s0 c.fits.s0 i *ℤ through w64 left_is facts.left i in
-    let right_is : held c.args.day -ℤ held c.args.a ≡ c.args.day -ℤ c.args.a = gap_is c.args.day c.args.a c.fits.day c.fits.a in
+    ≡ c.args.s0 *ℤ (c.args.b -ℤ c.args.day) = λ i. to_z-of_z w64 c.args.s0 c.ranges.s0 i *ℤ through w64 left_is facts.left i in
+    let right_is : held c.args.day -ℤ held c.args.a ≡ c.args.day -ℤ c.args.a = gap_is c.args.day c.args.a c.ranges.day c.ranges.a in
     let second_is : held c.args.s1 *ℤ held (held c.args.day -ℤ held c.args.a)
-    ≡ c.args.s1 *ℤ (c.args.day -ℤ c.args.a) = λ i. to_z-of_z w64 c.args.s1 c.fits.s1 i *ℤ through w64 right_is facts.right i in
+    ≡ c.args.s1 *ℤ (c.args.day -ℤ c.args.a) = λ i. to_z-of_z w64 c.args.s1 c.ranges.s1 i *ℤ through w64 right_is facts.right i in
     let sum_is : held (held c.args.s0 *ℤ held (held c.args.b -ℤ held c.args.day))
     +ℤ held (held c.args.s1 *ℤ held (held c.args.day -ℤ held c.args.a))
     ≡ c.args.s0 *ℤ (c.args.b -ℤ c.args.day) +ℤ c.args.s1 *ℤ (c.args.day -ℤ c.args.a) = λ i. through w64 first_is facts.first i +ℤ through w64 second_is facts.second i in
-    let whole_is : held c.args.b -ℤ held c.args.a ≡ c.args.b -ℤ c.args.a = gap_is c.args.b c.args.a c.fits.b c.fits.a in
+    let whole_is : held c.args.b -ℤ held c.args.a ≡ c.args.b -ℤ c.args.a = gap_is c.args.b c.args.a c.ranges.b c.ranges.a in
     let s = c.args in let l = (facts).whole_most in
     let h = above s.b s.day (before_b) in let k = above s.day s.a (behind_a) in
     rw (through w64 (sum_is) (facts).sum, through w64 (whole_is) (facts).whole)
@@ -161,22 +161,22 @@ rounded-requires c =
 pub returns : goal.returns
 unfolding ramp_factor
 returns c =
-    let before_b : le_z c.args.b c.args.day ≡ false = tested c.args.b c.args.day c.fits.b c.fits.day c.if-b-day.false in
-    let behind_a : le_z c.args.day c.args.a ≡ false = tested c.args.day c.args.a c.fits.day c.fits.a c.if-day-a.false in
-    let left_is : held c.args.b -ℤ held c.args.day ≡ c.args.b -ℤ c.args.day = gap_is c.args.b c.args.day c.fits.b c.fits.day in
+    let before_b : le_z c.args.b c.args.day ≡ false = tested c.args.b c.args.day c.ranges.b c.ranges.day c.if-b-day.false in
+    let behind_a : le_z c.args.day c.args.a ≡ false = tested c.args.day c.args.a c.ranges.day c.ranges.a c.if-day-a.false in
+    let left_is : held c.args.b -ℤ held c.args.day ≡ c.args.b -ℤ c.args.day = gap_is c.args.b c.args.day c.ranges.b c.ranges.day in
     let facts : Sloped c.args.a c.args.s0 c.args.b c.args.s1 c.args.day =
     sloped c.args.a c.args.s0 c.args.b c.args.s1 c.args.day
     (ramp_sizes c.args.a c.args.s0 c.args.b c.args.s1 c.requires) before_b behind_a in
     let first_is : held c.args.s0 *ℤ held (held c.args.b -ℤ held c.args.day)
-    ≡ c.args.s0 *ℤ (c.args.b -ℤ c.args.day) = λ i. to_z-of_z w64 c.args.s0 c.fits.s0 i *ℤ through w64 left_is facts.left i in
-    let right_is : held c.args.day -ℤ held c.args.a ≡ c.args.day -ℤ c.args.a = gap_is c.args.day c.args.a c.fits.day c.fits.a in
+    ≡ c.args.s0 *ℤ (c.args.b -ℤ c.args.day) = λ i. to_z-of_z w64 c.args.s0 c.ranges.s0 i *ℤ through w64 left_is facts.left i in
+    let right_is : held c.args.day -ℤ held c.args.a ≡ c.args.day -ℤ c.args.a = gap_is c.args.day c.args.a c.ranges.day c.ranges.a in
     let second_is : held c.args.s1 *ℤ held (held c.args.day -ℤ held c.args.a)
-    ≡ c.args.s1 *ℤ (c.args.day -ℤ c.args.a) = λ i. to_z-of_z w64 c.args.s1 c.fits.s1 i *ℤ through w64 right_is facts.right i in
+    ≡ c.args.s1 *ℤ (c.args.day -ℤ c.args.a) = λ i. to_z-of_z w64 c.args.s1 c.ranges.s1 i *ℤ through w64 right_is facts.right i in
     let sum_is : held (held c.args.s0 *ℤ held (held c.args.b -ℤ held c.args.day))
     +ℤ held (held c.args.s1 *ℤ held (held c.args.day -ℤ held c.args.a))
     ≡ c.args.s0 *ℤ (c.args.b -ℤ c.args.day) +ℤ c.args.s1 *ℤ (c.args.day -ℤ c.args.a) = λ i. through w64 first_is facts.first i +ℤ through w64 second_is facts.second i in
-    let whole_is : held c.args.b -ℤ held c.args.a ≡ c.args.b -ℤ c.args.a = gap_is c.args.b c.args.a c.fits.b c.fits.a in
+    let whole_is : held c.args.b -ℤ held c.args.a ≡ c.args.b -ℤ c.args.a = gap_is c.args.b c.args.a c.ranges.b c.ranges.a in
     let b = c in
     rw (before_b, behind_a)
-    (to_z-of_z w64 c.rounded.result (record { sfits = c.rounded.type-inv }) ∙ c.rounded.ensures
+    (to_z-of_z w64 c.rounded.result (record { sfits = c.rounded.type_inv }) ∙ c.rounded.ensures
     ∙ (λ i. round_z (through w64 (sum_is) (facts).sum i) (nat_abs (through w64 (whole_is) (facts).whole i))))

@@ -46,5 +46,5 @@ returns c =
     let size : nat_abs (c.args.value *ℤ c.args.factor) ≤ result_most * factor_one = let m = mul-le-mul c.requires.0 c.requires.1 in omega (arith, size_mul c.args.value c.args.factor) in
     let fits : SFits w64 (c.args.value *ℤ c.args.factor) = size_fits _ (omega (arith, size)) in
     let s = c in
-    to_z-of_z w64 c.rounded.result (record { sfits = c.rounded.type-inv }) ∙ c.rounded.ensures
+    to_z-of_z w64 c.rounded.result (record { sfits = c.rounded.type_inv }) ∙ c.rounded.ensures
     ∙ ap (λ (z : ℤ). round_z z factor_one) (through w64 (product) (fits))

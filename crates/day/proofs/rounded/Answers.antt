@@ -56,6 +56,6 @@ returns c =
     let read_n : to_z w64 (of_z w64 c.args.n) ≡ c.args.n = to_z-of_z w64 c.args.n c.ranges.n in
     let told : Diff c.args.n c.lifted-lifted.result (c.args.most * nat_abs c.args.d) = diff_of _ _ _ (rw (read_n, read_d) at c.lifted-lifted.ensures) in
     let s = c in let r = c.lowered.result in let q = c.nearest_even.result in
-    to_z-of_z w64 r (record { sfits = c.lowered.type-inv })
+    to_z-of_z w64 r (record { sfits = c.lowered.type_inv })
     ∙ diff_join (diff_of r q c.args.most c.lowered.ensures) (rw (read_d) at c.nearest_even.ensures)
     (round_biased (nat_abs c.args.d) c.args.most (positive) c.requires.1 (told))

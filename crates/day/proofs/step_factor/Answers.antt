@@ -20,30 +20,30 @@ step_parts-requires-2 c = tt
 pub overflow_sub-result : goal.overflow_sub-result
 overflow_sub-result c =
     let on_day : held c.step_parts.result ≡ step_parts c.args.event c.args.day =
-    to_z-of_z w64 c.step_parts.result (record { sfits = c.step_parts.type-inv }) ∙ c.step_parts.ensures
-    ∙ (λ i. step_parts (to_z-of_z w64 c.args.event c.fits.event i) (to_z-of_z w64 c.args.day c.fits.day i)) in
+    to_z-of_z w64 c.step_parts.result (record { sfits = c.step_parts.type_inv }) ∙ c.step_parts.ensures
+    ∙ (λ i. step_parts (to_z-of_z w64 c.args.event c.ranges.event i) (to_z-of_z w64 c.args.day c.ranges.day i)) in
     let on_reference : held c.step_parts-2.result ≡ step_parts c.args.event c.args.reference =
-    to_z-of_z w64 c.step_parts-2.result (record { sfits = c.step_parts-2.type-inv }) ∙ c.step_parts-2.ensures
-    ∙ (λ i. step_parts (to_z-of_z w64 c.args.event c.fits.event i) (to_z-of_z w64 c.args.reference c.fits.reference i)) in
+    to_z-of_z w64 c.step_parts-2.result (record { sfits = c.step_parts-2.type_inv }) ∙ c.step_parts-2.ensures
+    ∙ (λ i. step_parts (to_z-of_z w64 c.args.event c.ranges.event i) (to_z-of_z w64 c.args.reference c.ranges.reference i)) in
     let facts : Gained c.args.mult c.step_parts.result c.step_parts-2.result
     (step_parts c.args.event c.args.day) (step_parts c.args.event c.args.reference) =
     gained 1 c.args.mult (omega arith) (step_size c.args.event c.args.reference c.args.mult c.requires)
-    c.fits.mult on_day on_reference
+    c.ranges.mult on_day on_reference
     (step_part c.args.event c.args.day) (step_part c.args.event c.args.reference) in
     subst (SFits w64) (sym (facts).less_is) (facts).less_fits
 
 pub overflow_mul-result : goal.overflow_mul-result
 overflow_mul-result c =
     let on_day : held c.step_parts.result ≡ step_parts c.args.event c.args.day =
-    to_z-of_z w64 c.step_parts.result (record { sfits = c.step_parts.type-inv }) ∙ c.step_parts.ensures
-    ∙ (λ i. step_parts (to_z-of_z w64 c.args.event c.fits.event i) (to_z-of_z w64 c.args.day c.fits.day i)) in
+    to_z-of_z w64 c.step_parts.result (record { sfits = c.step_parts.type_inv }) ∙ c.step_parts.ensures
+    ∙ (λ i. step_parts (to_z-of_z w64 c.args.event c.ranges.event i) (to_z-of_z w64 c.args.day c.ranges.day i)) in
     let on_reference : held c.step_parts-2.result ≡ step_parts c.args.event c.args.reference =
-    to_z-of_z w64 c.step_parts-2.result (record { sfits = c.step_parts-2.type-inv }) ∙ c.step_parts-2.ensures
-    ∙ (λ i. step_parts (to_z-of_z w64 c.args.event c.fits.event i) (to_z-of_z w64 c.args.reference c.fits.reference i)) in
+    to_z-of_z w64 c.step_parts-2.result (record { sfits = c.step_parts-2.type_inv }) ∙ c.step_parts-2.ensures
+    ∙ (λ i. step_parts (to_z-of_z w64 c.args.event c.ranges.event i) (to_z-of_z w64 c.args.reference c.ranges.reference i)) in
     let facts : Gained c.args.mult c.step_parts.result c.step_parts-2.result
     (step_parts c.args.event c.args.day) (step_parts c.args.event c.args.reference) =
     gained 1 c.args.mult (omega arith) (step_size c.args.event c.args.reference c.args.mult c.requires)
-    c.fits.mult on_day on_reference
+    c.ranges.mult on_day on_reference
     (step_part c.args.event c.args.day) (step_part c.args.event c.args.reference) in
     subst (SFits w64) (sym (facts).times_is) (facts).times_fits
 
@@ -51,14 +51,14 @@ pub returns : goal.returns
 unfolding relative
 returns c =
     let on_day : held c.step_parts.result ≡ step_parts c.args.event c.args.day =
-    to_z-of_z w64 c.step_parts.result (record { sfits = c.step_parts.type-inv }) ∙ c.step_parts.ensures
-    ∙ (λ i. step_parts (to_z-of_z w64 c.args.event c.fits.event i) (to_z-of_z w64 c.args.day c.fits.day i)) in
+    to_z-of_z w64 c.step_parts.result (record { sfits = c.step_parts.type_inv }) ∙ c.step_parts.ensures
+    ∙ (λ i. step_parts (to_z-of_z w64 c.args.event c.ranges.event i) (to_z-of_z w64 c.args.day c.ranges.day i)) in
     let on_reference : held c.step_parts-2.result ≡ step_parts c.args.event c.args.reference =
-    to_z-of_z w64 c.step_parts-2.result (record { sfits = c.step_parts-2.type-inv }) ∙ c.step_parts-2.ensures
-    ∙ (λ i. step_parts (to_z-of_z w64 c.args.event c.fits.event i) (to_z-of_z w64 c.args.reference c.fits.reference i)) in
+    to_z-of_z w64 c.step_parts-2.result (record { sfits = c.step_parts-2.type_inv }) ∙ c.step_parts-2.ensures
+    ∙ (λ i. step_parts (to_z-of_z w64 c.args.event c.ranges.event i) (to_z-of_z w64 c.args.reference c.ranges.reference i)) in
     let facts : Gained c.args.mult c.step_parts.result c.step_parts-2.result
     (step_parts c.args.event c.args.day) (step_parts c.args.event c.args.reference) =
     gained 1 c.args.mult (omega arith) (step_size c.args.event c.args.reference c.args.mult c.requires)
-    c.fits.mult on_day on_reference
+    c.ranges.mult on_day on_reference
     (step_part c.args.event c.args.day) (step_part c.args.event c.args.reference) in
     through w64 (facts).times_is (facts).times_fits ∙ sym (round_whole _)
