@@ -30,7 +30,7 @@ fix_in-requires c =
     rw (seen) (
       c.requires.0.inside (omega arith),
       c.requires.0.listed (omega arith),
-      subst (λ (z : ℤ). nat_abs z ≤ factor_most) (sym (to_z-of_z w64 c.args.factor s.fits.factor)) c.requires.1,
+      subst (λ (z : ℤ). nat_abs z ≤ factor_most) (sym (to_z-of_z w64 c.args.factor c.ranges.factor)) c.requires.1,
     )
 
 pub returns : goal.returns
@@ -39,5 +39,5 @@ returns c =
     c.offset_in-l.ensures ∙ ap (λ (f : Frame). offset_in f c.args.np c.args.x c.args.y) c.frame_at.ensures in
     let s = c in let a = c.args in
     c.fix_in.ensures
-    ∙ (λ i. fix_in (seen i) a.nodes.now (to_z-of_z w64 a.factor s.fits.factor i) a.c)
+    ∙ (λ i. fix_in (seen i) a.nodes.now (to_z-of_z w64 a.factor c.ranges.factor i) a.c)
     ∙ sym (fix_at_some a.c (λ k. offset_in (frame_at a.frames.now k) a.np a.x a.y) a.nodes.now a.factor c.if-c-eq0.false)

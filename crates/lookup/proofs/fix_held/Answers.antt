@@ -24,25 +24,24 @@ by_chosen frames np nodes x y h e k = subst (λ (q : Held). HeldChosen frames q 
 
 pub overflow_add-at : goal.overflow_add-at
 overflow_add-at c =
-    let s = c in let a = c.args in
+    let a = c.args in
     record { fits = (by_chosen a.frames.now a.np (length a.nodes.now) a.x a.y a.held c.in-By.is c.requires.0).most }
 
 pub overflow_sub-at : goal.overflow_sub-at
 overflow_sub-at c =
-    let s = c in let a = c.args in
+    let a = c.args in
     (by_chosen a.frames.now a.np (length a.nodes.now) a.x a.y a.held c.in-By.is c.requires.0).least
 
 pub overflow_add-owner : goal.overflow_add-owner
 overflow_add-owner c =
-    let s = c in let a = c.args in
+    let a = c.args in
     let r = by_chosen a.frames.now a.np (length a.nodes.now) a.x a.y a.held c.in-By.is c.requires.0 in
     record { fits = omega (arith, r.chosen.number) }
 
 pub fix_chosen-requires : goal.fix_chosen-requires
 fix_chosen-requires c =
-    let s = c in let a = c.args in
-    let h = c.held-1.given in let r = by_chosen a.frames.now a.np (length a.nodes.now) a.x a.y a.held h.1 c.requires.0 in (
-      subst (λ (n : ℕ). Chosen a.frames.now n a.np (length a.nodes.now) (a.x + h.0.1.0 - lon_turn) a.y) (sym (add-one h.0.0)) r.chosen,
+    let a = c.args in let r = by_chosen a.frames.now a.np (length a.nodes.now) a.x a.y a.held c.in-By.is c.requires.0 in (
+      subst (λ (n : ℕ). Chosen a.frames.now n a.np (length a.nodes.now) (a.x + c.in-By.shift - lon_turn) a.y) (sym (add-one c.in-By.owner)) r.chosen,
       subst (λ (z : ℤ). nat_abs z ≤ factor_most) (sym (to_z-of_z w64 a.factor c.ranges.factor)) c.requires.1,
     )
 
@@ -53,7 +52,7 @@ returns-in-Nothing c =
 
 pub returns-in-By : goal.returns-in-By
 returns-in-By c =
-    let s = c in let a = c.args in let h = c.held-1.given in
+    let a = c.args in
     c.fix_chosen.ensures
-    ∙ (λ i. fix_at (add-one h.0.0 i) (λ k. offset_in (frame_at a.frames.now k) a.np (a.x + h.0.1.0 - lon_turn) a.y) a.nodes.now (to_z-of_z w64 a.factor c.ranges.factor i))
-    ∙ ap (λ (q : Held). fix_held a.frames.now q a.np a.nodes.now a.factor a.x a.y) (sym h.1)
+    ∙ (λ i. fix_at (add-one c.in-By.owner i) (λ k. offset_in (frame_at a.frames.now k) a.np (a.x + c.in-By.shift - lon_turn) a.y) a.nodes.now (to_z-of_z w64 a.factor c.ranges.factor i))
+    ∙ ap (λ (q : Held). fix_held a.frames.now q a.np a.nodes.now a.factor a.x a.y) (sym c.in-By.is)

@@ -33,33 +33,29 @@ module _ (g : Group) (frames : List ℕ) (f : Framed g g.grids frames) where
 
 pub first_short-short-requires : goal.first_short-short-requires
 first_short-short-requires c =
-    let g : Group = group_of_words c.args.words.now in
-    let s = c in let g = group_of_words c.args.words.now in let h = accepted_head g in let e = c.grid_count-n.ensures in (
+    let g = group_of_words c.args.words.now in let h = accepted_head g c.requires.0 in let e = c.grid_count-n.ensures in (
       omega (arith, h.grids, e, c.requires.2),
       omega (arith, h.parameters, c.parameter_count.ensures),
-      subst (FramesSized c.args.frames.now) (sym e) (sized g c.requires.1 c.requires.0),
+      subst (FramesSized c.args.frames.now) (sym e) (sized g c.args.frames.now c.requires.1 c.requires.0),
     )
 
 pub overflow_add-result : goal.overflow_add-result
 overflow_add-result c =
-    let g : Group = group_of_words c.args.words.now in
-    let q = c in omega (arith, c.if-short-n.true, c.grid_count-n.ensures, (accepted_head (g) c.requires.0).grids)
+    omega (arith, c.if-short-n.true, c.grid_count-n.ensures, (accepted_head (group_of_words c.args.words.now) c.requires.0).grids)
 
 pub returns-then-short-n : goal.returns-then-short-n
 unfolding nodes_judged
 returns-then-short-n c =
-    let g : Group = group_of_words c.args.words.now in
-    let found : c.first_short-short.result ≡ first (ends_early g c.args.nodes) g.grids = c.first_short-short.ensures ∙ short g c.args.frames.now c.requires.1 _ c.grid_count-n.ensures c.parameter_count.ensures in
-    let q = c in
-    at_here Refused (ends_early (g) c.args.nodes) (g).grids 13 1 Accepted c.first_short-short.result (found)
+    let g = group_of_words c.args.words.now in
+    at_here Refused (ends_early g c.args.nodes) g.grids 13 1 Accepted c.first_short-short.result
+    (c.first_short-short.ensures ∙ short g c.args.frames.now c.requires.1 _ c.grid_count-n.ensures c.parameter_count.ensures)
     (omega (arith, c.if-short-n.true, c.grid_count-n.ensures))
 
 pub returns : goal.returns
 unfolding nodes_judged
 returns c =
-    let g : Group = group_of_words c.args.words.now in
-    let found : c.first_short-short.result ≡ first (ends_early g c.args.nodes) g.grids = c.first_short-short.ensures ∙ short g c.args.frames.now c.requires.1 _ c.grid_count-n.ensures c.parameter_count.ensures in
-    let q = c in
+    let g = group_of_words c.args.words.now in
     sym
-    (at_past Refused (ends_early (g) c.args.nodes) (g).grids 13 1 Accepted c.first_short-short.result (found)
+    (at_past Refused (ends_early g c.args.nodes) g.grids 13 1 Accepted c.first_short-short.result
+    (c.first_short-short.ensures ∙ short g c.args.frames.now c.requires.1 _ c.grid_count-n.ensures c.parameter_count.ensures)
     (omega (arith, c.if-short-n.false, c.grid_count-n.ensures)))

@@ -1,7 +1,6 @@
 -- `look_accepted` meets its contract.
 use mathlib.Core.Path.{◌≡◌, sym, ◌∙◌, subst}
 use mathlib.Core.Bool.{true}
-use borrow.Author.Tests.{not-true, not-false}
 use lib.IntN.{ℤ}
 use lib.ListN.{length}
 use mir.Syntax.{w64}
@@ -16,63 +15,54 @@ use Rattle.lookup.specs.Lookup.{point_fits, offset_of, fix_at, LookupReady}
 use Rattle.lookup.proofs.StageLaws.{day_told, nodes_accepted, looked_6, looked_9, looked_13, looked_on}
 use borrow.Author.Rules.{rules}
 use Rattle.lookup.proofs.look_accepted.Goals as goal
+use Rattle.lookup.proofs.look_accepted.Goals.{Else-not-day_fits, In-Accepted}
+
+-- behind the tests
+point : (c : Else-not-day_fits) → point_fits c.args.point ≡ true
+point c = sym c.point_fits.ensures ∙ c.if-not-point_fits.false
+
+day : (c : Else-not-day_fits) → day_fits c.args.day ≡ true
+day c = day_told c.ranges.day c.day_fits.ensures ∙ c.if-not-day_fits.false
+
+ready : (c : In-Accepted) → point_fits c.args.point ≡ true → day_fits c.args.day ≡ true → LookupReady (group_of_words c.args.words.now) (length c.args.nodes.now) c.args.point c.args.day
+ready c p d =
+    record {
+      accepted = c.requires.0;
+      point = p;
+      day = d;
+      ends = nodes_accepted (group_of_words c.args.words.now) (length c.args.nodes.now) (sym c.judge_nodes-verdict.ensures ∙ c.in-Accepted.is);
+    }
 
 pub returns-then-not-point_fits : goal.returns-then-not-point_fits
 returns-then-not-point_fits c =
-    let s = c in
-    sym (looked_6 (group_of_words c.args.words.now) c.args.nodes.now c.args.point c.args.day (sym c.point_fits.ensures ∙ not-true _ c.if-not-point_fits.true))
+    sym (looked_6 (group_of_words c.args.words.now) c.args.nodes.now c.args.point c.args.day (sym c.point_fits.ensures ∙ c.if-not-point_fits.true))
 
 pub returns-then-not-day_fits : goal.returns-then-not-day_fits
 returns-then-not-day_fits c =
-    let s = c in
     sym
     (looked_9 (group_of_words c.args.words.now) c.args.nodes.now c.args.point c.args.day
-    (sym c.point_fits.ensures ∙ not-false _ c.if-not-point_fits.false)
-    (day_told c.ranges.day c.day_fits.ensures ∙ not-true _ c.if-not-day_fits.true))
+    (sym c.point_fits.ensures ∙ c.if-not-point_fits.false)
+    (day_told c.ranges.day c.day_fits.ensures ∙ c.if-not-day_fits.true))
 
 pub judge_nodes-verdict-requires : goal.judge_nodes-verdict-requires
-judge_nodes-verdict-requires c = let s = c in (c.requires.0, c.requires.1.flat.framed, c.requires.1.room.frames_room)
+judge_nodes-verdict-requires c = (c.requires.0, c.requires.1.flat.framed, c.requires.1.room.frames_room)
 
 pub look_in-requires : goal.look_in-requires
 look_in-requires c =
-    let g : Group = group_of_words c.args.words.now in
-    let point : point_fits c.args.point ≡ true = sym c.point_fits.ensures ∙ not-false _ c.if-not-point_fits.false in
-    let day : day_fits c.args.day ≡ true = day_told c.fits.day c.day_fits.ensures ∙ not-false _ c.if-not-day_fits.false in
-    let ready : let q = c in LookupReady (g) (length c.args.nodes.now) c.args.point c.args.day =
-    let q = c in
-    record {
-      accepted = c.requires.0;
-      point = point;
-      day = day;
-      ends = nodes_accepted (g) (length c.args.nodes.now) (sym c.judge_nodes-verdict.ensures ∙ c.in-Accepted.is);
-    } in
-    let q = c in let s = c in (
-      subst (λ (z : ℤ). LookupReady (g) (length c.args.nodes.now) c.args.point z) (sym (to_z-of_z w64 c.args.day s.fits.day)) (ready),
+    let q = goal.at.look_in-requires c in (
+      subst (λ (z : ℤ). LookupReady (group_of_words c.args.words.now) (length c.args.nodes.now) c.args.point z) (sym (to_z-of_z w64 c.args.day c.ranges.day))
+      (ready q.In-Accepted (point q.Else-not-day_fits) (day q.Else-not-day_fits)),
       c.requires.1,
     )
 
 pub returns-in-Refused : goal.returns-in-Refused
 returns-in-Refused c =
-    let g : Group = group_of_words c.args.words.now in
-    let point : point_fits c.args.point ≡ true = sym c.point_fits.ensures ∙ not-false _ c.if-not-point_fits.false in
-    let day : day_fits c.args.day ≡ true = day_told c.fits.day c.day_fits.ensures ∙ not-false _ c.if-not-day_fits.false in
-    let q = c in let a = c.args in
-    sym (looked_13 (g) a.nodes.now a.point a.day (point) (day) _ (sym c.judge_nodes-verdict.ensures ∙ c.in-Refused.is))
+    let a = c.args in let q = goal.at.returns-in-Refused c in
+    sym (looked_13 (group_of_words a.words.now) a.nodes.now a.point a.day (point q.Else-not-day_fits) (day q.Else-not-day_fits) _ (sym c.judge_nodes-verdict.ensures ∙ c.in-Refused.is))
 
 pub returns-in-Accepted : goal.returns-in-Accepted
 returns-in-Accepted c =
-    let g : Group = group_of_words c.args.words.now in
-    let point : point_fits c.args.point ≡ true = sym c.point_fits.ensures ∙ not-false _ c.if-not-point_fits.false in
-    let day : day_fits c.args.day ≡ true = day_told c.fits.day c.day_fits.ensures ∙ not-false _ c.if-not-day_fits.false in
-    let ready : let q = c in LookupReady (g) (length c.args.nodes.now) c.args.point c.args.day =
-    let q = c in
-    record {
-      accepted = c.requires.0;
-      point = point;
-      day = day;
-      ends = nodes_accepted (g) (length c.args.nodes.now) (sym c.judge_nodes-verdict.ensures ∙ c.in-Accepted.is);
-    } in
-    let q = c in let s = c in
+    let g = group_of_words c.args.words.now in let q = goal.at.returns-in-Accepted c in
     c.look_in.ensures
-    ∙ (λ i. fix_at (chosen_in (g) c.args.point.lon.0 c.args.point.lat.0) (λ k. offset_of (grid_at (g) k) (g).parameters c.args.point) c.args.nodes.now (factor_of (g).function (g).functions (to_z-of_z w64 c.args.day s.fits.day i)))
-    ∙ sym (looked_on (g) c.args.nodes.now c.args.point c.args.day (ready))
+    ∙ (λ i. fix_at (chosen_in g c.args.point.lon.0 c.args.point.lat.0) (λ k. offset_of (grid_at g k) g.parameters c.args.point) c.args.nodes.now (factor_of g.function g.functions (to_z-of_z w64 c.args.day c.ranges.day i)))
+    ∙ sym (looked_on g c.args.nodes.now c.args.point c.args.day (ready q.In-Accepted (point q.Else-not-day_fits) (day q.Else-not-day_fits)))

@@ -64,8 +64,8 @@ fix_chosen-requires c =
     ∙ ap (chosen (λ k. turn_holds lon_turn c.args.sides.now k x y) (at c.args.ranks.now)) c.grid_count.ensures in
     let few : g.grids * 7 ≤ length c.args.frames.now = omega (arith, (accepted_head g c.requires.0.accepted).grids, c.requires.1.room.frames_room) in
     let factor : to_z w64 (of_z w64 c.factor_on-factor.result) ≡ factor_of (g).function (g).functions c.args.day =
-    to_z-of_z w64 c.factor_on-factor.result (record { sfits = c.factor_on-factor.type-inv }) ∙ c.factor_on-factor.ensures
-    ∙ (λ i. factor_in (function_rows c.args.words.now) (c.function_count.ensures i) (to_z-of_z w64 c.args.day c.fits.day i))
+    to_z-of_z w64 c.factor_on-factor.result (record { sfits = c.factor_on-factor.type_inv }) ∙ c.factor_on-factor.ensures
+    ∙ (λ i. factor_in (function_rows c.args.words.now) (c.function_count.ensures i) (to_z-of_z w64 c.args.day c.ranges.day i))
     ∙ rows_factor c.args.words.now c.requires.0.accepted c.args.day in
     let q = c in let s = c in let a = c.requires.0.accepted in (
       rw c.parameter_count.ensures
@@ -84,8 +84,8 @@ returns c =
     c.chosen_flat-c.ensures
     ∙ ap (chosen (λ k. turn_holds lon_turn c.args.sides.now k x y) (at c.args.ranks.now)) c.grid_count.ensures in
     let factor : to_z w64 (of_z w64 c.factor_on-factor.result) ≡ factor_of (g).function (g).functions c.args.day =
-    to_z-of_z w64 c.factor_on-factor.result (record { sfits = c.factor_on-factor.type-inv }) ∙ c.factor_on-factor.ensures
-    ∙ (λ i. factor_in (function_rows c.args.words.now) (c.function_count.ensures i) (to_z-of_z w64 c.args.day c.fits.day i))
+    to_z-of_z w64 c.factor_on-factor.result (record { sfits = c.factor_on-factor.type_inv }) ∙ c.factor_on-factor.ensures
+    ∙ (λ i. factor_in (function_rows c.args.words.now) (c.function_count.ensures i) (to_z-of_z w64 c.args.day c.ranges.day i))
     ∙ rows_factor c.args.words.now c.requires.0.accepted c.args.day in
     let p = c in let q = c in let s = c in let at = c.used_at-at.result in
     c.fix_chosen.ensures

@@ -16,11 +16,11 @@ fix_held-requires c =
     let s = c in let a = c.args in (
       subst (λ (q : Held). HeldChosen a.frames.now q a.np (length a.nodes.now) a.x a.y)
           (sym c.first_holder-held.ensures) c.requires.0.ready,
-      subst (λ (z : ℤ). nat_abs z ≤ factor_most) (sym (to_z-of_z w64 a.factor s.fits.factor)) c.requires.1,
+      subst (λ (z : ℤ). nat_abs z ≤ factor_most) (sym (to_z-of_z w64 a.factor c.ranges.factor)) c.requires.1,
     )
 
 pub returns : goal.returns
 returns c =
     let s = c in let a = c.args in
     c.fix_held.ensures
-    ∙ (λ i. fix_held a.frames.now (c.first_holder-held.ensures i) a.np a.nodes.now (to_z-of_z w64 a.factor s.fits.factor i) a.x a.y)
+    ∙ (λ i. fix_held a.frames.now (c.first_holder-held.ensures i) a.np a.nodes.now (to_z-of_z w64 a.factor c.ranges.factor i) a.x a.y)
