@@ -32,7 +32,7 @@ pub loop-k-preserved : goal.loop-k-preserved
 loop-k-preserved c =
     let s = c in
     let l = c.loop-k in
-    writes_more function_text blank_function c.args.functions c.args.count c.args.at c.args.out.now (omega (arith, c.well_formed.0.1.0.1, c.requires.0)) c.requires.1 l.next l.k l.out l.invariant c.loop-k-test.true c.put_function-next.result c.put_function-next.new.1.0 c.put_function-next.ensures
+    writes_more function_text blank_function c.args.functions c.args.count c.args.at c.args.out.now (omega (arith, c.well_formed.0.1.0.1, c.requires.0)) c.requires.1 l.next l.k l.out l.invariant c.loop-k-test.true c.put_function-next.result c.put_function-next.new.out c.put_function-next.ensures
 
 pub shape_of-out : goal.shape_of-out
 shape_of-out c =

@@ -20,24 +20,24 @@ put_head-p-requires c =
 pub put_functions-q-requires : goal.put_functions-q-requires
 put_functions-q-requires c =
     let room1 : let g = c.args.group in 0 + length (head_run g ++ (function_run g ++ grid_run g)) ≤ length c.args.out.now = runs_room c.args.group c.args.out.now c.requires.1 in
-    let room2 : let g = c.args.group in c.put_head-p.result + length (function_run g ++ grid_run g) ≤ length c.put_head-p.new.1.0 =
+    let room2 : let g = c.args.group in c.put_head-p.result + length (function_run g ++ grid_run g) ≤ length c.put_head-p.new.out =
     let g = c.args.group in
     room_next 0 (head_run g) (function_run g ++ grid_run g) c.args.out.now _ _ c.put_head-p.ensures (room1) in
     let d = c in
     let s = c in
     let g = c.args.group in
-    ((accepted_head g c.requires.0).functions, room_first c.put_head-p.result (function_run g) (grid_run g) c.put_head-p.new.1.0 (room2))
+    ((accepted_head g c.requires.0).functions, room_first c.put_head-p.result (function_run g) (grid_run g) c.put_head-p.new.out (room2))
 
 pub put_grids-requires : goal.put_grids-requires
 put_grids-requires c =
     let room1 : let g = c.args.group in 0 + length (head_run g ++ (function_run g ++ grid_run g)) ≤ length c.args.out.now = runs_room c.args.group c.args.out.now c.requires.1 in
-    let room2 : let g = c.args.group in c.put_head-p.result + length (function_run g ++ grid_run g) ≤ length c.put_head-p.new.1.0 =
+    let room2 : let g = c.args.group in c.put_head-p.result + length (function_run g ++ grid_run g) ≤ length c.put_head-p.new.out =
     let g = c.args.group in
     room_next 0 (head_run g) (function_run g ++ grid_run g) c.args.out.now _ _ c.put_head-p.ensures (room1) in
-    let room3 : let g = c.args.group in c.put_functions-q.result + length (grid_run g) ≤ length c.put_functions-q.new.1.1.0 =
+    let room3 : let g = c.args.group in c.put_functions-q.result + length (grid_run g) ≤ length c.put_functions-q.new.out =
     let g = c.args.group in
     let d = c in
-    room_next c.put_head-p.result (function_run g) (grid_run g) c.put_head-p.new.1.0 _ _ c.put_functions-q.ensures (room2) in
+    room_next c.put_head-p.result (function_run g) (grid_run g) c.put_head-p.new.out _ _ c.put_functions-q.ensures (room2) in
     let d = c in
     let s = c in
     (grids_wide c.args.group c.requires.0, room3)
@@ -45,7 +45,7 @@ put_grids-requires c =
 pub returns : goal.returns
 returns c =
     let room1 : let g = c.args.group in 0 + length (head_run g ++ (function_run g ++ grid_run g)) ≤ length c.args.out.now = runs_room c.args.group c.args.out.now c.requires.1 in
-    let room2 : let g = c.args.group in c.put_head-p.result + length (function_run g ++ grid_run g) ≤ length c.put_head-p.new.1.0 =
+    let room2 : let g = c.args.group in c.put_head-p.result + length (function_run g ++ grid_run g) ≤ length c.put_head-p.new.out =
     let g = c.args.group in
     room_next 0 (head_run g) (function_run g ++ grid_run g) c.args.out.now _ _ c.put_head-p.ensures (room1) in
     let c3 = c in
@@ -53,5 +53,5 @@ returns c =
     let c1 = c in
     let s = c in
     let g = c.args.group in
-    let more = wrote_both c.put_head-p.result (function_run g) (grid_run g) c.put_head-p.new.1.0 _ _ _ _ c.put_functions-q.ensures c.put_grids.ensures (room2) in
+    let more = wrote_both c.put_head-p.result (function_run g) (grid_run g) c.put_head-p.new.out _ _ _ _ c.put_functions-q.ensures c.put_grids.ensures (room2) in
     runs_wrote g c.args.out.now _ _ (wrote_both 0 (head_run g) (function_run g ++ grid_run g) c.args.out.now _ _ _ _ c.put_head-p.ensures more (room1))

@@ -1,5 +1,4 @@
 -- `line::blank_head` meets its contract.
-use borrow.Author.Rules.{rules}
 use Rattle.line.proofs.blank_head.Goals as goal
 
 pub returns : goal.returns

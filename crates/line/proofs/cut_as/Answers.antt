@@ -7,7 +7,6 @@ use native.Mathlib.Omega.{arith}
 use lib.Dec.{eqb}
 use Rattle.text.specs.Fields.{same}
 use Rattle.text.proofs.PartLaws.{some_split}
-use borrow.Author.Rules.{rules}
 use Rattle.line.proofs.cut_as.Goals as goal
 
 pub cut_field-requires : goal.cut_field-requires
@@ -20,4 +19,4 @@ returns c =
     let w = c.args in
     let n = c.cut_fields-n in
     let k = c.same_bytes-keyed.ensures ∙ ap (λ (l : List ℕ). same l w.word.now) c.cut_field.ensures in
-    (λ i. k i && eqb (n.ensures.0 i) w.count, n.ensures.1)
+    record { value = λ i. k i && eqb (n.ensures.value i) w.count; cuts = n.ensures.cuts }

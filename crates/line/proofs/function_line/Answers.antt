@@ -16,7 +16,6 @@ use Rattle.line.specs.Lines.{keyed, ramp_keyword, step_keyword, ramp2_keyword, s
 use Rattle.line.specs.Answers.{function_answer}
 use Rattle.line.proofs.LineLaws.{keyed_miss, keyed_hit}
 use Rattle.line.proofs.ReadLaws.{keyword_told}
-use borrow.Author.Rules.{rules}
 use Rattle.line.proofs.function_line.Goals as goal
 
 -- what is left of a line's kinds behind each test: no ramp, then no step, then no ramp2

@@ -2,7 +2,6 @@
 use mathlib.Core.Path.{ap, ◌∙◌}
 use mir.Facts.{to_z-of_z}
 use Rattle.numbers.specs.Order.{count_of}
-use borrow.Author.Rules.{rules}
 use Rattle.line.proofs.grid_made.Goals as goal
 
 pub returns : goal.returns

@@ -1,12 +1,6 @@
 -- `line::name_form` meets its contract.
-use Prim.Native.Nat.{◌≤◌, ◌-◌}
-use mathlib.Core.Path.{◌≡◌, refl, sym, ap, ◌∙◌}
+use mathlib.Core.Path.{refl, sym, ap, ◌∙◌}
 use native.Mathlib.Omega.{arith}
-use borrow.Author.Rules.{rules}
-use borrow.Author.Tests.{not-true, not-false}
-use lib.ListN.{length, drop}
-use Rattle.group.specs.Numbers.{name_most}
-use Rattle.line.specs.Names.{all_name_bytes}
 use Rattle.line.specs.Answers.{form_of}
 use Rattle.line.proofs.NameLaws.{bytes_bad, bytes_good, bytes_end, name_empty, name_long, name_bytes}
 use Rattle.line.proofs.name_form.Goals as goal
@@ -24,14 +18,14 @@ pub returns-then-not-name_byte : goal.returns-then-not-name_byte
 returns-then-not-name_byte c =
     let d = c in
     let s = c.args.s.now in
-    let e = sym c.name_byte.ensures ∙ not-true c.name_byte.result c.if-not-name_byte.true in
+    let e = sym c.name_byte.ensures ∙ c.if-not-name_byte.true in
     sym (ap form_of (name_bytes s c.loop-i.invariant.0 c.loop-i.invariant.1 ∙ sym c.loop-i.invariant.3 ∙ bytes_bad s c.loop-i.i c.loop-i-test.true e))
 
 pub loop-i-preserved : goal.loop-i-preserved
 loop-i-preserved c =
     let d = c in
     let s = c.args.s.now in
-    let e = sym c.name_byte.ensures ∙ not-false c.name_byte.result c.if-not-name_byte.false in
+    let e = sym c.name_byte.ensures ∙ c.if-not-name_byte.false in
     (c.loop-i.invariant.0, c.loop-i.invariant.1, omega arith, sym (bytes_good s c.loop-i.i c.loop-i-test.true e) ∙ c.loop-i.invariant.3)
 
 pub returns : goal.returns

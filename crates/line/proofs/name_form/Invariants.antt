@@ -1,14 +1,9 @@
 -- `line::name_form` meets its contract.
 use Prim.Native.Nat.{◌≤◌, ◌-◌}
-use mathlib.Core.Path.{◌≡◌, refl, sym, ap, ◌∙◌}
-use native.Mathlib.Omega.{arith}
-use borrow.Author.Rules.{rules}
-use borrow.Author.Tests.{not-true, not-false}
+use mathlib.Core.Path.{◌≡◌}
 use lib.ListN.{length, drop}
 use Rattle.group.specs.Numbers.{name_most}
 use Rattle.line.specs.Names.{all_name_bytes}
-use Rattle.line.specs.Answers.{form_of}
-use Rattle.line.proofs.NameLaws.{bytes_bad, bytes_good, bytes_end, name_empty, name_long, name_bytes}
 use Rattle.line.proofs.name_form.Given as goal
 
 abbrev pub invariant-loop-i : goal.invariant-loop-i

@@ -12,7 +12,6 @@ use Rattle.text.specs.Fields.{read_ints}
 use Rattle.text.proofs.PartLaws.{some_split}
 use Rattle.line.specs.Numbers.{NumbersRead}
 use Rattle.line.proofs.NumberLaws.{count_other, count_same}
-use borrow.Author.Rules.{rules}
 use Rattle.line.proofs.numbers_behind.Goals as goal
 
 pub returns-then-count-numbers : goal.returns-then-count-numbers
@@ -28,5 +27,5 @@ returns c =
     let n : ℕ = length c.args.numbers.now in
     let s = c in let d = length-drop 1 (split 9 c.args.line.now) in let p = c.requires.1 in let t = c.if-count-numbers.false in
     let l : length (fs) ≡ n = omega arith in
-    subst (λ (o : Option (List ℤ)). NumbersRead o c.read_numbers.result c.read_numbers.new.1.1.1.0)
+    subst (λ (o : Option (List ℤ)). NumbersRead o c.read_numbers.result c.read_numbers.new.numbers)
     (ap read_ints (take_all (n) (fs) (omega arith)) ∙ count_same (n) (fs) l) c.read_numbers.ensures

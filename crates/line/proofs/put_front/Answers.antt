@@ -4,7 +4,6 @@ use mathlib.Core.Path.{◌≡◌, subst}
 use native.Mathlib.Omega.{arith}
 use lib.ListN.{length, take}
 use Rattle.text.specs.Wrote.{Wrote}
-use borrow.Author.Rules.{rules}
 use Rattle.line.proofs.put_front.Goals as goal
 
 pub put_bytes-requires : goal.put_bytes-requires
@@ -18,4 +17,4 @@ returns c =
     let a = c.args in
     let k = c.put_bytes in
     let e : a.n - 0 ≡ a.n = omega arith in
-    subst (λ (m : ℕ). Wrote a.at (take m a.s.now) a.out.now k.result k.new.1.0) e k.ensures
+    subst (λ (m : ℕ). Wrote a.at (take m a.s.now) a.out.now k.result k.new.out) e k.ensures

@@ -9,7 +9,6 @@ use lib.Seq.{take_all}
 use Rattle.text.specs.Parts.{led, join}
 use Rattle.text.specs.Decimal.{int_text}
 use Rattle.text.proofs.PutLaws.{Left, left_all, left_none, left_room, left_more}
-use borrow.Author.Rules.{rules}
 use Rattle.line.proofs.put_line.Goals as goal
 
 pub put_bytes-p-requires : goal.put_bytes-p-requires
@@ -32,7 +31,7 @@ put_numbers-q-requires c =
     let e : take (length zs) zs ≡ zs = take_all (length zs) zs (omega arith) in
     left_all c.args.at _ c.args.out.now _
     (append_assoc w (led 9 (map int_text zs)) (10 ∷ []) ∙ ap (λ (ys : List ℤ). w ++ (led 9 (map int_text ys) ++ (10 ∷ []))) (sym e)) c.requires in
-    let left₁ : Rest (numbers ++ (10 ∷ [])) c.put_bytes-p.result c.put_bytes-p.new.1.0 = left_more c.args.word.now (numbers ++ (10 ∷ [])) (left₀) c.put_bytes-p.ensures in
+    let left₁ : Rest (numbers ++ (10 ∷ [])) c.put_bytes-p.result c.put_bytes-p.new.out = left_more c.args.word.now (numbers ++ (10 ∷ [])) (left₀) c.put_bytes-p.ensures in
     let b = c in (omega arith, left_room (numbers) (10 ∷ []) (left₁))
 
 pub put_byte-requires : goal.put_byte-requires
@@ -44,8 +43,8 @@ put_byte-requires c =
     let e : take (length zs) zs ≡ zs = take_all (length zs) zs (omega arith) in
     left_all c.args.at _ c.args.out.now _
     (append_assoc w (led 9 (map int_text zs)) (10 ∷ []) ∙ ap (λ (ys : List ℤ). w ++ (led 9 (map int_text ys) ++ (10 ∷ []))) (sym e)) c.requires in
-    let left₁ : Rest (numbers ++ (10 ∷ [])) c.put_bytes-p.result c.put_bytes-p.new.1.0 = left_more c.args.word.now (numbers ++ (10 ∷ [])) (left₀) c.put_bytes-p.ensures in
-    let left₂ : Rest (10 ∷ []) c.put_numbers-q.result c.put_numbers-q.new.1.1.0 = left_more (numbers) (10 ∷ []) (left₁) c.put_numbers-q.ensures in
+    let left₁ : Rest (numbers ++ (10 ∷ [])) c.put_bytes-p.result c.put_bytes-p.new.out = left_more c.args.word.now (numbers ++ (10 ∷ [])) (left₀) c.put_bytes-p.ensures in
+    let left₂ : Rest (10 ∷ []) c.put_numbers-q.result c.put_numbers-q.new.out = left_more (numbers) (10 ∷ []) (left₁) c.put_numbers-q.ensures in
     let h = left_room (10 ∷ []) [] (left₂) in omega arith
 
 pub returns : goal.returns
@@ -57,6 +56,6 @@ returns c =
     let e : take (length zs) zs ≡ zs = take_all (length zs) zs (omega arith) in
     left_all c.args.at _ c.args.out.now _
     (append_assoc w (led 9 (map int_text zs)) (10 ∷ []) ∙ ap (λ (ys : List ℤ). w ++ (led 9 (map int_text ys) ++ (10 ∷ []))) (sym e)) c.requires in
-    let left₁ : Rest (numbers ++ (10 ∷ [])) c.put_bytes-p.result c.put_bytes-p.new.1.0 = left_more c.args.word.now (numbers ++ (10 ∷ [])) (left₀) c.put_bytes-p.ensures in
-    let left₂ : Rest (10 ∷ []) c.put_numbers-q.result c.put_numbers-q.new.1.1.0 = left_more (numbers) (10 ∷ []) (left₁) c.put_numbers-q.ensures in
+    let left₁ : Rest (numbers ++ (10 ∷ [])) c.put_bytes-p.result c.put_bytes-p.new.out = left_more c.args.word.now (numbers ++ (10 ∷ [])) (left₀) c.put_bytes-p.ensures in
+    let left₂ : Rest (10 ∷ []) c.put_numbers-q.result c.put_numbers-q.new.out = left_more (numbers) (10 ∷ []) (left₁) c.put_numbers-q.ensures in
     left_none (left_more (10 ∷ []) [] (left₂) c.put_byte.ensures)

@@ -2,7 +2,6 @@
 use mathlib.Core.List.{[], ◌∷◌}
 use Rattle.text.proofs.PutLaws.{wrote_both}
 use Rattle.line.specs.Names.{name_text}
-use borrow.Author.Rules.{rules}
 use Rattle.line.proofs.put_name.Goals as goal
 
 pub returns : goal.returns

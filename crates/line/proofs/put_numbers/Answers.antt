@@ -1,21 +1,16 @@
 -- `line::put_numbers` meets its contract.
-use Prim.Native.Nat.{ℕ, suc, ◌-◌, ◌<◌, ◌≤◌}
+use Prim.Native.Nat.{ℕ, suc, ◌<◌, ◌≤◌}
 use mathlib.Core.Path.{◌≡◌, refl, sym, ap, subst, ◌∙◌}
-use mathlib.Core.List.{List, [], ◌∷◌, map}
+use mathlib.Core.List.{List, [], ◌∷◌}
 use native.Mathlib.Numerals.{add-one}
 use native.Mathlib.Omega.{arith}
+use borrow.Author.Rules.{rules}
 use lib.IntN.{ℤ, pos}
 use lib.ListN.{length, take, drop, get_or, drop_of_length-le}
 use lib.Seq.{length-take-le, drop-cons, get_or-take}
-use Rattle.text.specs.Parts.{led}
-use Rattle.text.specs.Decimal.{int_text}
 use Rattle.text.proofs.PutLaws.{Left, left_all, left_none, left_length, int_room, int_more}
-use Rattle.line.proofs.put_numbers.Invariants.{record}
+use Rattle.line.proofs.put_numbers.Invariants.{text, Begun}
 use Rattle.line.proofs.put_numbers.Goals as goal
-
--- numbers as text, each behind its tab
-abbrev text : List ℤ → List ℕ
-text zs = led 9 (map int_text zs)
 
 module _ {zs : List ℤ} {n at : ℕ} {out : List ℕ} {next k : ℕ} {bytes : List ℕ} (fits : n ≤ length zs) (w : Begun zs n at out next k bytes) where
   next_number : k < n → text (drop k (take n zs)) ≡ text (get_or zs k (pos 0) ∷ drop (suc k) (take n zs))
@@ -45,7 +40,7 @@ bounds-numbers-k c = omega (arith, c.requires.0)
 pub put_number-next-requires : goal.put_number-next-requires
 put_number-next-requires c =
     let s = c in let l = c.loop-k in
-    int_room (get_or c.args.numbers.now l.k (pos 0)) _ (record { sfits = c.put_number-arg-1.given })
+    int_room (get_or c.args.numbers.now l.k (pos 0)) _ (search rules)
     (left_number c.requires.0 l.invariant c.loop-k-test.true)
 
 pub overflow_add-k : goal.overflow_add-k
@@ -59,11 +54,11 @@ loop-k-preserved c =
     let s = c in let l = c.loop-k in
     let zs = c.args.numbers.now in let n = c.args.n in
     let p = c.put_number-next in
-    let m = int_more (get_or zs l.k (pos 0)) (text (drop (suc l.k) (take n zs))) (record { sfits = c.put_number-arg-1.given })
+    let m = int_more (get_or zs l.k (pos 0)) (text (drop (suc l.k) (take n zs))) (search rules)
     (left_number c.requires.0 l.invariant c.loop-k-test.true) p.ensures in
     record {
       bound = omega (arith, c.loop-k-test.true);
-      left = subst (λ (j : ℕ). Left c.args.at (text (take n zs)) c.args.out.now (text (drop j (take n zs))) p.result p.new.1.0) (sym (add-one l.k)) m;
+      left = subst (λ (j : ℕ). Left c.args.at (text (take n zs)) c.args.out.now (text (drop j (take n zs))) p.result p.new.out) (sym (add-one l.k)) m;
     }
 
 pub shape_of-out : goal.shape_of-out

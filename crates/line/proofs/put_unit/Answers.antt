@@ -6,7 +6,6 @@ use lib.ListN.{length}
 use Rattle.text.specs.Wrote.{Wrote}
 use Rattle.group.specs.declared.Unit as U
 use Rattle.line.specs.Names.{unit_text}
-use borrow.Author.Rules.{rules}
 use Rattle.line.proofs.put_unit.Goals as goal
 
 pub put_bytes-requires : goal.put_bytes-requires
@@ -19,10 +18,10 @@ pub returns-in-ArcSecond : goal.returns-in-ArcSecond
 returns-in-ArcSecond c =
     let s = c in
     let k = c.put_bytes in
-    subst (λ (u : U.Unit). Wrote c.args.at (9 ∷ unit_text u) c.args.out.now k.result k.new.1.0) (sym c.in-ArcSecond.is) k.ensures
+    subst (λ (u : U.Unit). Wrote c.args.at (9 ∷ unit_text u) c.args.out.now k.result k.new.out) (sym c.in-ArcSecond.is) k.ensures
 
 pub returns-in-Metre : goal.returns-in-Metre
 returns-in-Metre c =
     let s = c in
     let k = c.put_bytes-in-Metre in
-    subst (λ (u : U.Unit). Wrote c.args.at (9 ∷ unit_text u) c.args.out.now k.result k.new.1.0) (sym c.in-Metre.is) k.ensures
+    subst (λ (u : U.Unit). Wrote c.args.at (9 ∷ unit_text u) c.args.out.now k.result k.new.out) (sym c.in-Metre.is) k.ensures

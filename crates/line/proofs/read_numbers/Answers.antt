@@ -1,11 +1,11 @@
 -- `line::read_numbers` meets its contract.
-use Prim.Native.Nat.{◌+◌, ◌-◌, ◌<◌, ◌≤◌}
-use mathlib.Core.Path.{◌≡◌, refl, ◌∙◌}
+use Prim.Native.Nat.{◌+◌, ◌<◌}
+use mathlib.Core.Path.{refl, ◌∙◌}
 use native.Mathlib.Omega.{arith}
 use lib.ListN.{length, length-set}
 use Rattle.text.specs.Parts.{split}
 use Rattle.line.proofs.ReadLaws.{field_bad, field_number}
-use Rattle.line.proofs.NumberLaws.{NumbersTo, numbers_more, numbers_read_bad, numbers_read_good}
+use Rattle.line.proofs.NumberLaws.{numbers_more, numbers_read_bad, numbers_read_good}
 use borrow.Author.Rules.{rules}
 use Rattle.line.proofs.read_numbers.Goals as goal
 
@@ -22,12 +22,6 @@ cut_field-requires c =
     let below : c.loop-k.k < length c.args.numbers.now = let e = c.loop-k.invariant.1 in let q = c.loop-k-test.true in omega arith in
     let s = c in let l = below in let p = c.requires.1 in let q = c.requires.2 in
     (omega arith, c.requires.0 (c.args.first + c.loop-k.k) (omega arith) (omega arith))
-
-pub enum_known-z : goal.enum_known-z
-enum_known-z c = c.in-Whole.keys1
-
-pub enum_told-1 : goal.enum_told-1
-enum_told-1 c = c.in_default.keys2
 
 pub shape_of-numbers-in_default : goal.shape_of-numbers-in_default
 shape_of-numbers-in_default c = c.loop-k.invariant.1
@@ -51,7 +45,7 @@ loop-k-preserved c =
       omega arith,
       length-set c.loop-k.numbers c.loop-k.k _ ∙ c.loop-k.invariant.1,
       numbers_more (split 9 c.args.line.now) c.args.first c.loop-k.k c.loop-k.numbers _ c.loop-k-test.true c.loop-k.invariant.2
-          (field_number c.args.line.now (c.args.first + c.loop-k.k) _ _ c.read_number.ensures c.cut_field.ensures _ c.in-Whole.is (record { sfits = c.known_told-1.given.0.1 })),
+          (field_number c.args.line.now (c.args.first + c.loop-k.k) _ _ c.read_number.ensures c.cut_field.ensures _ c.in-Whole.is (search rules)),
     )
 
 pub shape_of-numbers : goal.shape_of-numbers

@@ -1,12 +1,9 @@
 -- `line::read_numbers` meets its contract.
-use Prim.Native.Nat.{◌+◌, ◌-◌, ◌<◌, ◌≤◌}
-use mathlib.Core.Path.{◌≡◌, refl, ◌∙◌}
-use native.Mathlib.Omega.{arith}
-use lib.ListN.{length, length-set}
+use Prim.Native.Nat.{◌-◌, ◌≤◌}
+use mathlib.Core.Path.{◌≡◌}
+use lib.ListN.{length}
 use Rattle.text.specs.Parts.{split}
-use Rattle.line.proofs.ReadLaws.{field_bad, field_number}
-use Rattle.line.proofs.NumberLaws.{NumbersTo, numbers_more, numbers_read_bad, numbers_read_good}
-use borrow.Author.Rules.{rules}
+use Rattle.line.proofs.NumberLaws.{NumbersTo}
 use Rattle.line.proofs.read_numbers.Given as goal
 
 abbrev pub invariant-loop-k : goal.invariant-loop-k

@@ -7,7 +7,6 @@ use Rattle.group.specs.declared.Unit as U
 use Rattle.group.specs.declared.Unit.TheVariants.{ArcSecond, Metre}
 use Rattle.line.specs.Names.{unit_text}
 use Rattle.line.specs.Answers.{unit_answer}
-use borrow.Author.Rules.{rules}
 use Rattle.line.proofs.read_unit.Goals as goal
 
 pub returns-then-same_bytes : goal.returns-then-same_bytes

@@ -1,5 +1,4 @@
 -- `line::refused_function` meets its contract.
-use borrow.Author.Rules.{rules}
 use Rattle.line.proofs.refused_function.Goals as goal
 
 pub returns : goal.returns

@@ -1,5 +1,4 @@
 -- `line::refused_grid` meets its contract.
-use borrow.Author.Rules.{rules}
 use Rattle.line.proofs.refused_grid.Goals as goal
 
 pub returns : goal.returns

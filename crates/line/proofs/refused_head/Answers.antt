@@ -1,5 +1,4 @@
 -- `line::refused_head` meets its contract.
-use borrow.Author.Rules.{rules}
 use Rattle.line.proofs.refused_head.Goals as goal
 
 pub returns : goal.returns

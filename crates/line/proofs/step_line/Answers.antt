@@ -3,7 +3,9 @@ use mathlib.Core.Path.{◌∙◌}
 use lib.ListN.{drop}
 use mir.Facts.{to_z-of_z}
 use borrow.Author.Rules.{rules}
-use borrow.Author.Tests.{not-true, not-false}
+use mir.Syntax.{w64}
+use lib.IntN.{pos}
+use lib.ListN.{get_or}
 use Rattle.text.specs.Parts.{split}
 use Rattle.group.specs.declared.Shape.TheVariants as S
 use Rattle.line.proofs.KindLaws.{step_shape}
@@ -13,14 +15,14 @@ use Rattle.line.proofs.step_line.Goals as goal
 pub returns-then-not-numbers_behind : goal.returns-then-not-numbers_behind
 returns-then-not-numbers_behind c =
     let s = c.args in let k = c.numbers_behind in
-    c.refused_function.ensures ∙ shape_unread step_shape s.n (drop 1 (split 9 s.line.now)) _ _ k.ensures (not-true _ c.if-not-numbers_behind.true)
+    c.refused_function.ensures ∙ shape_unread step_shape s.n (drop 1 (split 9 s.line.now)) _ _ k.ensures (c.if-not-numbers_behind.true)
 
 pub returns : goal.returns
 returns c =
     let s = c.args in let k = c.numbers_behind in
-    let p = to_z-of_z (record { sfits = c.event-1.given }) in
-    let q = to_z-of_z (record { sfits = c.reference-1.given }) in
-    let r = to_z-of_z (record { sfits = c.mult-1.given }) in
+    let p = to_z-of_z {w = w64} {z = get_or k.new.numbers 0 (pos 0)} (search rules) in
+    let q = to_z-of_z {w = w64} {z = get_or k.new.numbers 1 (pos 0)} (search rules) in
+    let r = to_z-of_z {w = w64} {z = get_or k.new.numbers 2 (pos 0)} (search rules) in
     c.function_judged.ensures
-    ∙ shape_read step_shape s.n (drop 1 (split 9 s.line.now)) _ _ k.ensures (not-false _ c.if-not-numbers_behind.false) _
+    ∙ shape_read step_shape s.n (drop 1 (split 9 s.line.now)) _ _ k.ensures (c.if-not-numbers_behind.false) _
     (λ i. S.Step (record { event = p i; reference = q i; mult = r i }))

@@ -30,13 +30,13 @@ pub returns-then-not-read_entry : goal.returns-then-not-read_entry
 returns-then-not-read_entry c =
     let g : Group = group_of_words c.args.words.now in
     let line : List ℕ = c.args.line.now in
-    let place : List ℤ = c.read_entry.new.1.1.1.0 in
-    let shifts : List ℤ = c.read_entry.new.1.1.1.1.0 in
-    let read : EntryRead g.parameters line c.read_entry.result c.read_entry.new.1.1.0 place shifts =
-    subst (λ (n : ℕ). EntryRead n line c.read_entry.result c.read_entry.new.1.1.0 place shifts)
+    let place : List ℤ = c.read_entry.new.place in
+    let shifts : List ℤ = c.read_entry.new.values in
+    let read : EntryRead g.parameters line c.read_entry.result c.read_entry.new.cuts place shifts =
+    subst (λ (n : ℕ). EntryRead n line c.read_entry.result c.read_entry.new.cuts place shifts)
     c.parameter_count-np.ensures c.read_entry.ensures in
     let r = c in
-    record { kind = sym (line_unformed (g) c.args.nodes.now (line) ((read).bad (not-true _ c.if-not-read_entry.true))); scale = c.requires.scale }
+    record { kind = sym (line_unformed (g) c.args.nodes.now (line) ((read).bad (c.if-not-read_entry.true))); scale = c.requires.scale }
 
 pub scale_on-next-requires : goal.scale_on-next-requires
 scale_on-next-requires c = let s = c in (c.requires.call.accepted, c.requires.scale)
@@ -53,18 +53,18 @@ pub cut_field-name-requires : goal.cut_field-name-requires
 cut_field-name-requires c =
     let g : Group = group_of_words c.args.words.now in
     let line : List ℕ = c.args.line.now in
-    let place : List ℤ = c.read_entry.new.1.1.1.0 in
-    let shifts : List ℤ = c.read_entry.new.1.1.1.1.0 in
-    let read : EntryRead g.parameters line c.read_entry.result c.read_entry.new.1.1.0 place shifts =
-    subst (λ (n : ℕ). EntryRead n line c.read_entry.result c.read_entry.new.1.1.0 place shifts)
+    let place : List ℤ = c.read_entry.new.place in
+    let shifts : List ℤ = c.read_entry.new.values in
+    let read : EntryRead g.parameters line c.read_entry.result c.read_entry.new.cuts place shifts =
+    subst (λ (n : ℕ). EntryRead n line c.read_entry.result c.read_entry.new.cuts place shifts)
     c.parameter_count-np.ensures c.read_entry.ensures in
-    let said : Said (g).parameters (line) c.read_entry.last.1.1.0 (place) (shifts) = (read).good (not-false _ c.if-not-read_entry.false) in
+    let said : Said (g).parameters (line) c.read_entry.last.1.1.0 (place) (shifts) = (read).good (c.if-not-read_entry.false) in
     (omega arith, (said).named)
 
 pub kind_of-requires : goal.kind_of-requires
 kind_of-requires c =
     let g : Group = group_of_words c.args.words.now in
-    let place : List ℤ = c.read_entry.new.1.1.1.0 in
+    let place : List ℤ = c.read_entry.new.place in
     let day : c.scale_on-next.result.day ≡ number_at (place) 2 =
     ap (λ (s : Scale). s.day) c.scale_on-next.ensures ∙ scale_day (g) _
     ∙ told {x = number_at (place) 2} c.day-1.given refl in
@@ -80,8 +80,8 @@ kind_of-requires c =
 pub returns : goal.returns
 returns c =
     let g : Group = group_of_words c.args.words.now in
-    let shifts : List ℤ = c.read_entry.new.1.1.1.1.0 in
-    let place : List ℤ = c.read_entry.new.1.1.1.0 in
+    let shifts : List ℤ = c.read_entry.new.values in
+    let place : List ℤ = c.read_entry.new.place in
     let day : c.scale_on-next.result.day ≡ number_at (place) 2 =
     ap (λ (s : Scale). s.day) c.scale_on-next.ensures ∙ scale_day (g) _
     ∙ told {x = number_at (place) 2} c.day-1.given refl in

@@ -34,7 +34,7 @@ pub returns-then-not-names_grid : goal.returns-then-not-names_grid
 returns-then-not-names_grid c =
     let s = c in
     sym (kind_grid c.args.words.now c.args.found _ c.in-Fix.is c.requires.0 c.args.name.now c.args.shifts.now
-    (sym c.names_grid.ensures ∙ not-true _ c.if-not-names_grid.true))
+    (sym c.names_grid.ensures ∙ c.if-not-names_grid.true))
 
 pub same_shifts-requires : goal.same_shifts-requires
 same_shifts-requires c =
@@ -46,24 +46,24 @@ pub returns-then-not-same_shifts : goal.returns-then-not-same_shifts
 returns-then-not-same_shifts c =
     let words : List ℤ = c.args.words.now in
     let f : Fix = c.in-Fix.f in
-    let named : same c.args.name.now (name_text (grid_of_words words (f.grid - 1)).name) ≡ true = sym c.names_grid.ensures ∙ not-false _ c.if-not-names_grid.false in
+    let named : same c.args.name.now (name_text (grid_of_words words (f.grid - 1)).name) ≡ true = sym c.names_grid.ensures ∙ c.if-not-names_grid.false in
     let compared : same_shifts (group_of_words words).parameters c.args.shifts.now (number_at (result_list f)) ≡ c.same_shifts.result =
     let t = c.struct_told-1.given in
     let a = told {x = f.first} t.1.0.1 refl in let b = told {x = f.second} t.1.1.0.1 refl in let d = told {x = f.third} t.1.1.1.0.1 refl in
     sym (c.same_shifts.ensures ∙ (λ i. same_shifts (c.parameter_count.ensures i) c.args.shifts.now (number_at (a i ∷ b i ∷ d i ∷ [])))) in
     let s = c in
     sym (kind_shift (words) c.args.found _ c.in-Fix.is c.requires.0 c.args.name.now c.args.shifts.now
-    (named) (compared ∙ not-true _ c.if-not-same_shifts.true))
+    (named) (compared ∙ c.if-not-same_shifts.true))
 
 pub returns : goal.returns
 returns c =
     let words : List ℤ = c.args.words.now in
     let f : Fix = c.in-Fix.f in
-    let named : same c.args.name.now (name_text (grid_of_words words (f.grid - 1)).name) ≡ true = sym c.names_grid.ensures ∙ not-false _ c.if-not-names_grid.false in
+    let named : same c.args.name.now (name_text (grid_of_words words (f.grid - 1)).name) ≡ true = sym c.names_grid.ensures ∙ c.if-not-names_grid.false in
     let compared : same_shifts (group_of_words words).parameters c.args.shifts.now (number_at (result_list f)) ≡ c.same_shifts.result =
     let t = c.struct_told-1.given in
     let a = told {x = f.first} t.1.0.1 refl in let b = told {x = f.second} t.1.1.0.1 refl in let d = told {x = f.third} t.1.1.1.0.1 refl in
     sym (c.same_shifts.ensures ∙ (λ i. same_shifts (c.parameter_count.ensures i) c.args.shifts.now (number_at (a i ∷ b i ∷ d i ∷ [])))) in
     let s = c in
     sym (kind_none (words) c.args.found _ c.in-Fix.is c.requires.0 c.args.name.now c.args.shifts.now
-    (named) (compared ∙ not-false _ c.if-not-same_shifts.false))
+    (named) (compared ∙ c.if-not-same_shifts.false))

@@ -35,7 +35,7 @@ returns-then-not-point_fits c =
     let s = c in let a = c.args in
     sym
     (looked_accepted (g) a.nodes.now a.point a.scale.day c.requires.call.accepted
-    ∙ looked_6 (g) a.nodes.now a.point a.scale.day (sym c.point_fits.ensures ∙ not-true _ c.if-not-point_fits.true))
+    ∙ looked_6 (g) a.nodes.now a.point a.scale.day (sym c.point_fits.ensures ∙ c.if-not-point_fits.true))
 
 pub returns-then-not-day_fits : goal.returns-then-not-day_fits
 returns-then-not-day_fits c =
@@ -44,8 +44,8 @@ returns-then-not-day_fits c =
     sym
     (looked_accepted (g) a.nodes.now a.point a.scale.day c.requires.call.accepted
     ∙ looked_9 (g) a.nodes.now a.point a.scale.day
-    (sym c.point_fits.ensures ∙ not-false _ c.if-not-point_fits.false)
-    (day_told {t = a.scale.day} (record { sfits = c.struct_told-1.given.0.1 }) c.day_fits.ensures ∙ not-true _ c.if-not-day_fits.true))
+    (sym c.point_fits.ensures ∙ c.if-not-point_fits.false)
+    (day_told {t = a.scale.day} (record { sfits = c.struct_told-1.given.0.1 }) c.day_fits.ensures ∙ c.if-not-day_fits.true))
 
 pub bounds-tables-1600 : goal.bounds-tables-1600
 bounds-tables-1600 c =
@@ -77,11 +77,11 @@ fix_held-requires c =
     let y : ℕ = c.lat_from_least-y.result in
     let t : Tabled g l = c.requires.call.tabled in
     let day_bits : SFits w64 c.args.scale.day = record { sfits = c.struct_told-1.given.0.1 } in
-    let day : day_fits c.args.scale.day ≡ true = day_told day_bits c.day_fits.ensures ∙ not-false _ c.if-not-day_fits.false in
+    let day : day_fits c.args.scale.day ≡ true = day_told day_bits c.day_fits.ensures ∙ c.if-not-day_fits.false in
     let ready : LookupReady (g) (length c.args.nodes.now) c.args.point c.args.scale.day =
     record {
       accepted = c.requires.call.accepted;
-      point = sym c.point_fits.ensures ∙ not-false _ c.if-not-point_fits.false;
+      point = sym c.point_fits.ensures ∙ c.if-not-point_fits.false;
       day = day;
       ends = c.requires.call.ends;
     } in
@@ -110,11 +110,11 @@ returns c =
     let y : ℕ = c.lat_from_least-y.result in
     let g : Group = group_of_words c.args.words.now in
     let day_bits : SFits w64 c.args.scale.day = record { sfits = c.struct_told-1.given.0.1 } in
-    let day : day_fits c.args.scale.day ≡ true = day_told day_bits c.day_fits.ensures ∙ not-false _ c.if-not-day_fits.false in
+    let day : day_fits c.args.scale.day ≡ true = day_told day_bits c.day_fits.ensures ∙ c.if-not-day_fits.false in
     let ready : LookupReady (g) (length c.args.nodes.now) c.args.point c.args.scale.day =
     record {
       accepted = c.requires.call.accepted;
-      point = sym c.point_fits.ensures ∙ not-false _ c.if-not-point_fits.false;
+      point = sym c.point_fits.ensures ∙ c.if-not-point_fits.false;
       day = day;
       ends = c.requires.call.ends;
     } in

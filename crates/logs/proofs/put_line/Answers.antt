@@ -90,7 +90,7 @@ put_number-q-requires c =
     left_all 0 (line_text (group) c.args.position c.args.f) c.args.out.now _
     (line_pieces fix_keyword (int_text c.args.position.lon.0 ∷ int_text c.args.position.lat.0 ∷ int_text c.args.position.day ∷ grid_name (group) c.args.f.grid ∷ map int_text (list_of (result_in c.args.f) (group).parameters)) (10 ∷ []))
     (omega (arith, c.requires.1)) in
-    let left₁ : Rest (from-lon) c.put_bytes-p.result c.put_bytes-p.new.1.0 = left_more fix_keyword (from-lon) (left₀) c.put_bytes-p.ensures in
+    let left₁ : Rest (from-lon) c.put_bytes-p.result c.put_bytes-p.new.out = left_more fix_keyword (from-lon) (left₀) c.put_bytes-p.ensures in
     let b = c in int_room c.args.position.lon.0 (from-lat) (record { sfits = c.struct_told-1.given.0.1.1.0.1 }) (left₁)
 
 pub put_number-r-requires : goal.put_number-r-requires
@@ -107,8 +107,8 @@ put_number-r-requires c =
     left_all 0 (line_text (group) c.args.position c.args.f) c.args.out.now _
     (line_pieces fix_keyword (int_text c.args.position.lon.0 ∷ int_text c.args.position.lat.0 ∷ int_text c.args.position.day ∷ grid_name (group) c.args.f.grid ∷ map int_text (list_of (result_in c.args.f) (group).parameters)) (10 ∷ []))
     (omega (arith, c.requires.1)) in
-    let left₁ : Rest (from-lon) c.put_bytes-p.result c.put_bytes-p.new.1.0 = left_more fix_keyword (from-lon) (left₀) c.put_bytes-p.ensures in
-    let left₂ : Rest (from-lat) c.put_number-q.result c.put_number-q.new.1.0 = int_more c.args.position.lon.0 (from-lat) (record { sfits = c.struct_told-1.given.0.1.1.0.1 }) (left₁) c.put_number-q.ensures in
+    let left₁ : Rest (from-lon) c.put_bytes-p.result c.put_bytes-p.new.out = left_more fix_keyword (from-lon) (left₀) c.put_bytes-p.ensures in
+    let left₂ : Rest (from-lat) c.put_number-q.result c.put_number-q.new.out = int_more c.args.position.lon.0 (from-lat) (record { sfits = c.struct_told-1.given.0.1.1.0.1 }) (left₁) c.put_number-q.ensures in
     let b = c in int_room c.args.position.lat.0 (dated) (record { sfits = c.struct_told-2-1.given.1.0.1.1.0.1 }) (left₂)
 
 pub put_number-s-requires : goal.put_number-s-requires
@@ -125,9 +125,9 @@ put_number-s-requires c =
     left_all 0 (line_text (group) c.args.position c.args.f) c.args.out.now _
     (line_pieces fix_keyword (int_text c.args.position.lon.0 ∷ int_text c.args.position.lat.0 ∷ int_text c.args.position.day ∷ grid_name (group) c.args.f.grid ∷ map int_text (list_of (result_in c.args.f) (group).parameters)) (10 ∷ []))
     (omega (arith, c.requires.1)) in
-    let left₁ : Rest (from-lon) c.put_bytes-p.result c.put_bytes-p.new.1.0 = left_more fix_keyword (from-lon) (left₀) c.put_bytes-p.ensures in
-    let left₂ : Rest (from-lat) c.put_number-q.result c.put_number-q.new.1.0 = int_more c.args.position.lon.0 (from-lat) (record { sfits = c.struct_told-1.given.0.1.1.0.1 }) (left₁) c.put_number-q.ensures in
-    let left₃ : Rest (dated) c.put_number-r.result c.put_number-r.new.1.0 = int_more c.args.position.lat.0 (dated) (record { sfits = c.struct_told-2-1.given.1.0.1.1.0.1 }) (left₂) c.put_number-r.ensures in
+    let left₁ : Rest (from-lon) c.put_bytes-p.result c.put_bytes-p.new.out = left_more fix_keyword (from-lon) (left₀) c.put_bytes-p.ensures in
+    let left₂ : Rest (from-lat) c.put_number-q.result c.put_number-q.new.out = int_more c.args.position.lon.0 (from-lat) (record { sfits = c.struct_told-1.given.0.1.1.0.1 }) (left₁) c.put_number-q.ensures in
+    let left₃ : Rest (dated) c.put_number-r.result c.put_number-r.new.out = int_more c.args.position.lat.0 (dated) (record { sfits = c.struct_told-2-1.given.1.0.1.1.0.1 }) (left₂) c.put_number-r.ensures in
     let b = c in int_room c.args.position.day (named) (record { sfits = c.struct_told-3-1.given.1.1.0.1 }) (left₃)
 
 pub overflow_sub-f : goal.overflow_sub-f
@@ -155,12 +155,12 @@ put_name-t-requires c =
     left_all 0 (line_text (group) c.args.position c.args.f) c.args.out.now _
     (line_pieces fix_keyword (int_text c.args.position.lon.0 ∷ int_text c.args.position.lat.0 ∷ int_text c.args.position.day ∷ grid_name (group) c.args.f.grid ∷ map int_text (list_of (result_in c.args.f) (group).parameters)) (10 ∷ []))
     (omega (arith, c.requires.1)) in
-    let left₁ : Rest (from-lon) c.put_bytes-p.result c.put_bytes-p.new.1.0 = left_more fix_keyword (from-lon) (left₀) c.put_bytes-p.ensures in
-    let left₂ : Rest (from-lat) c.put_number-q.result c.put_number-q.new.1.0 = int_more c.args.position.lon.0 (from-lat) (record { sfits = c.struct_told-1.given.0.1.1.0.1 }) (left₁) c.put_number-q.ensures in
-    let left₃ : Rest (dated) c.put_number-r.result c.put_number-r.new.1.0 = int_more c.args.position.lat.0 (dated) (record { sfits = c.struct_told-2-1.given.1.0.1.1.0.1 }) (left₂) c.put_number-r.ensures in
-    let left₄ : Rest (named) c.put_number-s.result c.put_number-s.new.1.0 = int_more c.args.position.day (named) (record { sfits = c.struct_told-3-1.given.1.1.0.1 }) (left₃) c.put_number-s.ensures in
-    let left₅ : Rest (9 ∷ (name_text c.grid_of_words-grid.result.name ++ shifts)) c.put_number-s.result c.put_number-s.new.1.0 =
-    subst (λ (d : Grid). Rest (9 ∷ (name_text d.name ++ shifts)) c.put_number-s.result c.put_number-s.new.1.0)
+    let left₁ : Rest (from-lon) c.put_bytes-p.result c.put_bytes-p.new.out = left_more fix_keyword (from-lon) (left₀) c.put_bytes-p.ensures in
+    let left₂ : Rest (from-lat) c.put_number-q.result c.put_number-q.new.out = int_more c.args.position.lon.0 (from-lat) (record { sfits = c.struct_told-1.given.0.1.1.0.1 }) (left₁) c.put_number-q.ensures in
+    let left₃ : Rest (dated) c.put_number-r.result c.put_number-r.new.out = int_more c.args.position.lat.0 (dated) (record { sfits = c.struct_told-2-1.given.1.0.1.1.0.1 }) (left₂) c.put_number-r.ensures in
+    let left₄ : Rest (named) c.put_number-s.result c.put_number-s.new.out = int_more c.args.position.day (named) (record { sfits = c.struct_told-3-1.given.1.1.0.1 }) (left₃) c.put_number-s.ensures in
+    let left₅ : Rest (9 ∷ (name_text c.grid_of_words-grid.result.name ++ shifts)) c.put_number-s.result c.put_number-s.new.out =
+    subst (λ (d : Grid). Rest (9 ∷ (name_text d.name ++ shifts)) c.put_number-s.result c.put_number-s.new.out)
     (grid_is) (left₄) in
     let b = c in let s = c in (
       subst (λ (d : Grid). d.name.len ≤ name_most) (grid_is) (name_most_lem (group) c.args.position c.args.f c.requires.0),
@@ -187,16 +187,16 @@ put_numbers-u-requires c =
     left_all 0 (line_text (group) c.args.position c.args.f) c.args.out.now _
     (line_pieces fix_keyword (int_text c.args.position.lon.0 ∷ int_text c.args.position.lat.0 ∷ int_text c.args.position.day ∷ grid_name (group) c.args.f.grid ∷ map int_text (list_of (result_in c.args.f) (group).parameters)) (10 ∷ []))
     (omega (arith, c.requires.1)) in
-    let left₁ : Rest (from-lon) c.put_bytes-p.result c.put_bytes-p.new.1.0 = left_more fix_keyword (from-lon) (left₀) c.put_bytes-p.ensures in
-    let left₂ : Rest (from-lat) c.put_number-q.result c.put_number-q.new.1.0 = int_more c.args.position.lon.0 (from-lat) (record { sfits = c.struct_told-1.given.0.1.1.0.1 }) (left₁) c.put_number-q.ensures in
-    let left₃ : Rest (dated) c.put_number-r.result c.put_number-r.new.1.0 = int_more c.args.position.lat.0 (dated) (record { sfits = c.struct_told-2-1.given.1.0.1.1.0.1 }) (left₂) c.put_number-r.ensures in
-    let left₄ : Rest (named) c.put_number-s.result c.put_number-s.new.1.0 = int_more c.args.position.day (named) (record { sfits = c.struct_told-3-1.given.1.1.0.1 }) (left₃) c.put_number-s.ensures in
-    let left₅ : Rest (9 ∷ (name_text c.grid_of_words-grid.result.name ++ shifts)) c.put_number-s.result c.put_number-s.new.1.0 =
-    subst (λ (d : Grid). Rest (9 ∷ (name_text d.name ++ shifts)) c.put_number-s.result c.put_number-s.new.1.0)
+    let left₁ : Rest (from-lon) c.put_bytes-p.result c.put_bytes-p.new.out = left_more fix_keyword (from-lon) (left₀) c.put_bytes-p.ensures in
+    let left₂ : Rest (from-lat) c.put_number-q.result c.put_number-q.new.out = int_more c.args.position.lon.0 (from-lat) (record { sfits = c.struct_told-1.given.0.1.1.0.1 }) (left₁) c.put_number-q.ensures in
+    let left₃ : Rest (dated) c.put_number-r.result c.put_number-r.new.out = int_more c.args.position.lat.0 (dated) (record { sfits = c.struct_told-2-1.given.1.0.1.1.0.1 }) (left₂) c.put_number-r.ensures in
+    let left₄ : Rest (named) c.put_number-s.result c.put_number-s.new.out = int_more c.args.position.day (named) (record { sfits = c.struct_told-3-1.given.1.1.0.1 }) (left₃) c.put_number-s.ensures in
+    let left₅ : Rest (9 ∷ (name_text c.grid_of_words-grid.result.name ++ shifts)) c.put_number-s.result c.put_number-s.new.out =
+    subst (λ (d : Grid). Rest (9 ∷ (name_text d.name ++ shifts)) c.put_number-s.result c.put_number-s.new.out)
     (grid_is) (left₄) in
-    let left₆ : Rest (shifts) c.put_name-t.result c.put_name-t.new.1.0 = left_more (9 ∷ name_text c.grid_of_words-grid.result.name) (shifts) (left₅) c.put_name-t.ensures in
-    let left₇ : Rest (results ++ (10 ∷ [])) c.put_name-t.result c.put_name-t.new.1.0 =
-    subst (λ (rest : List ℕ). Rest rest c.put_name-t.result c.put_name-t.new.1.0)
+    let left₆ : Rest (shifts) c.put_name-t.result c.put_name-t.new.out = left_more (9 ∷ name_text c.grid_of_words-grid.result.name) (shifts) (left₅) c.put_name-t.ensures in
+    let left₇ : Rest (results ++ (10 ∷ [])) c.put_name-t.result c.put_name-t.new.out =
+    subst (λ (rest : List ℕ). Rest rest c.put_name-t.result c.put_name-t.new.out)
     (results_are) (left₆) in
     let b = c in let s = c in
     let e = c.parameter_count.ensures in let m = (accepted_head (group) c.requires.0.accepted).parameters in
@@ -222,18 +222,18 @@ put_byte-requires c =
     left_all 0 (line_text (group) c.args.position c.args.f) c.args.out.now _
     (line_pieces fix_keyword (int_text c.args.position.lon.0 ∷ int_text c.args.position.lat.0 ∷ int_text c.args.position.day ∷ grid_name (group) c.args.f.grid ∷ map int_text (list_of (result_in c.args.f) (group).parameters)) (10 ∷ []))
     (omega (arith, c.requires.1)) in
-    let left₁ : Rest (from-lon) c.put_bytes-p.result c.put_bytes-p.new.1.0 = left_more fix_keyword (from-lon) (left₀) c.put_bytes-p.ensures in
-    let left₂ : Rest (from-lat) c.put_number-q.result c.put_number-q.new.1.0 = int_more c.args.position.lon.0 (from-lat) (record { sfits = c.struct_told-1.given.0.1.1.0.1 }) (left₁) c.put_number-q.ensures in
-    let left₃ : Rest (dated) c.put_number-r.result c.put_number-r.new.1.0 = int_more c.args.position.lat.0 (dated) (record { sfits = c.struct_told-2-1.given.1.0.1.1.0.1 }) (left₂) c.put_number-r.ensures in
-    let left₄ : Rest (named) c.put_number-s.result c.put_number-s.new.1.0 = int_more c.args.position.day (named) (record { sfits = c.struct_told-3-1.given.1.1.0.1 }) (left₃) c.put_number-s.ensures in
-    let left₅ : Rest (9 ∷ (name_text c.grid_of_words-grid.result.name ++ shifts)) c.put_number-s.result c.put_number-s.new.1.0 =
-    subst (λ (d : Grid). Rest (9 ∷ (name_text d.name ++ shifts)) c.put_number-s.result c.put_number-s.new.1.0)
+    let left₁ : Rest (from-lon) c.put_bytes-p.result c.put_bytes-p.new.out = left_more fix_keyword (from-lon) (left₀) c.put_bytes-p.ensures in
+    let left₂ : Rest (from-lat) c.put_number-q.result c.put_number-q.new.out = int_more c.args.position.lon.0 (from-lat) (record { sfits = c.struct_told-1.given.0.1.1.0.1 }) (left₁) c.put_number-q.ensures in
+    let left₃ : Rest (dated) c.put_number-r.result c.put_number-r.new.out = int_more c.args.position.lat.0 (dated) (record { sfits = c.struct_told-2-1.given.1.0.1.1.0.1 }) (left₂) c.put_number-r.ensures in
+    let left₄ : Rest (named) c.put_number-s.result c.put_number-s.new.out = int_more c.args.position.day (named) (record { sfits = c.struct_told-3-1.given.1.1.0.1 }) (left₃) c.put_number-s.ensures in
+    let left₅ : Rest (9 ∷ (name_text c.grid_of_words-grid.result.name ++ shifts)) c.put_number-s.result c.put_number-s.new.out =
+    subst (λ (d : Grid). Rest (9 ∷ (name_text d.name ++ shifts)) c.put_number-s.result c.put_number-s.new.out)
     (grid_is) (left₄) in
-    let left₆ : Rest (shifts) c.put_name-t.result c.put_name-t.new.1.0 = left_more (9 ∷ name_text c.grid_of_words-grid.result.name) (shifts) (left₅) c.put_name-t.ensures in
-    let left₇ : Rest (results ++ (10 ∷ [])) c.put_name-t.result c.put_name-t.new.1.0 =
-    subst (λ (rest : List ℕ). Rest rest c.put_name-t.result c.put_name-t.new.1.0)
+    let left₆ : Rest (shifts) c.put_name-t.result c.put_name-t.new.out = left_more (9 ∷ name_text c.grid_of_words-grid.result.name) (shifts) (left₅) c.put_name-t.ensures in
+    let left₇ : Rest (results ++ (10 ∷ [])) c.put_name-t.result c.put_name-t.new.out =
+    subst (λ (rest : List ℕ). Rest rest c.put_name-t.result c.put_name-t.new.out)
     (results_are) (left₆) in
-    let left₈ : Rest (10 ∷ []) c.put_numbers-u.result c.put_numbers-u.new.1.1.0 = left_more (results) (10 ∷ []) (left₇) c.put_numbers-u.ensures in
+    let left₈ : Rest (10 ∷ []) c.put_numbers-u.result c.put_numbers-u.new.out = left_more (results) (10 ∷ []) (left₇) c.put_numbers-u.ensures in
     let h = left_room (10 ∷ []) [] (left₈) in omega arith
 
 pub shape_of-out : goal.shape_of-out
@@ -256,18 +256,18 @@ shape_of-out c =
     left_all 0 (line_text (group) c.args.position c.args.f) c.args.out.now _
     (line_pieces fix_keyword (int_text c.args.position.lon.0 ∷ int_text c.args.position.lat.0 ∷ int_text c.args.position.day ∷ grid_name (group) c.args.f.grid ∷ map int_text (list_of (result_in c.args.f) (group).parameters)) (10 ∷ []))
     (omega (arith, c.requires.1)) in
-    let left₁ : Rest (from-lon) c.put_bytes-p.result c.put_bytes-p.new.1.0 = left_more fix_keyword (from-lon) (left₀) c.put_bytes-p.ensures in
-    let left₂ : Rest (from-lat) c.put_number-q.result c.put_number-q.new.1.0 = int_more c.args.position.lon.0 (from-lat) (record { sfits = c.struct_told-1.given.0.1.1.0.1 }) (left₁) c.put_number-q.ensures in
-    let left₃ : Rest (dated) c.put_number-r.result c.put_number-r.new.1.0 = int_more c.args.position.lat.0 (dated) (record { sfits = c.struct_told-2-1.given.1.0.1.1.0.1 }) (left₂) c.put_number-r.ensures in
-    let left₄ : Rest (named) c.put_number-s.result c.put_number-s.new.1.0 = int_more c.args.position.day (named) (record { sfits = c.struct_told-3-1.given.1.1.0.1 }) (left₃) c.put_number-s.ensures in
-    let left₅ : Rest (9 ∷ (name_text c.grid_of_words-grid.result.name ++ shifts)) c.put_number-s.result c.put_number-s.new.1.0 =
-    subst (λ (d : Grid). Rest (9 ∷ (name_text d.name ++ shifts)) c.put_number-s.result c.put_number-s.new.1.0)
+    let left₁ : Rest (from-lon) c.put_bytes-p.result c.put_bytes-p.new.out = left_more fix_keyword (from-lon) (left₀) c.put_bytes-p.ensures in
+    let left₂ : Rest (from-lat) c.put_number-q.result c.put_number-q.new.out = int_more c.args.position.lon.0 (from-lat) (record { sfits = c.struct_told-1.given.0.1.1.0.1 }) (left₁) c.put_number-q.ensures in
+    let left₃ : Rest (dated) c.put_number-r.result c.put_number-r.new.out = int_more c.args.position.lat.0 (dated) (record { sfits = c.struct_told-2-1.given.1.0.1.1.0.1 }) (left₂) c.put_number-r.ensures in
+    let left₄ : Rest (named) c.put_number-s.result c.put_number-s.new.out = int_more c.args.position.day (named) (record { sfits = c.struct_told-3-1.given.1.1.0.1 }) (left₃) c.put_number-s.ensures in
+    let left₅ : Rest (9 ∷ (name_text c.grid_of_words-grid.result.name ++ shifts)) c.put_number-s.result c.put_number-s.new.out =
+    subst (λ (d : Grid). Rest (9 ∷ (name_text d.name ++ shifts)) c.put_number-s.result c.put_number-s.new.out)
     (grid_is) (left₄) in
-    let left₆ : Rest (shifts) c.put_name-t.result c.put_name-t.new.1.0 = left_more (9 ∷ name_text c.grid_of_words-grid.result.name) (shifts) (left₅) c.put_name-t.ensures in
-    let left₇ : Rest (results ++ (10 ∷ [])) c.put_name-t.result c.put_name-t.new.1.0 =
-    subst (λ (rest : List ℕ). Rest rest c.put_name-t.result c.put_name-t.new.1.0)
+    let left₆ : Rest (shifts) c.put_name-t.result c.put_name-t.new.out = left_more (9 ∷ name_text c.grid_of_words-grid.result.name) (shifts) (left₅) c.put_name-t.ensures in
+    let left₇ : Rest (results ++ (10 ∷ [])) c.put_name-t.result c.put_name-t.new.out =
+    subst (λ (rest : List ℕ). Rest rest c.put_name-t.result c.put_name-t.new.out)
     (results_are) (left₆) in
-    let left₈ : Rest (10 ∷ []) c.put_numbers-u.result c.put_numbers-u.new.1.1.0 = left_more (results) (10 ∷ []) (left₇) c.put_numbers-u.ensures in
+    let left₈ : Rest (10 ∷ []) c.put_numbers-u.result c.put_numbers-u.new.out = left_more (results) (10 ∷ []) (left₇) c.put_numbers-u.ensures in
     left_length (left_more (10 ∷ []) [] (left₈) c.put_byte.ensures)
 
 pub returns : goal.returns
@@ -290,16 +290,16 @@ returns c =
     left_all 0 (line_text (group) c.args.position c.args.f) c.args.out.now _
     (line_pieces fix_keyword (int_text c.args.position.lon.0 ∷ int_text c.args.position.lat.0 ∷ int_text c.args.position.day ∷ grid_name (group) c.args.f.grid ∷ map int_text (list_of (result_in c.args.f) (group).parameters)) (10 ∷ []))
     (omega (arith, c.requires.1)) in
-    let left₁ : Rest (from-lon) c.put_bytes-p.result c.put_bytes-p.new.1.0 = left_more fix_keyword (from-lon) (left₀) c.put_bytes-p.ensures in
-    let left₂ : Rest (from-lat) c.put_number-q.result c.put_number-q.new.1.0 = int_more c.args.position.lon.0 (from-lat) (record { sfits = c.struct_told-1.given.0.1.1.0.1 }) (left₁) c.put_number-q.ensures in
-    let left₃ : Rest (dated) c.put_number-r.result c.put_number-r.new.1.0 = int_more c.args.position.lat.0 (dated) (record { sfits = c.struct_told-2-1.given.1.0.1.1.0.1 }) (left₂) c.put_number-r.ensures in
-    let left₄ : Rest (named) c.put_number-s.result c.put_number-s.new.1.0 = int_more c.args.position.day (named) (record { sfits = c.struct_told-3-1.given.1.1.0.1 }) (left₃) c.put_number-s.ensures in
-    let left₅ : Rest (9 ∷ (name_text c.grid_of_words-grid.result.name ++ shifts)) c.put_number-s.result c.put_number-s.new.1.0 =
-    subst (λ (d : Grid). Rest (9 ∷ (name_text d.name ++ shifts)) c.put_number-s.result c.put_number-s.new.1.0)
+    let left₁ : Rest (from-lon) c.put_bytes-p.result c.put_bytes-p.new.out = left_more fix_keyword (from-lon) (left₀) c.put_bytes-p.ensures in
+    let left₂ : Rest (from-lat) c.put_number-q.result c.put_number-q.new.out = int_more c.args.position.lon.0 (from-lat) (record { sfits = c.struct_told-1.given.0.1.1.0.1 }) (left₁) c.put_number-q.ensures in
+    let left₃ : Rest (dated) c.put_number-r.result c.put_number-r.new.out = int_more c.args.position.lat.0 (dated) (record { sfits = c.struct_told-2-1.given.1.0.1.1.0.1 }) (left₂) c.put_number-r.ensures in
+    let left₄ : Rest (named) c.put_number-s.result c.put_number-s.new.out = int_more c.args.position.day (named) (record { sfits = c.struct_told-3-1.given.1.1.0.1 }) (left₃) c.put_number-s.ensures in
+    let left₅ : Rest (9 ∷ (name_text c.grid_of_words-grid.result.name ++ shifts)) c.put_number-s.result c.put_number-s.new.out =
+    subst (λ (d : Grid). Rest (9 ∷ (name_text d.name ++ shifts)) c.put_number-s.result c.put_number-s.new.out)
     (grid_is) (left₄) in
-    let left₆ : Rest (shifts) c.put_name-t.result c.put_name-t.new.1.0 = left_more (9 ∷ name_text c.grid_of_words-grid.result.name) (shifts) (left₅) c.put_name-t.ensures in
-    let left₇ : Rest (results ++ (10 ∷ [])) c.put_name-t.result c.put_name-t.new.1.0 =
-    subst (λ (rest : List ℕ). Rest rest c.put_name-t.result c.put_name-t.new.1.0)
+    let left₆ : Rest (shifts) c.put_name-t.result c.put_name-t.new.out = left_more (9 ∷ name_text c.grid_of_words-grid.result.name) (shifts) (left₅) c.put_name-t.ensures in
+    let left₇ : Rest (results ++ (10 ∷ [])) c.put_name-t.result c.put_name-t.new.out =
+    subst (λ (rest : List ℕ). Rest rest c.put_name-t.result c.put_name-t.new.out)
     (results_are) (left₆) in
-    let left₈ : Rest (10 ∷ []) c.put_numbers-u.result c.put_numbers-u.new.1.1.0 = left_more (results) (10 ∷ []) (left₇) c.put_numbers-u.ensures in
+    let left₈ : Rest (10 ∷ []) c.put_numbers-u.result c.put_numbers-u.new.out = left_more (results) (10 ∷ []) (left₇) c.put_numbers-u.ensures in
     left_none (left_more (10 ∷ []) [] (left₈) c.put_byte.ensures)
