@@ -154,9 +154,9 @@ module _ (m n : Name) (f : (j : ℕ) → j < name_most → get_or m.bytes j 0 < 
       packed_tells _ _ 8 (λ k a. f (from + k) (omega arith)) (λ k a. g (from + k) (omega arith)) (eqb-true (word_at m from) (word_at n from) e) j l
 
   -- each byte by the word that it stands in
-  same_byte : eqb (word_at m 0) (word_at n 0) ≡ true → eqb (word_at m 8) (word_at n 8) ≡ true → eqb (word_at m 16) (word_at n 16) ≡ true
+  each_byte : eqb (word_at m 0) (word_at n 0) ≡ true → eqb (word_at m 8) (word_at n 8) ≡ true → eqb (word_at m 16) (word_at n 16) ≡ true
       → (j : ℕ) → j < name_most → get_or m.bytes j 0 ≡ get_or n.bytes j 0
-  same_byte a b c j l =
+  each_byte a b c j l =
       elim (dec_lt j 8) [
         | yes x ↦ let k : 0 + j ≡ j = omega arith in rw k at (bytes 0 (omega arith) a j x)
         | no x ↦
@@ -179,7 +179,7 @@ module _ (m n : Name) (f : (j : ℕ) → j < name_most → get_or m.bytes j 0 < 
       all_every (same_byte m n) name_most
       (λ j l.
       eq-eqb (get_or m.bytes j 0) (get_or n.bytes j 0)
-      (same_byte (and_left a b ab) (and_right a b ab) (and_right (a && b) c abc) j l)))
+      (each_byte (and_left a b ab) (and_right a b ab) (and_right (a && b) c abc) j l)))
     where
       a : Bool
       a = eqb (word_at m 0) (word_at n 0)

@@ -115,15 +115,15 @@ module _ (g : Grid) (e : grid_fits g ≡ true) where
   pub rank_between : (1 ≤ g.rank) × (g.rank ≤ rank_most)
   rank_between = count_between 1 rank_most g.rank (three_of_3 c1 c2 c3 (first_three c1 c2 c3 c4 counts))
 
-  pub start_most : g.start ≤ start_most
-  start_most = (count_between 0 start_most g.start (four_of_4 c1 c2 c3 c4 counts)).1
+  pub start_most_lem : g.start ≤ start_most
+  start_most_lem = (count_between 0 start_most g.start (four_of_4 c1 c2 c3 c4 counts)).1
 
   pub grid_sized : Sized g
   grid_sized =
       record {
         lon = record { at_size = lon_size; step_size = spacing_size g.dlon dlon_good; least = ni_between.0; most = ni_between.1 };
         lat = record { at_size = omega (arith, lat_size); step_size = spacing_size g.dlat dlat_good; least = nj_between.0; most = nj_between.1 };
-        first = start_most;
+        first = start_most_lem;
       }
 
   -- with the far edges and the width within the limits, so are all four sides

@@ -27,7 +27,7 @@ use Rattle.group.specs.Refusals.{refuse_if, unless_refused}
 use Rattle.group.proofs.RefusalLaws.{if_same, stage_same}
 use Rattle.group.proofs.BlankLaws.{name_blank_lem}
 use Rattle.judge.specs.Judge.{unused_function, unused_grid, bad_function, bad_grid, judged_lines, judged_limits, judged_grids, judged_ranks, judged}
-use Rattle.judge.proofs.LimitLaws.{name_good, ni_between, nj_between, rank_between, start_most, quantum_most_lem, parameters_between, functions_most_lem, grids_between}
+use Rattle.judge.proofs.LimitLaws.{name_good, ni_between, nj_between, rank_between, start_most_lem, quantum_most_lem, parameters_between, functions_most_lem, grids_between}
 use Rattle.abi.specs.Words.{name_words, quantum_index, grid_index}
 use Rattle.abi.specs.Abi.{number_at, count_at, byte_at, byte_of, name_of_words, grid_of_words, group_of_words, signed_most, stored, word_of, name_number, numbers_of, KeptName, KeptGrid, KeptHead, MachineName, MachineGroup}
 use Rattle.abi.proofs.ListLaws.{get_or_list_of}
@@ -129,7 +129,7 @@ module _ (g : Group) (h : MachineGroup g) where
       let d = grid_of_words ns k in
       grid_uncut k l
       (fitting_kept_name ns (grid_index k 0) (grid_at g k).name _ (h.names k l) (grid_word g k l) (grid_number g k 3 l (omega arith)) (name_good d e))
-      (ni_between d e).1 (nj_between d e).1 (rank_between d e).1 (start_most d e)
+      (ni_between d e).1 (nj_between d e).1 (rank_between d e).1 (start_most_lem d e)
 
   blank_uncut : (k : ℕ) → k < grids_most → grid_blank (grid_of_words ns k) ≡ true → KeptGrid (grid_at g k)
   unfolding grid_of_words

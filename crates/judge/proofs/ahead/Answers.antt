@@ -1,6 +1,5 @@
 -- `ahead` meets its contract.
 use borrow.Author.Tests.{le-leb, lt-leb}
-use borrow.Author.Rules.{rules}
 use Rattle.judge.proofs.ahead.Goals as goal
 
 pub returns-then-w-x : goal.returns-then-w-x

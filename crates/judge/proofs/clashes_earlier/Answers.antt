@@ -1,10 +1,7 @@
 -- `clashes_earlier` meets its contract, by the loop of FirstLaws.
-use Prim.Native.Nat.{◌-◌}
 use mathlib.Core.Path.{◌∙◌, sym}
 use native.Mathlib.Omega.{arith}
-use borrow.Author.Rules.{rules}
-use Rattle.numbers.proofs.FirstLaws.{Passed, passed_none, passed_more, passed_some, found_some}
-use Rattle.judge.specs.Keys.{clash}
+use Rattle.numbers.proofs.FirstLaws.{passed_none, passed_more, passed_some, found_some}
 use Rattle.judge.proofs.clashes_earlier.Goals as goal
 
 pub loop-j-init : goal.loop-j-init

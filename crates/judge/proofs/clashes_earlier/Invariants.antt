@@ -1,9 +1,6 @@
 -- `clashes_earlier` meets its contract, by the loop of FirstLaws.
 use Prim.Native.Nat.{◌-◌}
-use mathlib.Core.Path.{◌∙◌, sym}
-use native.Mathlib.Omega.{arith}
-use borrow.Author.Rules.{rules}
-use Rattle.numbers.proofs.FirstLaws.{Passed, passed_none, passed_more, passed_some, found_some}
+use Rattle.numbers.proofs.FirstLaws.{Passed}
 use Rattle.judge.specs.Keys.{clash}
 use Rattle.judge.proofs.clashes_earlier.Given as goal
 

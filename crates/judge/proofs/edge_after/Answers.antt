@@ -1,5 +1,4 @@
 -- `edge_after` meets its contract.
-use borrow.Author.Rules.{rules}
 use Rattle.judge.proofs.edge_after.Goals as goal
 
 pub returns-then-edge-i : goal.returns-then-edge-i

@@ -1,10 +1,7 @@
 -- `first_clash` meets its contract, by the loop of FirstLaws.
 use Prim.Native.Nat.{◌-◌}
-use mathlib.Core.Path.{◌∙◌, sym}
-use native.Mathlib.Omega.{arith}
-use borrow.Author.Rules.{rules}
 use Rattle.numbers.specs.First.{some}
-use Rattle.numbers.proofs.FirstLaws.{Passed, passed_none, passed_more, passed_end, passed_found}
+use Rattle.numbers.proofs.FirstLaws.{Passed}
 use Rattle.judge.specs.Keys.{clash}
 use Rattle.judge.proofs.first_clash.Given as goal
 

@@ -1,9 +1,7 @@
 -- `first_function` meets its contract, by the loop of FirstLaws.
-use Prim.Native.Nat.{◌-◌}
 use mathlib.Core.Path.{◌≡◌, ap, ◌∙◌, sym}
-use borrow.Author.Rules.{rules}
 use native.Mathlib.Omega.{arith}
-use Rattle.numbers.proofs.FirstLaws.{Passed, passed_more, passed_end, passed_found}
+use Rattle.numbers.proofs.FirstLaws.{passed_more, passed_end, passed_found}
 use lib.Dec.{leb}
 use Rattle.abi.specs.Abi.{function_of_words}
 use Rattle.judge.specs.Rules.{function_test}

@@ -1,22 +1,20 @@
 -- `first_unused` meets its contract, by the loop of FirstLaws.
-use Prim.Native.Nat.{ℕ, ◌-◌, ◌≤◌}
+use Prim.Native.Nat.{ℕ, ◌≤◌}
 use mathlib.Core.Path.{◌≡◌, ap, ◌∙◌, sym}
 use mathlib.Core.Bool.{Bool, not, ◌&&◌}
 use mathlib.Core.List.{List}
 use borrow.Author.Tests.{le-leb, lt-leb}
 use native.Mathlib.Omega.{arith}
-use lib.Dec.{leb}
 use lib.IntN.{ℤ}
-use Rattle.numbers.proofs.FirstLaws.{Passed, passed_more, passed_end, passed_found}
-use Rattle.group.specs.Numbers.{grids_most}
+use Rattle.numbers.proofs.FirstLaws.{passed_more, passed_end, passed_found}
 use Rattle.group.specs.Limits.{grid_blank}
 use Rattle.abi.specs.Abi.{grid_of_words}
 use Rattle.judge.proofs.first_unused.Invariants.{used}
 use Rattle.judge.proofs.first_unused.Goals as goal
 
 -- what the test says of the entry
-tested : (words : List ℤ) (from k : ℕ) (t v : Bool) → from ≤ k → t ≡ grid_blank (grid_of_words words k) → not t ≡ v → used words from k ≡ v
-tested words from k t v h e w = ap (λ (b : Bool). b && not (grid_blank (grid_of_words words k))) (le-leb from k h) ∙ ap not (sym e) ∙ w
+tested : (words : List ℤ) (from k : ℕ) (t v : Bool) → from ≤ k → t ≡ grid_blank (grid_of_words words k) → t ≡ v → used words from k ≡ not v
+tested words from k t v h e w = ap (λ (b : Bool). b && not (grid_blank (grid_of_words words k))) (le-leb from k h) ∙ ap not (sym e ∙ w)
 
 pub loop-i-init : goal.loop-i-init
 loop-i-init c = (omega arith, record { bound = c.requires; clear = λ k l. rw (lt-leb c.args.from k l) })

@@ -1,13 +1,10 @@
 -- `first_unused` meets its contract, by the loop of FirstLaws.
 use Prim.Native.Nat.{ℕ, ◌-◌, ◌≤◌}
-use mathlib.Core.Path.{◌≡◌, ap, ◌∙◌, sym}
 use mathlib.Core.Bool.{Bool, not, ◌&&◌}
 use mathlib.Core.List.{List}
-use borrow.Author.Tests.{le-leb, lt-leb}
-use native.Mathlib.Omega.{arith}
 use lib.Dec.{leb}
 use lib.IntN.{ℤ}
-use Rattle.numbers.proofs.FirstLaws.{Passed, passed_more, passed_end, passed_found}
+use Rattle.numbers.proofs.FirstLaws.{Passed}
 use Rattle.group.specs.Numbers.{grids_most}
 use Rattle.group.specs.Limits.{grid_blank}
 use Rattle.abi.specs.Abi.{grid_of_words}

@@ -1,5 +1,4 @@
 -- `function_breaks` meets its contract, rule by rule.
-use borrow.Author.Rules.{rules}
 use Rattle.judge.proofs.function_breaks.Goals as goal
 
 pub returns-in-Unused : goal.returns-in-Unused

@@ -1,7 +1,6 @@
 -- `grids_clash` meets its contract.
 use borrow.Author.Tests.{eq-eqb, ne_eqb}
 use Rattle.judge.specs.Keys.{clash}
-use borrow.Author.Rules.{rules}
 use Rattle.judge.proofs.grids_clash.Goals as goal
 
 pub returns-then-keys-j : goal.returns-then-keys-j

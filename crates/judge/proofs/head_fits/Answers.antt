@@ -1,6 +1,5 @@
 -- `head_fits` meets its contract.
 use Rattle.group.specs.Limits.{head_fits}
-use borrow.Author.Rules.{rules}
 use Rattle.judge.proofs.head_fits.Goals as goal
 
 pub returns : goal.returns

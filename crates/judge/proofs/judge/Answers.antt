@@ -6,7 +6,6 @@ use Rattle.abi.specs.Abi.{group_of_words}
 use Rattle.abi.proofs.ShapeLaws.{machine_shaped}
 use Rattle.judge.specs.Judge.{judged}
 use Rattle.judge.proofs.StoredLaws.{stored_judged}
-use borrow.Author.Rules.{rules}
 use Rattle.judge.proofs.judge.Goals as goal
 
 pub returns : goal.returns

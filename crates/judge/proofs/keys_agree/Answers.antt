@@ -1,5 +1,4 @@
 -- `keys_agree` meets its contract, case by case.
-use borrow.Author.Rules.{rules}
 use Rattle.judge.proofs.keys_agree.Goals as goal
 
 pub returns-in-Name : goal.returns-in-Name

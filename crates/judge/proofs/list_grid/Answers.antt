@@ -4,7 +4,6 @@ use Rattle.judge.specs.declared.Keys.{Keys}
 use Rattle.judge.specs.Keys.{put_four}
 use Rattle.judge.proofs.LimitLaws.{grid_sized}
 use lib.ListN.{set}
-use borrow.Author.Rules.{rules}
 use Rattle.judge.proofs.list_grid.Goals as goal
 
 pub flatten-requires : goal.flatten-requires

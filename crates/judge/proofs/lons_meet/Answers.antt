@@ -1,5 +1,4 @@
 -- `lons_meet` meets its contract.
-use borrow.Author.Rules.{rules}
 use Rattle.judge.proofs.lons_meet.Goals as goal
 
 pub returns : goal.returns

@@ -1,5 +1,4 @@
 -- `name_keys` meets its contract.
-use borrow.Author.Rules.{rules}
 use Rattle.judge.proofs.name_keys.Goals as goal
 
 pub returns : goal.returns

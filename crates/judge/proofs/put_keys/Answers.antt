@@ -1,7 +1,6 @@
 -- `put_keys` meets its contract.
 use lib.ListN.{length-set}
 use native.Mathlib.Omega.{arith}
-use borrow.Author.Rules.{rules}
 use Rattle.judge.proofs.put_keys.Goals as goal
 
 pub bounds-fours-at-2 : goal.bounds-fours-at-2

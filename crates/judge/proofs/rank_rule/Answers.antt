@@ -1,6 +1,5 @@
 -- `rank_rule` meets its contract.
 use mathlib.Core.Path.{sym, ◌∙◌}
-use borrow.Author.Rules.{rules}
 use Rattle.judge.proofs.rank_rule.Goals as goal
 
 pub returns-then-some_reaches : goal.returns-then-some_reaches

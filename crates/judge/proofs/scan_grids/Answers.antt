@@ -1,10 +1,8 @@
 -- `scan_grids` meets its contract: each turn takes one grid more.
-use Prim.Native.Nat.{ℕ, ◌+◌, ◌-◌, ◌≤◌}
+use Prim.Native.Nat.{ℕ, ◌+◌}
 use mathlib.Core.Path.{◌≡◌, refl, sym, ap, ◌∙◌}
 use mathlib.Core.Bool.{true, not}
 use native.Mathlib.Omega.{arith}
-use borrow.Author.Tests.{not-false}
-use lib.ListN.{length}
 use Rattle.numbers.proofs.FirstLaws.{passed_end, passed_found}
 use Rattle.group.specs.declared.Grid.{Grid}
 use Rattle.group.specs.Record.{grid_at}
@@ -13,9 +11,8 @@ use Rattle.abi.specs.Abi.{group_of_words}
 use Rattle.abi.proofs.EntryLaws.{grid_of_words_lem}
 use Rattle.flat.specs.Lists.{FlatRoom}
 use Rattle.judge.specs.Judge.{bad_grid}
-use Rattle.judge.specs.Rules.{KeyRoom, Scanned}
+use Rattle.judge.specs.Rules.{KeyRoom}
 use Rattle.judge.proofs.ScanLaws.{scanned_none, scanned_passed, scanned_more}
-use borrow.Author.Rules.{rules}
 use Rattle.judge.proofs.scan_grids.Goals as goal
 
 pub loop-i-init : goal.loop-i-init
@@ -45,13 +42,13 @@ returns-then-not-grid_fits c =
     let grid_read : c.grid_of_words-g.result ≡ grid_at (group_of_words c.args.words.now) i = c.grid_of_words-g.ensures ∙ sym (grid_of_words_lem c.args.words.now i (omega (arith, c.requires.2.room.few, c.loop-i-test.true))) in
     let q = c in let l = c.loop-i in let t = c.loop-i-test.true in (
       passed_found (bad_grid (group_of_words c.args.words.now)) c.args.n l.i (scanned_passed c.args.n l.invariant.0 l.invariant.6) t
-          (ap (λ (d : Grid). not (grid_fits d)) (sym (grid_read)) ∙ sym (ap not c.grid_fits.ensures) ∙ c.if-not-grid_fits.true),
+          (ap (λ (d : Grid). not (grid_fits d)) (sym (grid_read)) ∙ ap not (sym c.grid_fits.ensures ∙ c.if-not-grid_fits.true)),
       λ h. absurd (omega arith),
     )
 
 pub list_grid-inside-requires : goal.list_grid-inside-requires
 list_grid-inside-requires c =
-    let fitting : grid_fits c.grid_of_words-g.result ≡ true = sym c.grid_fits.ensures ∙ not-false _ c.if-not-grid_fits.false in
+    let fitting : grid_fits c.grid_of_words-g.result ≡ true = sym c.grid_fits.ensures ∙ c.if-not-grid_fits.false in
     let i : ℕ = c.loop-i.i in
     let key_room : KeyRoom c.loop-i.fours c.loop-i.keys (i + 1) =
     let l = c.loop-i in let p = c.requires.1 in let t = c.loop-i-test.true in
@@ -89,14 +86,14 @@ loop-i-preserved c =
       frames_room = omega (arith, p.frames_room, l.invariant.5, t);
     } in
     let grid_read : c.grid_of_words-g.result ≡ grid_at (group_of_words c.args.words.now) i = c.grid_of_words-g.ensures ∙ sym (grid_of_words_lem c.args.words.now i (omega (arith, c.requires.2.room.few, c.loop-i-test.true))) in
-    let fitting : grid_fits c.grid_of_words-g.result ≡ true = sym c.grid_fits.ensures ∙ not-false _ c.if-not-grid_fits.false in
+    let fitting : grid_fits c.grid_of_words-g.result ≡ true = sym c.grid_fits.ensures ∙ c.if-not-grid_fits.false in
     let g = c.list_grid-inside in let e = c in let q = c in let l = c.loop-i in (
       omega (arith, c.loop-i-test.true),
-      g.auto.1.1.1.0 ∙ l.invariant.1,
-      g.auto.1.1.1.1.0 ∙ l.invariant.2,
-      g.auto.1.1.1.1.1.0 ∙ l.invariant.3,
-      g.auto.1.1.1.1.1.1.0 ∙ l.invariant.4,
-      g.auto.1.1.1.1.1.1.1.0 ∙ l.invariant.5,
+      g.auto.fours ∙ l.invariant.1,
+      g.auto.keys ∙ l.invariant.2,
+      g.auto.sides ∙ l.invariant.3,
+      g.auto.ranks ∙ l.invariant.4,
+      g.auto.frames ∙ l.invariant.5,
       scanned_more (group_of_words c.args.words.now) c.args.np l.i l.edge l.fours l.keys l.sides l.ranks l.frames l.invariant.6
           (key_room) (flat_room) (grid_read) (fitting) g.ensures.0 c.edge_after-edge.ensures g.ensures.1 g.ensures.2 g.ensures.3,
     )

@@ -1,12 +1,6 @@
 -- `some_reaches` meets its contract, by the loop of FirstLaws.
-use Prim.Native.Nat.{◌+◌, ◌-◌, ◌*◌}
-use mathlib.Core.Bool.{◌||◌}
 use native.Mathlib.Omega.{arith}
-use lib.Dec.{leb}
-use lib.ListN.{get_or}
-use borrow.Author.Rules.{rules}
-use Rattle.numbers.proofs.FirstLaws.{Passed, passed_none, passed_more, passed_some, found_some}
-use Rattle.extent.specs.Sides.{lon_first, lon_last}
+use Rattle.numbers.proofs.FirstLaws.{passed_none, passed_more, passed_some, found_some}
 use Rattle.judge.specs.Keys.{some_reaches}
 use Rattle.judge.proofs.some_reaches.Goals as goal
 

@@ -1,11 +1,8 @@
 -- `word` meets its contract: after i bytes the number is below 256 to the power i.
 use Prim.Native.Nat.{◌+◌, ◌-◌, ◌^◌, ◌<◌, ◌≤◌}
-use mathlib.Core.Path.{◌≡◌, refl, sym, ◌∙◌}
-use native.Mathlib.Omega.{arith}
+use mathlib.Core.Path.{◌≡◌}
 use lib.ListN.{get_or}
-use borrow.Author.Rules.{rules}
 use Rattle.judge.specs.Keys.{packed}
-use Rattle.judge.proofs.KeyLaws.{room, grow, packed_more}
 use Rattle.judge.proofs.word.Given as goal
 
 abbrev pub invariant-loop-i : goal.invariant-loop-i
