@@ -37,17 +37,17 @@ module _ {A : Type 0} (P : A → Type 0) where
   Read k (refused r) = Unit {0}
   Read k (items xs ls) = (length xs ≡ k) × Each xs
 
-  on_line : (k : ℕ) (x : Line Refusal A) (is : Items A) → ((a : A) → x ≡ good a → P a) → Read k is → Read (suc k) (on_line x is)
-  on_line k (bad r) is p h = tt
-  on_line k (good a) (refused r) p h = tt
-  on_line k (good a) (items xs ls) p h = (ap suc h.0, (p a refl, h.1))
+  on_line_read : (k : ℕ) (x : Line Refusal A) (is : Items A) → ((a : A) → x ≡ good a → P a) → Read k is → Read (suc k) (on_line x is)
+  on_line_read k (bad r) is p h = tt
+  on_line_read k (good a) (refused r) p h = tt
+  on_line_read k (good a) (items xs ls) p h = (ap suc h.0, (p a refl, h.1))
 
   read_each : (read : ℕ → List ℕ → Line Refusal A) → ((n : ℕ) (l : List ℕ) (a : A) → read n l ≡ good a → P a)
       → (k n : ℕ) (ls : List (List ℕ)) → Read k (read_items read k n ls)
   read_each read p zero n ls = (refl, tt)
   read_each read p (suc k) n [] = tt
   read_each read p (suc k) n (l ∷ []) = tt
-  read_each read p (suc k) n (l ∷ m ∷ ls) = on_line k (read n l) _ (p n l) (read_each read p k (suc n) (m ∷ ls))
+  read_each read p (suc k) n (l ∷ m ∷ ls) = on_line_read k (read n l) _ (p n l) (read_each read p k (suc n) (m ∷ ls))
 
   each_at : (xs : List A) (z : A) (k : ℕ) → Each xs → k < length xs → P (get_or xs k z)
   each_at [] z k h l = absurd (omega arith)

@@ -69,11 +69,14 @@ line_in texts numbers read fits make word n l =
 
 kinds_in : (n : ℕ) (l : List ℕ) → LineIn (function_line n l)
 kinds_in n l =
-    keyed_in ramp_keyword (shape_fields 4 ramp_of n) _ (shape_in 4 ramp_of)
-    (keyed_in step_keyword (shape_fields 3 step_of n) _ (shape_in 3 step_of)
-    (keyed_in ramp2_keyword (shape_fields 4 ramp2_of n) _ (shape_in 4 ramp2_of)
+    keyed_in ramp_keyword (shape_fields 4 ramp_of n) (keyed step_keyword (shape_fields 3 step_of n) (keyed ramp2_keyword (shape_fields 4 ramp2_of n) none_of)) (shape_in 4 ramp_of)
+    (keyed_in step_keyword (shape_fields 3 step_of n) (keyed ramp2_keyword (shape_fields 4 ramp2_of n) none_of) (shape_in 3 step_of)
+    (keyed_in ramp2_keyword (shape_fields 4 ramp2_of n) none_of (shape_in 4 ramp2_of)
     (λ ps. refl))) (split 9 l)
   where
+    none_of : List (List ℕ) → Line Refusal Function
+    none_of fs = bad (refusal 1 n)
+
     shape_in : (numbers : ℕ) (make : List ℤ → Shape) (fs : List (List ℕ)) → LineIn (shape_fields numbers make n fs)
     shape_in numbers make = fields_in 0 numbers no_texts (shape_fit make) (of_shape make) (refusal 1 n) (refusal 2 n) refl refl
 
@@ -84,16 +87,16 @@ ItemsIn (refused r) = InTable r
 ItemsIn (items xs ls) = Unit {0}
 
 module _ {A : Type 0} (read : ℕ → List ℕ → Line Refusal A) (read-in : (n : ℕ) (l : List ℕ) → LineIn (read n l)) where
-  on_line : (x : Line Refusal A) (is : Items A) → LineIn x → ItemsIn is → ItemsIn (on_line x is)
-  on_line (bad r) is p q = p
-  on_line (good a) (refused r) p q = q
-  on_line (good a) (items xs ls) p q = tt
+  on_line_in : (x : Line Refusal A) (is : Items A) → LineIn x → ItemsIn is → ItemsIn (on_line x is)
+  on_line_in (bad r) is p q = p
+  on_line_in (good a) (refused r) p q = q
+  on_line_in (good a) (items xs ls) p q = tt
 
   items_in : (k n : ℕ) (ls : List (List ℕ)) → ItemsIn (read_items read k n ls)
   items_in zero n ls = tt
   items_in (suc k) n [] = refl
   items_in (suc k) n (l ∷ []) = refl
-  items_in (suc k) n (l ∷ m ∷ ls) = on_line (read n l) (read_items read k (suc n) (m ∷ ls)) (read-in n l) (items_in k (suc n) (m ∷ ls))
+  items_in (suc k) n (l ∷ m ∷ ls) = on_line_in (read n l) (read_items read k (suc n) (m ∷ ls)) (read-in n l) (items_in k (suc n) (m ∷ ls))
 
 -- ---- a whole header, over any two kinds of line
 

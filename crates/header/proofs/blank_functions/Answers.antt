@@ -1,5 +1,4 @@
 -- `header::blank_functions` meets its contract.
-use borrow.Author.Rules.{rules}
 use Rattle.header.proofs.blank_functions.Goals as goal
 
 pub returns : goal.returns

@@ -1,5 +1,4 @@
 -- `header::blank_grids` meets its contract.
-use borrow.Author.Rules.{rules}
 use Rattle.header.proofs.blank_grids.Goals as goal
 
 pub returns : goal.returns

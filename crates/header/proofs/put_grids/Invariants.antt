@@ -1,10 +1,7 @@
 -- `header::put_grids` meets its contract.
 use Prim.Native.Nat.{◌-◌}
-use native.Mathlib.Omega.{arith}
-use Rattle.text.proofs.PutLaws.{wrote_length}
-use Rattle.group.specs.Record.{no_grid}
 use Rattle.line.specs.Lines.{grid_text}
-use Rattle.header.proofs.WriteLaws.{Writes, writes_none, writes_room, writes_more, writes_all}
+use Rattle.header.proofs.WriteLaws.{Writes}
 use Rattle.header.proofs.put_grids.Given as goal
 
 abbrev pub invariant-loop-k : goal.invariant-loop-k

@@ -7,13 +7,11 @@ use Rattle.judge.proofs.Accepted.{accepted_head}
 use Rattle.line.proofs.NameLaws.{name_len}
 use Rattle.header.proofs.LengthLaws.{head_parts, grids_wide}
 use Rattle.header.proofs.HeaderLaws.{head_run, function_run, grid_run, runs_room, runs_wrote}
-use borrow.Author.Rules.{rules}
 use Rattle.header.proofs.put_group.Goals as goal
 
 pub put_head-p-requires : goal.put_head-p-requires
 put_head-p-requires c =
     let room1 : let g = c.args.group in 0 + length (head_run g ++ (function_run g ++ grid_run g)) ≤ length c.args.out.now = runs_room c.args.group c.args.out.now c.requires.1 in
-    let s = c in
     let g = c.args.group in
     ((name_len g.name (head_parts g c.requires.0).0).1, room_first 0 (head_run g) (function_run g ++ grid_run g) c.args.out.now (room1))
 
@@ -23,8 +21,6 @@ put_functions-q-requires c =
     let room2 : let g = c.args.group in c.put_head-p.result + length (function_run g ++ grid_run g) ≤ length c.put_head-p.new.out =
     let g = c.args.group in
     room_next 0 (head_run g) (function_run g ++ grid_run g) c.args.out.now _ _ c.put_head-p.ensures (room1) in
-    let d = c in
-    let s = c in
     let g = c.args.group in
     ((accepted_head g c.requires.0).functions, room_first c.put_head-p.result (function_run g) (grid_run g) c.put_head-p.new.out (room2))
 
@@ -36,10 +32,7 @@ put_grids-requires c =
     room_next 0 (head_run g) (function_run g ++ grid_run g) c.args.out.now _ _ c.put_head-p.ensures (room1) in
     let room3 : let g = c.args.group in c.put_functions-q.result + length (grid_run g) ≤ length c.put_functions-q.new.out =
     let g = c.args.group in
-    let d = c in
     room_next c.put_head-p.result (function_run g) (grid_run g) c.put_head-p.new.out _ _ c.put_functions-q.ensures (room2) in
-    let d = c in
-    let s = c in
     (grids_wide c.args.group c.requires.0, room3)
 
 pub returns : goal.returns
@@ -48,10 +41,6 @@ returns c =
     let room2 : let g = c.args.group in c.put_head-p.result + length (function_run g ++ grid_run g) ≤ length c.put_head-p.new.out =
     let g = c.args.group in
     room_next 0 (head_run g) (function_run g ++ grid_run g) c.args.out.now _ _ c.put_head-p.ensures (room1) in
-    let c3 = c in
-    let c2 = c in
-    let c1 = c in
-    let s = c in
     let g = c.args.group in
     let more = wrote_both c.put_head-p.result (function_run g) (grid_run g) c.put_head-p.new.out _ _ _ _ c.put_functions-q.ensures c.put_grids.ensures (room2) in
     runs_wrote g c.args.out.now _ _ (wrote_both 0 (head_run g) (function_run g ++ grid_run g) c.args.out.now _ _ _ _ c.put_head-p.ensures more (room1))

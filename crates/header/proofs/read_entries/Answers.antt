@@ -6,7 +6,6 @@ use Rattle.group.specs.Blank.{blank_function, blank_grid}
 use Rattle.line.specs.Lines.{function_line}
 use Rattle.header.specs.Whole.{grid_lines, lines_reading}
 use Rattle.header.proofs.WholeLaws.{functions_stop, grids_stop, more_stops, entries_done}
-use borrow.Author.Rules.{rules}
 use Rattle.header.proofs.read_entries.Goals as goal
 
 pub returns-in-Refused : goal.returns-in-Refused

@@ -1,13 +1,11 @@
 -- `header::read_functions` meets its contract.
-use Prim.Native.Nat.{◌-◌}
 use mathlib.Core.Path.{ap}
 use native.Mathlib.Omega.{arith}
-use borrow.Author.Rules.{rules}
 use Rattle.group.specs.Numbers.{functions_most}
 use Rattle.header.specs.declared.FunctionsRead.{FunctionsRead}
 use Rattle.group.specs.Blank.{blank_function}
 use Rattle.line.specs.Lines.{function_line}
-use Rattle.header.proofs.ItemLaws.{Loop, loop_enters, loop_stops, loop_unclosed, loop_refuses, loop_reads, loop_leaves, end_le}
+use Rattle.header.proofs.ItemLaws.{loop_enters, loop_stops, loop_unclosed, loop_refuses, loop_reads, loop_leaves, end_le}
 use Rattle.line.proofs.ReadLaws.{function_refused, function_accepted}
 use Rattle.header.proofs.read_functions.Goals as goal
 
@@ -30,6 +28,11 @@ returns-then-e-text c =
 
 pub overflow_add-k-in-loop-k : goal.overflow_add-k-in-loop-k
 overflow_add-k-in-loop-k c = omega (arith, c.loop-k.invariant.bound, c.requires)
+
+pub slice_bounds-function_line-end : goal.slice_bounds-function_line-end
+slice_bounds-function_line-end c =
+    let l = c.loop-k in
+    omega (arith, end_le c.args.text.now l.next _ c.find_from-e.ensures l.invariant.room)
 
 pub returns-in-Refused : goal.returns-in-Refused
 returns-in-Refused c =

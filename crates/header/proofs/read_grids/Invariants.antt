@@ -1,14 +1,9 @@
 -- `header::read_grids` meets its contract.
 use Prim.Native.Nat.{◌-◌}
-use mathlib.Core.Path.{ap}
-use native.Mathlib.Omega.{arith}
-use borrow.Author.Rules.{rules}
 use Rattle.group.specs.Numbers.{grids_most}
-use Rattle.header.specs.declared.GridsRead.{GridsRead}
 use Rattle.group.specs.Blank.{blank_grid}
 use Rattle.line.specs.Lines.{grid_line}
-use Rattle.header.proofs.ItemLaws.{Loop, loop_enters, loop_stops, loop_unclosed, loop_refuses, loop_reads, loop_leaves, end_le}
-use Rattle.line.proofs.ReadLaws.{grid_refused, grid_accepted}
+use Rattle.header.proofs.ItemLaws.{Loop}
 use Rattle.header.proofs.read_grids.Given as goal
 
 abbrev pub invariant-loop-k : goal.invariant-loop-k

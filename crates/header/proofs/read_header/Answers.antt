@@ -1,7 +1,6 @@
 -- `header::read_header` meets its contract.
 use mathlib.Core.Path.{◌∙◌}
 use Rattle.header.proofs.HeaderLaws.{lines_refused, header_refused, header_accepted}
-use borrow.Author.Rules.{rules}
 use Rattle.header.proofs.read_header.Goals as goal
 
 pub returns-in_default : goal.returns-in_default

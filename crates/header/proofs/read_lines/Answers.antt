@@ -8,13 +8,15 @@ use Rattle.header.specs.Whole.{grid_lines, lines_reading}
 use Rattle.header.proofs.ItemLaws.{end_le, behind_le}
 use Rattle.line.proofs.ReadLaws.{head_refused, head_accepted}
 use Rattle.header.proofs.WholeLaws.{head_unclosed, head_stops, head_goes, head_counts}
-use borrow.Author.Rules.{rules}
 use Rattle.header.proofs.read_lines.Goals as goal
 
 pub returns-then-e-text : goal.returns-then-e-text
 returns-then-e-text c =
     let s = c.args in
     c.refused_reading.ensures ∙ sym (ap lines_reading (head_unclosed function_line grid_lines s.text.now _ c.find_from-e.ensures c.if-e-text.true))
+
+pub slice_bounds-group_line-end : goal.slice_bounds-group_line-end
+slice_bounds-group_line-end c = omega (arith, end_le c.args.text.now 0 _ c.find_from-e.ensures (omega arith))
 
 pub returns-in-Refused : goal.returns-in-Refused
 returns-in-Refused c =

@@ -1,5 +1,4 @@
 -- `header::refused_functions` meets its contract.
-use borrow.Author.Rules.{rules}
 use Rattle.header.proofs.refused_functions.Goals as goal
 
 pub returns : goal.returns

@@ -1,5 +1,4 @@
 -- `header::refused_grids` meets its contract.
-use borrow.Author.Rules.{rules}
 use Rattle.header.proofs.refused_grids.Goals as goal
 
 pub returns : goal.returns

@@ -1,5 +1,4 @@
 -- `header::refused_reading` meets its contract.
-use borrow.Author.Rules.{rules}
 use Rattle.header.proofs.refused_reading.Goals as goal
 
 pub returns : goal.returns

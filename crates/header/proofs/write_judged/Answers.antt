@@ -9,19 +9,17 @@ use Rattle.group.specs.declared.Verdict.TheVariants.{Accepted}
 use Rattle.judge.specs.Judge.{judged}
 use Rattle.header.proofs.LengthLaws.{length_most}
 use Rattle.header.proofs.HeaderLaws.{front_of, front_le, refused_answer, short_answer, count_answer}
-use borrow.Author.Rules.{rules}
 use Rattle.header.proofs.write_judged.Goals as goal
 
 pub returns-in-Refused : goal.returns-in-Refused
 returns-in-Refused c =
-    let s = c in
-    refused_answer c.args.group c.args.out.now _ (sym c.requires ∙ c.in-Refused.is)
+    let p = refused_answer c.args.group c.args.out.now _ (sym c.requires ∙ c.in-Refused.is) in
+    record { answer = p.0; bytes = p.1 }
 
 pub put_group-n-requires : goal.put_group-n-requires
 put_group-n-requires c =
     let fine : judged c.args.group ≡ Accepted = sym c.requires ∙ c.in_default.is in
-    let e = fine in
-    (e, length_most c.args.group e)
+    (fine, length_most c.args.group fine)
 
 pub returns-then-out-n : goal.returns-then-out-n
 returns-then-out-n c =
@@ -29,7 +27,8 @@ returns-then-out-n c =
     let s = c.args in
     let w = c.put_group-n.ensures.place in
     let l = c.if-out-n.true in
-    short_answer s.group s.out.now (fine) (omega arith)
+    let p = short_answer s.group s.out.now fine (omega arith) in
+    record { answer = p.0; bytes = p.1 }
 
 pub put_front-requires : goal.put_front-requires
 put_front-requires c =
@@ -46,5 +45,7 @@ returns c =
     let k = c.put_group-n in
     let l = c.if-out-n.false in
     let w = k.ensures.place in
-    count_answer s.group s.out.now (fine) _ _ (omega arith) (omega arith)
-    (c.put_front.ensures.holds ∙ ap (λ (t : List ℕ). put 0 t s.out.now) (front_of _ _ _ _ k.ensures))
+    let p =
+    count_answer s.group s.out.now fine k.result c.put_front.new.out (omega arith) (omega arith)
+    (c.put_front.ensures.holds ∙ ap (λ (t : List ℕ). put 0 t s.out.now) (front_of _ _ _ _ k.ensures)) in
+    record { answer = p.0; bytes = p.1 }
