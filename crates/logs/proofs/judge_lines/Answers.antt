@@ -27,44 +27,47 @@ pub overflow_add-result : goal.overflow_add-result
 overflow_add-result c =
     let log : List ℕ = c.args.log.now in
     let passed : Passed (group_of_words c.args.words.now) c.args.nodes.now log c.loop-next.next c.loop-next.n = c.loop-next.invariant.0 in
-    let counted : Fits w64 (c.loop-next.n + 1) = let p = passed in omega (arith, p.below, p.room, c.good) in
+    let counted : Fits w64 (c.loop-next.n + 1) = let p = passed in omega (arith, p.below, p.room) in
     counted
 
 pub returns-then-e-log : goal.returns-then-e-log
 returns-then-e-log c =
     let log : List ℕ = c.args.log.now in
     let passed : Passed (group_of_words c.args.words.now) c.args.nodes.now log c.loop-next.next c.loop-next.n = c.loop-next.invariant.0 in
-    let f = c in line_unclosed (passed) _ c.find_from-e.ensures c.loop-next-test.true c.if-e-log.true
+    line_unclosed passed _ c.find_from-e.ensures c.loop-next-test.true c.if-e-log.true
+
+pub slice_bounds-judge_line-end : goal.slice_bounds-judge_line-end
+slice_bounds-judge_line-end c =
+    omega (arith, end_le c.args.log.now c.loop-next.next c.find_from-e.result c.find_from-e.ensures c.loop-next.invariant.0.room)
 
 pub judge_line-turn-requires : goal.judge_line-turn-requires
-judge_line-turn-requires c = let f = c in record { call = c.requires; scale = c.loop-next.invariant.1 }
+judge_line-turn-requires c = record { call = c.requires; scale = c.loop-next.invariant.1 }
 
 pub overflow_add-result-then-turn-ne0 : goal.overflow_add-result-then-turn-ne0
 overflow_add-result-then-turn-ne0 c =
     let log : List ℕ = c.args.log.now in
     let passed : Passed (group_of_words c.args.words.now) c.args.nodes.now log c.loop-next.next c.loop-next.n = c.loop-next.invariant.0 in
-    let counted : Fits w64 (c.loop-next.n + 1) = let p = passed in omega (arith, p.below, p.room, c.good) in
+    let counted : Fits w64 (c.loop-next.n + 1) = let p = passed in omega (arith, p.below, p.room) in
     counted
 
 pub returns-then-turn-ne0 : goal.returns-then-turn-ne0
 returns-then-turn-ne0 c =
     let log : List ℕ = c.args.log.now in
     let passed : Passed (group_of_words c.args.words.now) c.args.nodes.now log c.loop-next.next c.loop-next.n = c.loop-next.invariant.0 in
-    let f = c in
-    line_bad (passed) _ c.find_from-e.ensures c.loop-next-test.true c.if-e-log.false _ c.judge_line-turn.ensures.kind c.if-turn-ne0.true
+    line_bad passed _ c.find_from-e.ensures c.loop-next-test.true c.if-e-log.false _ c.judge_line-turn.ensures.kind c.if-turn-ne0.true
 
 pub overflow_add-next : goal.overflow_add-next
 overflow_add-next c =
     let log : List ℕ = c.args.log.now in
     let passed : Passed (group_of_words c.args.words.now) c.args.nodes.now log c.loop-next.next c.loop-next.n = c.loop-next.invariant.0 in
     let ends : c.find_from-e.result ≤ length log = end_le log c.loop-next.next c.find_from-e.result c.find_from-e.ensures passed.room in
-    let f = c in omega (arith, ends, c.well_formed)
+    omega (arith, ends, c.well_formed)
 
 pub overflow_add-n : goal.overflow_add-n
 overflow_add-n c =
     let log : List ℕ = c.args.log.now in
     let passed : Passed (group_of_words c.args.words.now) c.args.nodes.now log c.loop-next.next c.loop-next.n = c.loop-next.invariant.0 in
-    let counted : Fits w64 (c.loop-next.n + 1) = let p = passed in omega (arith, p.below, p.room, c.good) in
+    let counted : Fits w64 (c.loop-next.n + 1) = let p = passed in omega (arith, p.below, p.room) in
     counted
 
 pub loop-next-smaller : goal.loop-next-smaller
@@ -72,15 +75,15 @@ loop-next-smaller c =
     let log : List ℕ = c.args.log.now in
     let passed : Passed (group_of_words c.args.words.now) c.args.nodes.now log c.loop-next.next c.loop-next.n = c.loop-next.invariant.0 in
     let ends : c.find_from-e.result ≤ length log = end_le log c.loop-next.next c.find_from-e.result c.find_from-e.ensures passed.room in
-    let f = c in let e = c.find_from-e.ensures in let b = ends in let t = c.loop-next-test.true in
+    let e = c.find_from-e.ensures in let b = ends in let t = c.loop-next-test.true in
     omega arith
 
 pub loop-next-preserved : goal.loop-next-preserved
 loop-next-preserved c =
     let log : List ℕ = c.args.log.now in
     let passed : Passed (group_of_words c.args.words.now) c.args.nodes.now log c.loop-next.next c.loop-next.n = c.loop-next.invariant.0 in
-    let f = c in (
-      line_good (passed) _ c.find_from-e.ensures c.loop-next-test.true c.if-e-log.false _ c.judge_line-turn.ensures.kind c.if-turn-ne0.false,
+    (
+      line_good passed _ c.find_from-e.ensures c.loop-next-test.true c.if-e-log.false _ c.judge_line-turn.ensures.kind c.if-turn-ne0.false,
       c.judge_line-turn.ensures.scale,
     )
 

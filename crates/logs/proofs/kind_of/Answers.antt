@@ -10,11 +10,12 @@ use Rattle.text.specs.Fields.{same}
 use Rattle.line.specs.Names.{name_text}
 use Rattle.fix.specs.declared.Fix.{Fix}
 use Rattle.abi.specs.Abi.{number_at, grid_of_words, group_of_words}
-use Rattle.abi.proofs.NumberLaws.{told}
 use Rattle.judge.proofs.Accepted.{accepted_head}
 use Rattle.logs.specs.Line.{same_shifts}
 use Rattle.logs.proofs.TurnLaws.{result_list, kind_refused, fix_some, fix_grid, fix_name, kind_grid, kind_shift, kind_none}
 use borrow.Author.Rules.{rules}
+use mir.Syntax.{w64}
+use mir.Facts.{to_z-of_z}
 use Rattle.logs.proofs.kind_of.Goals as goal
 
 pub returns-in_default : goal.returns-in_default
@@ -23,22 +24,20 @@ returns-in_default c =
     sym (kind_refused (group_of_words a.words.now) a.name.now a.shifts.now a.found _ c.in_default.is)
 
 pub overflow_sub-k : goal.overflow_sub-k
-overflow_sub-k c = let s = c in fix_some c.args.words.now c.args.found _ c.in-Fix.is c.requires.0
+overflow_sub-k c = fix_some c.args.words.now c.args.found _ c.in-Fix.is c.requires.0
 
 pub names_grid-requires : goal.names_grid-requires
 names_grid-requires c =
-    let s = c in let w = c.args.words.now in let e = c.in-Fix.is in
+    let w = c.args.words.now in let e = c.in-Fix.is in
     (fix_grid w c.args.found _ e c.requires.0, fix_name w c.args.found _ e c.requires.0)
 
 pub returns-then-not-names_grid : goal.returns-then-not-names_grid
 returns-then-not-names_grid c =
-    let s = c in
     sym (kind_grid c.args.words.now c.args.found _ c.in-Fix.is c.requires.0 c.args.name.now c.args.shifts.now
     (sym c.names_grid.ensures ∙ c.if-not-names_grid.true))
 
 pub same_shifts-requires : goal.same_shifts-requires
 same_shifts-requires c =
-    let s = c in
     let e = c.parameter_count.ensures in let m = (accepted_head (group_of_words c.args.words.now) c.requires.0.accepted).parameters in let l = c.requires.1 in
     (omega arith, omega arith)
 
@@ -48,10 +47,8 @@ returns-then-not-same_shifts c =
     let f : Fix = c.in-Fix.f in
     let named : same c.args.name.now (name_text (grid_of_words words (f.grid - 1)).name) ≡ true = sym c.names_grid.ensures ∙ c.if-not-names_grid.false in
     let compared : same_shifts (group_of_words words).parameters c.args.shifts.now (number_at (result_list f)) ≡ c.same_shifts.result =
-    let t = c.struct_told-1.given in
-    let a = told {x = f.first} t.1.0.1 refl in let b = told {x = f.second} t.1.1.0.1 refl in let d = told {x = f.third} t.1.1.1.0.1 refl in
+    let a = to_z-of_z {w = w64} {z = f.first} (search rules) in let b = to_z-of_z {w = w64} {z = f.second} (search rules) in let d = to_z-of_z {w = w64} {z = f.third} (search rules) in
     sym (c.same_shifts.ensures ∙ (λ i. same_shifts (c.parameter_count.ensures i) c.args.shifts.now (number_at (a i ∷ b i ∷ d i ∷ [])))) in
-    let s = c in
     sym (kind_shift (words) c.args.found _ c.in-Fix.is c.requires.0 c.args.name.now c.args.shifts.now
     (named) (compared ∙ c.if-not-same_shifts.true))
 
@@ -61,9 +58,7 @@ returns c =
     let f : Fix = c.in-Fix.f in
     let named : same c.args.name.now (name_text (grid_of_words words (f.grid - 1)).name) ≡ true = sym c.names_grid.ensures ∙ c.if-not-names_grid.false in
     let compared : same_shifts (group_of_words words).parameters c.args.shifts.now (number_at (result_list f)) ≡ c.same_shifts.result =
-    let t = c.struct_told-1.given in
-    let a = told {x = f.first} t.1.0.1 refl in let b = told {x = f.second} t.1.1.0.1 refl in let d = told {x = f.third} t.1.1.1.0.1 refl in
+    let a = to_z-of_z {w = w64} {z = f.first} (search rules) in let b = to_z-of_z {w = w64} {z = f.second} (search rules) in let d = to_z-of_z {w = w64} {z = f.third} (search rules) in
     sym (c.same_shifts.ensures ∙ (λ i. same_shifts (c.parameter_count.ensures i) c.args.shifts.now (number_at (a i ∷ b i ∷ d i ∷ [])))) in
-    let s = c in
     sym (kind_none (words) c.args.found _ c.in-Fix.is c.requires.0 c.args.name.now c.args.shifts.now
     (named) (compared ∙ c.if-not-same_shifts.false))

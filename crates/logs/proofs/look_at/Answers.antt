@@ -32,42 +32,42 @@ use Rattle.logs.proofs.look_at.Goals as goal
 pub returns-then-not-point_fits : goal.returns-then-not-point_fits
 returns-then-not-point_fits c =
     let g : Group = group_of_words c.args.words.now in
-    let s = c in let a = c.args in
+    let a = c.args in
     sym
-    (looked_accepted (g) a.nodes.now a.point a.scale.day c.requires.call.accepted
-    ∙ looked_6 (g) a.nodes.now a.point a.scale.day (sym c.point_fits.ensures ∙ c.if-not-point_fits.true))
+    (looked_accepted g a.nodes.now a.point a.scale.day c.requires.call.accepted
+    ∙ looked_6 g a.nodes.now a.point a.scale.day (sym c.point_fits.ensures ∙ c.if-not-point_fits.true))
 
 pub returns-then-not-day_fits : goal.returns-then-not-day_fits
 returns-then-not-day_fits c =
     let g : Group = group_of_words c.args.words.now in
-    let s = c in let a = c.args in
+    let a = c.args in
     sym
-    (looked_accepted (g) a.nodes.now a.point a.scale.day c.requires.call.accepted
-    ∙ looked_9 (g) a.nodes.now a.point a.scale.day
+    (looked_accepted g a.nodes.now a.point a.scale.day c.requires.call.accepted
+    ∙ looked_9 g a.nodes.now a.point a.scale.day
     (sym c.point_fits.ensures ∙ c.if-not-point_fits.false)
-    (day_told {t = a.scale.day} (record { sfits = c.struct_told-1.given.0.1 }) c.day_fits.ensures ∙ c.if-not-day_fits.true))
+    (day_told {t = a.scale.day} (search rules) c.day_fits.ensures ∙ c.if-not-day_fits.true))
 
 pub bounds-tables-1600 : goal.bounds-tables-1600
 bounds-tables-1600 c =
     let g : Group = group_of_words c.args.words.now in
     let l : List ℕ = c.args.tables.now in
     let t : Tabled g l = c.requires.call.tabled in
-    let s = c in omega (arith, (t).long)
+    omega (arith, t.long)
 
 pub slice_bounds-first_holder-end : goal.slice_bounds-first_holder-end
 slice_bounds-first_holder-end c =
     let l : List ℕ = c.args.tables.now in
     let g : Group = group_of_words c.args.words.now in
     let t : Tabled g l = c.requires.call.tabled in
-    let s = c in sym (rows_length (l) (t).long)
+    sym (rows_length l t.long)
 
 pub first_holder-held-requires : goal.first_holder-held-requires
 first_holder-held-requires c =
     let g : Group = group_of_words c.args.words.now in
     let l : List ℕ = c.args.tables.now in
     let t : Tabled g l = c.requires.call.tabled in
-    let s = c in let m = few_rows (g) (l) c.requires.call.accepted (t) in
-    (omega (arith, rows_length (l) (t).long), omega (arith, owners_length (l) (t).long), omega (arith, shifts_length (l) (t).long))
+    let m = few_rows g l c.requires.call.accepted t in
+    (omega (arith, rows_length l t.long), omega (arith, owners_length l t.long), omega (arith, shifts_length l t.long))
 
 pub fix_held-requires : goal.fix_held-requires
 fix_held-requires c =
@@ -76,31 +76,31 @@ fix_held-requires c =
     let x : ℕ = c.lon_from_least-x.result in
     let y : ℕ = c.lat_from_least-y.result in
     let t : Tabled g l = c.requires.call.tabled in
-    let day_bits : SFits w64 c.args.scale.day = record { sfits = c.struct_told-1.given.0.1 } in
+    let day_bits : SFits w64 c.args.scale.day = search rules in
     let day : day_fits c.args.scale.day ≡ true = day_told day_bits c.day_fits.ensures ∙ c.if-not-day_fits.false in
-    let ready : LookupReady (g) (length c.args.nodes.now) c.args.point c.args.scale.day =
+    let ready : LookupReady g (length c.args.nodes.now) c.args.point c.args.scale.day =
     record {
       accepted = c.requires.call.accepted;
       point = sym c.point_fits.ensures ∙ c.if-not-point_fits.false;
       day = day;
       ends = c.requires.call.ends;
     } in
-    let laid : LaidRows (rows_in (l)) (owners_in (l)) (shifts_in (l)) (frames_in (l)) (at (l) count_index) (g).parameters
+    let laid : LaidRows (rows_in l) (owners_in l) (shifts_in l) (frames_in l) (at l count_index) g.parameters
     (length c.args.nodes.now) x y =
-    let s = c in let a = c.args in let m = few_rows (g) (l) c.requires.call.accepted (t) in
-    ranked_laid (g) a.nodes.now a.point a.scale.day ready (t).sides (t).ranks (frames_in (l)) (t).flat
-    c.lat_from_least-y.ensures (t).room
-    (rows_in (l)) (owners_in (l)) (shifts_in (l)) (at (l) count_index) (t).rows c.lon_from_least-x.ensures
-    (omega (arith, rows_length (l) (t).long)) (omega (arith, owners_length (l) (t).long)) (omega (arith, shifts_length (l) (t).long))
-    (omega (arith, frames_length (l) (t).long, (accepted_head (g) c.requires.call.accepted).grids)) in
-    let factor : to_z w64 (of_z w64 c.args.scale.factor) ≡ factor_of (g).function (g).functions c.args.scale.day =
-    to_z-of_z w64 c.args.scale.factor (record { sfits = c.struct_told-2-1.given.1.0.1 })
-    ∙ ap (λ (s : Scale). s.factor) (c.requires.scale ∙ scale_in (g) c.args.scale.day day) in
-    let s = c in let a = c.args in let e = c.requires.call.accepted in (
+    let a = c.args in let m = few_rows g l c.requires.call.accepted t in
+    ranked_laid g a.nodes.now a.point a.scale.day ready t.sides t.ranks (frames_in l) t.flat
+    c.lat_from_least-y.ensures t.room
+    (rows_in l) (owners_in l) (shifts_in l) (at l count_index) t.rows c.lon_from_least-x.ensures
+    (omega (arith, rows_length l t.long)) (omega (arith, owners_length l t.long)) (omega (arith, shifts_length l t.long))
+    (omega (arith, frames_length l t.long, (accepted_head g c.requires.call.accepted).grids)) in
+    let factor : to_z w64 (of_z w64 c.args.scale.factor) ≡ factor_of g.function g.functions c.args.scale.day =
+    to_z-of_z w64 c.args.scale.factor (search rules)
+    ∙ ap (λ (s : Scale). s.factor) (c.requires.scale ∙ scale_in g c.args.scale.day day) in
+    let a = c.args in let e = c.requires.call.accepted in (
       rw c.parameter_count-np.ensures
-          (subst (λ (q : Held). HeldChosen (frames_in (l)) q (g).parameters (length a.nodes.now) (x) (y)) (sym c.first_holder-held.ensures) (laid).ready),
-      subst (λ (z : ℤ). nat_abs z ≤ factor_most) (sym (factor))
-          (factor_bound (g).function a.scale.day (g).functions (accepted_head (g) e).functions (accepted (g) e).function),
+          (subst (λ (q : Held). HeldChosen (frames_in l) q g.parameters (length a.nodes.now) x y) (sym c.first_holder-held.ensures) laid.ready),
+      subst (λ (z : ℤ). nat_abs z ≤ factor_most) (sym factor)
+          (factor_bound g.function a.scale.day g.functions (accepted_head g e).functions (accepted g e).function),
     )
 
 pub returns : goal.returns
@@ -109,9 +109,9 @@ returns c =
     let x : ℕ = c.lon_from_least-x.result in
     let y : ℕ = c.lat_from_least-y.result in
     let g : Group = group_of_words c.args.words.now in
-    let day_bits : SFits w64 c.args.scale.day = record { sfits = c.struct_told-1.given.0.1 } in
+    let day_bits : SFits w64 c.args.scale.day = search rules in
     let day : day_fits c.args.scale.day ≡ true = day_told day_bits c.day_fits.ensures ∙ c.if-not-day_fits.false in
-    let ready : LookupReady (g) (length c.args.nodes.now) c.args.point c.args.scale.day =
+    let ready : LookupReady g (length c.args.nodes.now) c.args.point c.args.scale.day =
     record {
       accepted = c.requires.call.accepted;
       point = sym c.point_fits.ensures ∙ c.if-not-point_fits.false;
@@ -119,13 +119,13 @@ returns c =
       ends = c.requires.call.ends;
     } in
     let t : Tabled g l = c.requires.call.tabled in
-    let factor : to_z w64 (of_z w64 c.args.scale.factor) ≡ factor_of (g).function (g).functions c.args.scale.day =
-    to_z-of_z w64 c.args.scale.factor (record { sfits = c.struct_told-2-1.given.1.0.1 })
-    ∙ ap (λ (s : Scale). s.factor) (c.requires.scale ∙ scale_in (g) c.args.scale.day day) in
-    let q = c in let s = c in let a = c.args in
+    let factor : to_z w64 (of_z w64 c.args.scale.factor) ≡ factor_of g.function g.functions c.args.scale.day =
+    to_z-of_z w64 c.args.scale.factor (search rules)
+    ∙ ap (λ (s : Scale). s.factor) (c.requires.scale ∙ scale_in g c.args.scale.day day) in
+    let q = c in let a = c.args in
     c.fix_held.ensures
-    ∙ (λ i. fix_held (frames_in (l)) (c.first_holder-held.ensures i) (c.parameter_count-np.ensures i) a.nodes.now (to_z w64 (of_z w64 a.scale.factor)) (x) (y))
-    ∙ ranked_fix (g) a.nodes.now a.point a.scale.day (ready) (t).sides (t).ranks (frames_in (l)) (t).flat
-    c.lat_from_least-y.ensures (t).room
-    (rows_in (l)) (owners_in (l)) (shifts_in (l)) (at (l) count_index) (t).rows c.lon_from_least-x.ensures (factor)
-    ∙ sym (looked_accepted (g) a.nodes.now a.point a.scale.day c.requires.call.accepted ∙ looked_on (g) a.nodes.now a.point a.scale.day (ready))
+    ∙ (λ i. fix_held (frames_in l) (c.first_holder-held.ensures i) (c.parameter_count-np.ensures i) a.nodes.now (to_z w64 (of_z w64 a.scale.factor)) x y)
+    ∙ ranked_fix g a.nodes.now a.point a.scale.day ready t.sides t.ranks (frames_in l) t.flat
+    c.lat_from_least-y.ensures t.room
+    (rows_in l) (owners_in l) (shifts_in l) (at l count_index) t.rows c.lon_from_least-x.ensures factor
+    ∙ sym (looked_accepted g a.nodes.now a.point a.scale.day c.requires.call.accepted ∙ looked_on g a.nodes.now a.point a.scale.day ready)

@@ -64,71 +64,71 @@ pub put_bytes-p-requires : goal.put_bytes-p-requires
 unfolding line_text
 put_bytes-p-requires c =
     let group : Group = group_of_words c.args.words.now in
-    let shifts : List ℕ = pieces (map int_text (list_of (result_in c.args.f) (group).parameters)) (10 ∷ []) in
-    let named : List ℕ = 9 ∷ (grid_name (group) c.args.f.grid ++ shifts) in
+    let shifts : List ℕ = pieces (map int_text (list_of (result_in c.args.f) group.parameters)) (10 ∷ []) in
+    let named : List ℕ = 9 ∷ (grid_name group c.args.f.grid ++ shifts) in
     let dated : List ℕ = 9 ∷ (int_text c.args.position.day ++ named) in
     let from-lat : List ℕ = 9 ∷ (int_text c.args.position.lat.0 ++ dated) in
     let from-lon : List ℕ = 9 ∷ (int_text c.args.position.lon.0 ++ from-lat) in
-    let Rest : List ℕ → ℕ → List ℕ → Type 0 = Left 0 (line_text (group) c.args.position c.args.f) c.args.out.now in
+    let Rest : List ℕ → ℕ → List ℕ → Type 0 = Left 0 (line_text group c.args.position c.args.f) c.args.out.now in
     let left₀ : Rest (fix_keyword ++ from-lon) 0 c.args.out.now =
-    left_all 0 (line_text (group) c.args.position c.args.f) c.args.out.now _
-    (line_pieces fix_keyword (int_text c.args.position.lon.0 ∷ int_text c.args.position.lat.0 ∷ int_text c.args.position.day ∷ grid_name (group) c.args.f.grid ∷ map int_text (list_of (result_in c.args.f) (group).parameters)) (10 ∷ []))
+    left_all 0 (line_text group c.args.position c.args.f) c.args.out.now _
+    (line_pieces fix_keyword (int_text c.args.position.lon.0 ∷ int_text c.args.position.lat.0 ∷ int_text c.args.position.day ∷ grid_name group c.args.f.grid ∷ map int_text (list_of (result_in c.args.f) group.parameters)) (10 ∷ []))
     (omega (arith, c.requires.1)) in
-    left_room fix_keyword (from-lon) (left₀)
+    left_room fix_keyword from-lon left₀
 
 pub put_number-q-requires : goal.put_number-q-requires
 unfolding line_text
 put_number-q-requires c =
     let group : Group = group_of_words c.args.words.now in
-    let shifts : List ℕ = pieces (map int_text (list_of (result_in c.args.f) (group).parameters)) (10 ∷ []) in
-    let named : List ℕ = 9 ∷ (grid_name (group) c.args.f.grid ++ shifts) in
+    let shifts : List ℕ = pieces (map int_text (list_of (result_in c.args.f) group.parameters)) (10 ∷ []) in
+    let named : List ℕ = 9 ∷ (grid_name group c.args.f.grid ++ shifts) in
     let dated : List ℕ = 9 ∷ (int_text c.args.position.day ++ named) in
     let from-lat : List ℕ = 9 ∷ (int_text c.args.position.lat.0 ++ dated) in
-    let Rest : List ℕ → ℕ → List ℕ → Type 0 = Left 0 (line_text (group) c.args.position c.args.f) c.args.out.now in
+    let Rest : List ℕ → ℕ → List ℕ → Type 0 = Left 0 (line_text group c.args.position c.args.f) c.args.out.now in
     let from-lon : List ℕ = 9 ∷ (int_text c.args.position.lon.0 ++ from-lat) in
     let left₀ : Rest (fix_keyword ++ from-lon) 0 c.args.out.now =
-    left_all 0 (line_text (group) c.args.position c.args.f) c.args.out.now _
-    (line_pieces fix_keyword (int_text c.args.position.lon.0 ∷ int_text c.args.position.lat.0 ∷ int_text c.args.position.day ∷ grid_name (group) c.args.f.grid ∷ map int_text (list_of (result_in c.args.f) (group).parameters)) (10 ∷ []))
+    left_all 0 (line_text group c.args.position c.args.f) c.args.out.now _
+    (line_pieces fix_keyword (int_text c.args.position.lon.0 ∷ int_text c.args.position.lat.0 ∷ int_text c.args.position.day ∷ grid_name group c.args.f.grid ∷ map int_text (list_of (result_in c.args.f) group.parameters)) (10 ∷ []))
     (omega (arith, c.requires.1)) in
-    let left₁ : Rest (from-lon) c.put_bytes-p.result c.put_bytes-p.new.out = left_more fix_keyword (from-lon) (left₀) c.put_bytes-p.ensures in
-    let b = c in int_room c.args.position.lon.0 (from-lat) (record { sfits = c.struct_told-1.given.0.1.1.0.1 }) (left₁)
+    let left₁ : Rest from-lon c.put_bytes-p.result c.put_bytes-p.new.out = left_more fix_keyword from-lon left₀ c.put_bytes-p.ensures in
+    int_room c.args.position.lon.0 from-lat (search rules) left₁
 
 pub put_number-r-requires : goal.put_number-r-requires
 unfolding line_text
 put_number-r-requires c =
     let group : Group = group_of_words c.args.words.now in
-    let shifts : List ℕ = pieces (map int_text (list_of (result_in c.args.f) (group).parameters)) (10 ∷ []) in
-    let named : List ℕ = 9 ∷ (grid_name (group) c.args.f.grid ++ shifts) in
+    let shifts : List ℕ = pieces (map int_text (list_of (result_in c.args.f) group.parameters)) (10 ∷ []) in
+    let named : List ℕ = 9 ∷ (grid_name group c.args.f.grid ++ shifts) in
     let dated : List ℕ = 9 ∷ (int_text c.args.position.day ++ named) in
-    let Rest : List ℕ → ℕ → List ℕ → Type 0 = Left 0 (line_text (group) c.args.position c.args.f) c.args.out.now in
+    let Rest : List ℕ → ℕ → List ℕ → Type 0 = Left 0 (line_text group c.args.position c.args.f) c.args.out.now in
     let from-lat : List ℕ = 9 ∷ (int_text c.args.position.lat.0 ++ dated) in
     let from-lon : List ℕ = 9 ∷ (int_text c.args.position.lon.0 ++ from-lat) in
     let left₀ : Rest (fix_keyword ++ from-lon) 0 c.args.out.now =
-    left_all 0 (line_text (group) c.args.position c.args.f) c.args.out.now _
-    (line_pieces fix_keyword (int_text c.args.position.lon.0 ∷ int_text c.args.position.lat.0 ∷ int_text c.args.position.day ∷ grid_name (group) c.args.f.grid ∷ map int_text (list_of (result_in c.args.f) (group).parameters)) (10 ∷ []))
+    left_all 0 (line_text group c.args.position c.args.f) c.args.out.now _
+    (line_pieces fix_keyword (int_text c.args.position.lon.0 ∷ int_text c.args.position.lat.0 ∷ int_text c.args.position.day ∷ grid_name group c.args.f.grid ∷ map int_text (list_of (result_in c.args.f) group.parameters)) (10 ∷ []))
     (omega (arith, c.requires.1)) in
-    let left₁ : Rest (from-lon) c.put_bytes-p.result c.put_bytes-p.new.out = left_more fix_keyword (from-lon) (left₀) c.put_bytes-p.ensures in
-    let left₂ : Rest (from-lat) c.put_number-q.result c.put_number-q.new.out = int_more c.args.position.lon.0 (from-lat) (record { sfits = c.struct_told-1.given.0.1.1.0.1 }) (left₁) c.put_number-q.ensures in
-    let b = c in int_room c.args.position.lat.0 (dated) (record { sfits = c.struct_told-2-1.given.1.0.1.1.0.1 }) (left₂)
+    let left₁ : Rest from-lon c.put_bytes-p.result c.put_bytes-p.new.out = left_more fix_keyword from-lon left₀ c.put_bytes-p.ensures in
+    let left₂ : Rest from-lat c.put_number-q.result c.put_number-q.new.out = int_more c.args.position.lon.0 from-lat (search rules) left₁ c.put_number-q.ensures in
+    int_room c.args.position.lat.0 dated (search rules) left₂
 
 pub put_number-s-requires : goal.put_number-s-requires
 unfolding line_text
 put_number-s-requires c =
     let group : Group = group_of_words c.args.words.now in
-    let shifts : List ℕ = pieces (map int_text (list_of (result_in c.args.f) (group).parameters)) (10 ∷ []) in
-    let named : List ℕ = 9 ∷ (grid_name (group) c.args.f.grid ++ shifts) in
-    let Rest : List ℕ → ℕ → List ℕ → Type 0 = Left 0 (line_text (group) c.args.position c.args.f) c.args.out.now in
+    let shifts : List ℕ = pieces (map int_text (list_of (result_in c.args.f) group.parameters)) (10 ∷ []) in
+    let named : List ℕ = 9 ∷ (grid_name group c.args.f.grid ++ shifts) in
+    let Rest : List ℕ → ℕ → List ℕ → Type 0 = Left 0 (line_text group c.args.position c.args.f) c.args.out.now in
     let dated : List ℕ = 9 ∷ (int_text c.args.position.day ++ named) in
     let from-lat : List ℕ = 9 ∷ (int_text c.args.position.lat.0 ++ dated) in
     let from-lon : List ℕ = 9 ∷ (int_text c.args.position.lon.0 ++ from-lat) in
     let left₀ : Rest (fix_keyword ++ from-lon) 0 c.args.out.now =
-    left_all 0 (line_text (group) c.args.position c.args.f) c.args.out.now _
-    (line_pieces fix_keyword (int_text c.args.position.lon.0 ∷ int_text c.args.position.lat.0 ∷ int_text c.args.position.day ∷ grid_name (group) c.args.f.grid ∷ map int_text (list_of (result_in c.args.f) (group).parameters)) (10 ∷ []))
+    left_all 0 (line_text group c.args.position c.args.f) c.args.out.now _
+    (line_pieces fix_keyword (int_text c.args.position.lon.0 ∷ int_text c.args.position.lat.0 ∷ int_text c.args.position.day ∷ grid_name group c.args.f.grid ∷ map int_text (list_of (result_in c.args.f) group.parameters)) (10 ∷ []))
     (omega (arith, c.requires.1)) in
-    let left₁ : Rest (from-lon) c.put_bytes-p.result c.put_bytes-p.new.out = left_more fix_keyword (from-lon) (left₀) c.put_bytes-p.ensures in
-    let left₂ : Rest (from-lat) c.put_number-q.result c.put_number-q.new.out = int_more c.args.position.lon.0 (from-lat) (record { sfits = c.struct_told-1.given.0.1.1.0.1 }) (left₁) c.put_number-q.ensures in
-    let left₃ : Rest (dated) c.put_number-r.result c.put_number-r.new.out = int_more c.args.position.lat.0 (dated) (record { sfits = c.struct_told-2-1.given.1.0.1.1.0.1 }) (left₂) c.put_number-r.ensures in
-    let b = c in int_room c.args.position.day (named) (record { sfits = c.struct_told-3-1.given.1.1.0.1 }) (left₃)
+    let left₁ : Rest from-lon c.put_bytes-p.result c.put_bytes-p.new.out = left_more fix_keyword from-lon left₀ c.put_bytes-p.ensures in
+    let left₂ : Rest from-lat c.put_number-q.result c.put_number-q.new.out = int_more c.args.position.lon.0 from-lat (search rules) left₁ c.put_number-q.ensures in
+    let left₃ : Rest dated c.put_number-r.result c.put_number-r.new.out = int_more c.args.position.lat.0 dated (search rules) left₂ c.put_number-r.ensures in
+    int_room c.args.position.day named (search rules) left₃
 
 pub overflow_sub-f : goal.overflow_sub-f
 overflow_sub-f c = c.requires.0.some
@@ -136,35 +136,34 @@ overflow_sub-f c = c.requires.0.some
 pub grid_of_words-grid-requires : goal.grid_of_words-grid-requires
 grid_of_words-grid-requires c =
     let group : Group = group_of_words c.args.words.now in
-    let s = c in
-    let a = c.requires.0.some in let b = c.requires.0.among in let m = (accepted_head (group) c.requires.0.accepted).grids in
+    let a = c.requires.0.some in let b = c.requires.0.among in let m = (accepted_head group c.requires.0.accepted).grids in
     omega arith
 
 pub put_name-t-requires : goal.put_name-t-requires
 unfolding line_text
 put_name-t-requires c =
     let group : Group = group_of_words c.args.words.now in
-    let grid_is : grid_at (group) (c.args.f.grid - 1) ≡ c.grid_of_words-grid.result = let s = c in grid_found c.args.words.now c.args.position c.args.f c.requires.0 ∙ sym c.grid_of_words-grid.ensures in
-    let shifts : List ℕ = pieces (map int_text (list_of (result_in c.args.f) (group).parameters)) (10 ∷ []) in
-    let Rest : List ℕ → ℕ → List ℕ → Type 0 = Left 0 (line_text (group) c.args.position c.args.f) c.args.out.now in
-    let named : List ℕ = 9 ∷ (grid_name (group) c.args.f.grid ++ shifts) in
+    let grid_is : grid_at group (c.args.f.grid - 1) ≡ c.grid_of_words-grid.result = grid_found c.args.words.now c.args.position c.args.f c.requires.0 ∙ sym c.grid_of_words-grid.ensures in
+    let shifts : List ℕ = pieces (map int_text (list_of (result_in c.args.f) group.parameters)) (10 ∷ []) in
+    let Rest : List ℕ → ℕ → List ℕ → Type 0 = Left 0 (line_text group c.args.position c.args.f) c.args.out.now in
+    let named : List ℕ = 9 ∷ (grid_name group c.args.f.grid ++ shifts) in
     let dated : List ℕ = 9 ∷ (int_text c.args.position.day ++ named) in
     let from-lat : List ℕ = 9 ∷ (int_text c.args.position.lat.0 ++ dated) in
     let from-lon : List ℕ = 9 ∷ (int_text c.args.position.lon.0 ++ from-lat) in
     let left₀ : Rest (fix_keyword ++ from-lon) 0 c.args.out.now =
-    left_all 0 (line_text (group) c.args.position c.args.f) c.args.out.now _
-    (line_pieces fix_keyword (int_text c.args.position.lon.0 ∷ int_text c.args.position.lat.0 ∷ int_text c.args.position.day ∷ grid_name (group) c.args.f.grid ∷ map int_text (list_of (result_in c.args.f) (group).parameters)) (10 ∷ []))
+    left_all 0 (line_text group c.args.position c.args.f) c.args.out.now _
+    (line_pieces fix_keyword (int_text c.args.position.lon.0 ∷ int_text c.args.position.lat.0 ∷ int_text c.args.position.day ∷ grid_name group c.args.f.grid ∷ map int_text (list_of (result_in c.args.f) group.parameters)) (10 ∷ []))
     (omega (arith, c.requires.1)) in
-    let left₁ : Rest (from-lon) c.put_bytes-p.result c.put_bytes-p.new.out = left_more fix_keyword (from-lon) (left₀) c.put_bytes-p.ensures in
-    let left₂ : Rest (from-lat) c.put_number-q.result c.put_number-q.new.out = int_more c.args.position.lon.0 (from-lat) (record { sfits = c.struct_told-1.given.0.1.1.0.1 }) (left₁) c.put_number-q.ensures in
-    let left₃ : Rest (dated) c.put_number-r.result c.put_number-r.new.out = int_more c.args.position.lat.0 (dated) (record { sfits = c.struct_told-2-1.given.1.0.1.1.0.1 }) (left₂) c.put_number-r.ensures in
-    let left₄ : Rest (named) c.put_number-s.result c.put_number-s.new.out = int_more c.args.position.day (named) (record { sfits = c.struct_told-3-1.given.1.1.0.1 }) (left₃) c.put_number-s.ensures in
+    let left₁ : Rest from-lon c.put_bytes-p.result c.put_bytes-p.new.out = left_more fix_keyword from-lon left₀ c.put_bytes-p.ensures in
+    let left₂ : Rest from-lat c.put_number-q.result c.put_number-q.new.out = int_more c.args.position.lon.0 from-lat (search rules) left₁ c.put_number-q.ensures in
+    let left₃ : Rest dated c.put_number-r.result c.put_number-r.new.out = int_more c.args.position.lat.0 dated (search rules) left₂ c.put_number-r.ensures in
+    let left₄ : Rest named c.put_number-s.result c.put_number-s.new.out = int_more c.args.position.day named (search rules) left₃ c.put_number-s.ensures in
     let left₅ : Rest (9 ∷ (name_text c.grid_of_words-grid.result.name ++ shifts)) c.put_number-s.result c.put_number-s.new.out =
     subst (λ (d : Grid). Rest (9 ∷ (name_text d.name ++ shifts)) c.put_number-s.result c.put_number-s.new.out)
-    (grid_is) (left₄) in
-    let b = c in let s = c in (
-      subst (λ (d : Grid). d.name.len ≤ name_most) (grid_is) (name_most_lem (group) c.args.position c.args.f c.requires.0),
-      left_room (9 ∷ name_text c.grid_of_words-grid.result.name) (shifts) (left₅),
+    grid_is left₄ in
+    (
+      subst (λ (d : Grid). d.name.len ≤ name_most) grid_is (name_most_lem group c.args.position c.args.f c.requires.0),
+      left_room (9 ∷ name_text c.grid_of_words-grid.result.name) shifts left₅,
     )
 
 pub put_numbers-u-requires : goal.put_numbers-u-requires
@@ -172,134 +171,129 @@ unfolding line_text
 put_numbers-u-requires c =
     let group : Group = group_of_words c.args.words.now in
     let results : List ℕ = led 9 (map int_text (take c.parameter_count.result (passed c.args.f))) in
-    let Rest : List ℕ → ℕ → List ℕ → Type 0 = Left 0 (line_text (group) c.args.position c.args.f) c.args.out.now in
-    let shifts : List ℕ = pieces (map int_text (list_of (result_in c.args.f) (group).parameters)) (10 ∷ []) in
+    let Rest : List ℕ → ℕ → List ℕ → Type 0 = Left 0 (line_text group c.args.position c.args.f) c.args.out.now in
+    let shifts : List ℕ = pieces (map int_text (list_of (result_in c.args.f) group.parameters)) (10 ∷ []) in
     let results_are : shifts ≡ results ++ (10 ∷ []) =
-    let s = c in
     ap (λ (zs : List ℤ). pieces (map int_text zs) (10 ∷ [])) (shifts_passed c.requires.0 ∙ ap (λ (n : ℕ). take n (passed c.args.f)) (sym c.parameter_count.ensures))
     ∙ sym (line_pieces [] (map int_text (take c.parameter_count.result (passed c.args.f))) (10 ∷ [])) in
-    let grid_is : grid_at (group) (c.args.f.grid - 1) ≡ c.grid_of_words-grid.result = let s = c in grid_found c.args.words.now c.args.position c.args.f c.requires.0 ∙ sym c.grid_of_words-grid.ensures in
-    let named : List ℕ = 9 ∷ (grid_name (group) c.args.f.grid ++ shifts) in
+    let grid_is : grid_at group (c.args.f.grid - 1) ≡ c.grid_of_words-grid.result = grid_found c.args.words.now c.args.position c.args.f c.requires.0 ∙ sym c.grid_of_words-grid.ensures in
+    let named : List ℕ = 9 ∷ (grid_name group c.args.f.grid ++ shifts) in
     let dated : List ℕ = 9 ∷ (int_text c.args.position.day ++ named) in
     let from-lat : List ℕ = 9 ∷ (int_text c.args.position.lat.0 ++ dated) in
     let from-lon : List ℕ = 9 ∷ (int_text c.args.position.lon.0 ++ from-lat) in
     let left₀ : Rest (fix_keyword ++ from-lon) 0 c.args.out.now =
-    left_all 0 (line_text (group) c.args.position c.args.f) c.args.out.now _
-    (line_pieces fix_keyword (int_text c.args.position.lon.0 ∷ int_text c.args.position.lat.0 ∷ int_text c.args.position.day ∷ grid_name (group) c.args.f.grid ∷ map int_text (list_of (result_in c.args.f) (group).parameters)) (10 ∷ []))
+    left_all 0 (line_text group c.args.position c.args.f) c.args.out.now _
+    (line_pieces fix_keyword (int_text c.args.position.lon.0 ∷ int_text c.args.position.lat.0 ∷ int_text c.args.position.day ∷ grid_name group c.args.f.grid ∷ map int_text (list_of (result_in c.args.f) group.parameters)) (10 ∷ []))
     (omega (arith, c.requires.1)) in
-    let left₁ : Rest (from-lon) c.put_bytes-p.result c.put_bytes-p.new.out = left_more fix_keyword (from-lon) (left₀) c.put_bytes-p.ensures in
-    let left₂ : Rest (from-lat) c.put_number-q.result c.put_number-q.new.out = int_more c.args.position.lon.0 (from-lat) (record { sfits = c.struct_told-1.given.0.1.1.0.1 }) (left₁) c.put_number-q.ensures in
-    let left₃ : Rest (dated) c.put_number-r.result c.put_number-r.new.out = int_more c.args.position.lat.0 (dated) (record { sfits = c.struct_told-2-1.given.1.0.1.1.0.1 }) (left₂) c.put_number-r.ensures in
-    let left₄ : Rest (named) c.put_number-s.result c.put_number-s.new.out = int_more c.args.position.day (named) (record { sfits = c.struct_told-3-1.given.1.1.0.1 }) (left₃) c.put_number-s.ensures in
+    let left₁ : Rest from-lon c.put_bytes-p.result c.put_bytes-p.new.out = left_more fix_keyword from-lon left₀ c.put_bytes-p.ensures in
+    let left₂ : Rest from-lat c.put_number-q.result c.put_number-q.new.out = int_more c.args.position.lon.0 from-lat (search rules) left₁ c.put_number-q.ensures in
+    let left₃ : Rest dated c.put_number-r.result c.put_number-r.new.out = int_more c.args.position.lat.0 dated (search rules) left₂ c.put_number-r.ensures in
+    let left₄ : Rest named c.put_number-s.result c.put_number-s.new.out = int_more c.args.position.day named (search rules) left₃ c.put_number-s.ensures in
     let left₅ : Rest (9 ∷ (name_text c.grid_of_words-grid.result.name ++ shifts)) c.put_number-s.result c.put_number-s.new.out =
     subst (λ (d : Grid). Rest (9 ∷ (name_text d.name ++ shifts)) c.put_number-s.result c.put_number-s.new.out)
-    (grid_is) (left₄) in
-    let left₆ : Rest (shifts) c.put_name-t.result c.put_name-t.new.out = left_more (9 ∷ name_text c.grid_of_words-grid.result.name) (shifts) (left₅) c.put_name-t.ensures in
+    grid_is left₄ in
+    let left₆ : Rest shifts c.put_name-t.result c.put_name-t.new.out = left_more (9 ∷ name_text c.grid_of_words-grid.result.name) shifts left₅ c.put_name-t.ensures in
     let left₇ : Rest (results ++ (10 ∷ [])) c.put_name-t.result c.put_name-t.new.out =
     subst (λ (rest : List ℕ). Rest rest c.put_name-t.result c.put_name-t.new.out)
-    (results_are) (left₆) in
-    let b = c in let s = c in
-    let e = c.parameter_count.ensures in let m = (accepted_head (group) c.requires.0.accepted).parameters in
-    (omega arith, left_room (results) (10 ∷ []) (left₇))
+    results_are left₆ in
+    let e = c.parameter_count.ensures in let m = (accepted_head group c.requires.0.accepted).parameters in
+    (omega arith, left_room results (10 ∷ []) left₇)
 
 pub put_byte-requires : goal.put_byte-requires
 unfolding line_text
 put_byte-requires c =
     let group : Group = group_of_words c.args.words.now in
-    let Rest : List ℕ → ℕ → List ℕ → Type 0 = Left 0 (line_text (group) c.args.position c.args.f) c.args.out.now in
+    let Rest : List ℕ → ℕ → List ℕ → Type 0 = Left 0 (line_text group c.args.position c.args.f) c.args.out.now in
     let results : List ℕ = led 9 (map int_text (take c.parameter_count.result (passed c.args.f))) in
-    let shifts : List ℕ = pieces (map int_text (list_of (result_in c.args.f) (group).parameters)) (10 ∷ []) in
+    let shifts : List ℕ = pieces (map int_text (list_of (result_in c.args.f) group.parameters)) (10 ∷ []) in
     let results_are : shifts ≡ results ++ (10 ∷ []) =
-    let s = c in
     ap (λ (zs : List ℤ). pieces (map int_text zs) (10 ∷ [])) (shifts_passed c.requires.0 ∙ ap (λ (n : ℕ). take n (passed c.args.f)) (sym c.parameter_count.ensures))
     ∙ sym (line_pieces [] (map int_text (take c.parameter_count.result (passed c.args.f))) (10 ∷ [])) in
-    let grid_is : grid_at (group) (c.args.f.grid - 1) ≡ c.grid_of_words-grid.result = let s = c in grid_found c.args.words.now c.args.position c.args.f c.requires.0 ∙ sym c.grid_of_words-grid.ensures in
-    let named : List ℕ = 9 ∷ (grid_name (group) c.args.f.grid ++ shifts) in
+    let grid_is : grid_at group (c.args.f.grid - 1) ≡ c.grid_of_words-grid.result = grid_found c.args.words.now c.args.position c.args.f c.requires.0 ∙ sym c.grid_of_words-grid.ensures in
+    let named : List ℕ = 9 ∷ (grid_name group c.args.f.grid ++ shifts) in
     let dated : List ℕ = 9 ∷ (int_text c.args.position.day ++ named) in
     let from-lat : List ℕ = 9 ∷ (int_text c.args.position.lat.0 ++ dated) in
     let from-lon : List ℕ = 9 ∷ (int_text c.args.position.lon.0 ++ from-lat) in
     let left₀ : Rest (fix_keyword ++ from-lon) 0 c.args.out.now =
-    left_all 0 (line_text (group) c.args.position c.args.f) c.args.out.now _
-    (line_pieces fix_keyword (int_text c.args.position.lon.0 ∷ int_text c.args.position.lat.0 ∷ int_text c.args.position.day ∷ grid_name (group) c.args.f.grid ∷ map int_text (list_of (result_in c.args.f) (group).parameters)) (10 ∷ []))
+    left_all 0 (line_text group c.args.position c.args.f) c.args.out.now _
+    (line_pieces fix_keyword (int_text c.args.position.lon.0 ∷ int_text c.args.position.lat.0 ∷ int_text c.args.position.day ∷ grid_name group c.args.f.grid ∷ map int_text (list_of (result_in c.args.f) group.parameters)) (10 ∷ []))
     (omega (arith, c.requires.1)) in
-    let left₁ : Rest (from-lon) c.put_bytes-p.result c.put_bytes-p.new.out = left_more fix_keyword (from-lon) (left₀) c.put_bytes-p.ensures in
-    let left₂ : Rest (from-lat) c.put_number-q.result c.put_number-q.new.out = int_more c.args.position.lon.0 (from-lat) (record { sfits = c.struct_told-1.given.0.1.1.0.1 }) (left₁) c.put_number-q.ensures in
-    let left₃ : Rest (dated) c.put_number-r.result c.put_number-r.new.out = int_more c.args.position.lat.0 (dated) (record { sfits = c.struct_told-2-1.given.1.0.1.1.0.1 }) (left₂) c.put_number-r.ensures in
-    let left₄ : Rest (named) c.put_number-s.result c.put_number-s.new.out = int_more c.args.position.day (named) (record { sfits = c.struct_told-3-1.given.1.1.0.1 }) (left₃) c.put_number-s.ensures in
+    let left₁ : Rest from-lon c.put_bytes-p.result c.put_bytes-p.new.out = left_more fix_keyword from-lon left₀ c.put_bytes-p.ensures in
+    let left₂ : Rest from-lat c.put_number-q.result c.put_number-q.new.out = int_more c.args.position.lon.0 from-lat (search rules) left₁ c.put_number-q.ensures in
+    let left₃ : Rest dated c.put_number-r.result c.put_number-r.new.out = int_more c.args.position.lat.0 dated (search rules) left₂ c.put_number-r.ensures in
+    let left₄ : Rest named c.put_number-s.result c.put_number-s.new.out = int_more c.args.position.day named (search rules) left₃ c.put_number-s.ensures in
     let left₅ : Rest (9 ∷ (name_text c.grid_of_words-grid.result.name ++ shifts)) c.put_number-s.result c.put_number-s.new.out =
     subst (λ (d : Grid). Rest (9 ∷ (name_text d.name ++ shifts)) c.put_number-s.result c.put_number-s.new.out)
-    (grid_is) (left₄) in
-    let left₆ : Rest (shifts) c.put_name-t.result c.put_name-t.new.out = left_more (9 ∷ name_text c.grid_of_words-grid.result.name) (shifts) (left₅) c.put_name-t.ensures in
+    grid_is left₄ in
+    let left₆ : Rest shifts c.put_name-t.result c.put_name-t.new.out = left_more (9 ∷ name_text c.grid_of_words-grid.result.name) shifts left₅ c.put_name-t.ensures in
     let left₇ : Rest (results ++ (10 ∷ [])) c.put_name-t.result c.put_name-t.new.out =
     subst (λ (rest : List ℕ). Rest rest c.put_name-t.result c.put_name-t.new.out)
-    (results_are) (left₆) in
-    let left₈ : Rest (10 ∷ []) c.put_numbers-u.result c.put_numbers-u.new.out = left_more (results) (10 ∷ []) (left₇) c.put_numbers-u.ensures in
-    let h = left_room (10 ∷ []) [] (left₈) in omega arith
+    results_are left₆ in
+    let left₈ : Rest (10 ∷ []) c.put_numbers-u.result c.put_numbers-u.new.out = left_more results (10 ∷ []) left₇ c.put_numbers-u.ensures in
+    let h = left_room (10 ∷ []) [] left₈ in omega arith
 
 pub shape_of-out : goal.shape_of-out
 unfolding line_text
 shape_of-out c =
     let group : Group = group_of_words c.args.words.now in
-    let Rest : List ℕ → ℕ → List ℕ → Type 0 = Left 0 (line_text (group) c.args.position c.args.f) c.args.out.now in
+    let Rest : List ℕ → ℕ → List ℕ → Type 0 = Left 0 (line_text group c.args.position c.args.f) c.args.out.now in
     let results : List ℕ = led 9 (map int_text (take c.parameter_count.result (passed c.args.f))) in
-    let shifts : List ℕ = pieces (map int_text (list_of (result_in c.args.f) (group).parameters)) (10 ∷ []) in
+    let shifts : List ℕ = pieces (map int_text (list_of (result_in c.args.f) group.parameters)) (10 ∷ []) in
     let results_are : shifts ≡ results ++ (10 ∷ []) =
-    let s = c in
     ap (λ (zs : List ℤ). pieces (map int_text zs) (10 ∷ [])) (shifts_passed c.requires.0 ∙ ap (λ (n : ℕ). take n (passed c.args.f)) (sym c.parameter_count.ensures))
     ∙ sym (line_pieces [] (map int_text (take c.parameter_count.result (passed c.args.f))) (10 ∷ [])) in
-    let grid_is : grid_at (group) (c.args.f.grid - 1) ≡ c.grid_of_words-grid.result = let s = c in grid_found c.args.words.now c.args.position c.args.f c.requires.0 ∙ sym c.grid_of_words-grid.ensures in
-    let named : List ℕ = 9 ∷ (grid_name (group) c.args.f.grid ++ shifts) in
+    let grid_is : grid_at group (c.args.f.grid - 1) ≡ c.grid_of_words-grid.result = grid_found c.args.words.now c.args.position c.args.f c.requires.0 ∙ sym c.grid_of_words-grid.ensures in
+    let named : List ℕ = 9 ∷ (grid_name group c.args.f.grid ++ shifts) in
     let dated : List ℕ = 9 ∷ (int_text c.args.position.day ++ named) in
     let from-lat : List ℕ = 9 ∷ (int_text c.args.position.lat.0 ++ dated) in
     let from-lon : List ℕ = 9 ∷ (int_text c.args.position.lon.0 ++ from-lat) in
     let left₀ : Rest (fix_keyword ++ from-lon) 0 c.args.out.now =
-    left_all 0 (line_text (group) c.args.position c.args.f) c.args.out.now _
-    (line_pieces fix_keyword (int_text c.args.position.lon.0 ∷ int_text c.args.position.lat.0 ∷ int_text c.args.position.day ∷ grid_name (group) c.args.f.grid ∷ map int_text (list_of (result_in c.args.f) (group).parameters)) (10 ∷ []))
+    left_all 0 (line_text group c.args.position c.args.f) c.args.out.now _
+    (line_pieces fix_keyword (int_text c.args.position.lon.0 ∷ int_text c.args.position.lat.0 ∷ int_text c.args.position.day ∷ grid_name group c.args.f.grid ∷ map int_text (list_of (result_in c.args.f) group.parameters)) (10 ∷ []))
     (omega (arith, c.requires.1)) in
-    let left₁ : Rest (from-lon) c.put_bytes-p.result c.put_bytes-p.new.out = left_more fix_keyword (from-lon) (left₀) c.put_bytes-p.ensures in
-    let left₂ : Rest (from-lat) c.put_number-q.result c.put_number-q.new.out = int_more c.args.position.lon.0 (from-lat) (record { sfits = c.struct_told-1.given.0.1.1.0.1 }) (left₁) c.put_number-q.ensures in
-    let left₃ : Rest (dated) c.put_number-r.result c.put_number-r.new.out = int_more c.args.position.lat.0 (dated) (record { sfits = c.struct_told-2-1.given.1.0.1.1.0.1 }) (left₂) c.put_number-r.ensures in
-    let left₄ : Rest (named) c.put_number-s.result c.put_number-s.new.out = int_more c.args.position.day (named) (record { sfits = c.struct_told-3-1.given.1.1.0.1 }) (left₃) c.put_number-s.ensures in
+    let left₁ : Rest from-lon c.put_bytes-p.result c.put_bytes-p.new.out = left_more fix_keyword from-lon left₀ c.put_bytes-p.ensures in
+    let left₂ : Rest from-lat c.put_number-q.result c.put_number-q.new.out = int_more c.args.position.lon.0 from-lat (search rules) left₁ c.put_number-q.ensures in
+    let left₃ : Rest dated c.put_number-r.result c.put_number-r.new.out = int_more c.args.position.lat.0 dated (search rules) left₂ c.put_number-r.ensures in
+    let left₄ : Rest named c.put_number-s.result c.put_number-s.new.out = int_more c.args.position.day named (search rules) left₃ c.put_number-s.ensures in
     let left₅ : Rest (9 ∷ (name_text c.grid_of_words-grid.result.name ++ shifts)) c.put_number-s.result c.put_number-s.new.out =
     subst (λ (d : Grid). Rest (9 ∷ (name_text d.name ++ shifts)) c.put_number-s.result c.put_number-s.new.out)
-    (grid_is) (left₄) in
-    let left₆ : Rest (shifts) c.put_name-t.result c.put_name-t.new.out = left_more (9 ∷ name_text c.grid_of_words-grid.result.name) (shifts) (left₅) c.put_name-t.ensures in
+    grid_is left₄ in
+    let left₆ : Rest shifts c.put_name-t.result c.put_name-t.new.out = left_more (9 ∷ name_text c.grid_of_words-grid.result.name) shifts left₅ c.put_name-t.ensures in
     let left₇ : Rest (results ++ (10 ∷ [])) c.put_name-t.result c.put_name-t.new.out =
     subst (λ (rest : List ℕ). Rest rest c.put_name-t.result c.put_name-t.new.out)
-    (results_are) (left₆) in
-    let left₈ : Rest (10 ∷ []) c.put_numbers-u.result c.put_numbers-u.new.out = left_more (results) (10 ∷ []) (left₇) c.put_numbers-u.ensures in
-    left_length (left_more (10 ∷ []) [] (left₈) c.put_byte.ensures)
+    results_are left₆ in
+    let left₈ : Rest (10 ∷ []) c.put_numbers-u.result c.put_numbers-u.new.out = left_more results (10 ∷ []) left₇ c.put_numbers-u.ensures in
+    left_length (left_more (10 ∷ []) [] left₈ c.put_byte.ensures)
 
 pub returns : goal.returns
 unfolding line_text
 returns c =
     let group : Group = group_of_words c.args.words.now in
-    let Rest : List ℕ → ℕ → List ℕ → Type 0 = Left 0 (line_text (group) c.args.position c.args.f) c.args.out.now in
+    let Rest : List ℕ → ℕ → List ℕ → Type 0 = Left 0 (line_text group c.args.position c.args.f) c.args.out.now in
     let results : List ℕ = led 9 (map int_text (take c.parameter_count.result (passed c.args.f))) in
-    let shifts : List ℕ = pieces (map int_text (list_of (result_in c.args.f) (group).parameters)) (10 ∷ []) in
+    let shifts : List ℕ = pieces (map int_text (list_of (result_in c.args.f) group.parameters)) (10 ∷ []) in
     let results_are : shifts ≡ results ++ (10 ∷ []) =
-    let s = c in
     ap (λ (zs : List ℤ). pieces (map int_text zs) (10 ∷ [])) (shifts_passed c.requires.0 ∙ ap (λ (n : ℕ). take n (passed c.args.f)) (sym c.parameter_count.ensures))
     ∙ sym (line_pieces [] (map int_text (take c.parameter_count.result (passed c.args.f))) (10 ∷ [])) in
-    let grid_is : grid_at (group) (c.args.f.grid - 1) ≡ c.grid_of_words-grid.result = let s = c in grid_found c.args.words.now c.args.position c.args.f c.requires.0 ∙ sym c.grid_of_words-grid.ensures in
-    let named : List ℕ = 9 ∷ (grid_name (group) c.args.f.grid ++ shifts) in
+    let grid_is : grid_at group (c.args.f.grid - 1) ≡ c.grid_of_words-grid.result = grid_found c.args.words.now c.args.position c.args.f c.requires.0 ∙ sym c.grid_of_words-grid.ensures in
+    let named : List ℕ = 9 ∷ (grid_name group c.args.f.grid ++ shifts) in
     let dated : List ℕ = 9 ∷ (int_text c.args.position.day ++ named) in
     let from-lat : List ℕ = 9 ∷ (int_text c.args.position.lat.0 ++ dated) in
     let from-lon : List ℕ = 9 ∷ (int_text c.args.position.lon.0 ++ from-lat) in
     let left₀ : Rest (fix_keyword ++ from-lon) 0 c.args.out.now =
-    left_all 0 (line_text (group) c.args.position c.args.f) c.args.out.now _
-    (line_pieces fix_keyword (int_text c.args.position.lon.0 ∷ int_text c.args.position.lat.0 ∷ int_text c.args.position.day ∷ grid_name (group) c.args.f.grid ∷ map int_text (list_of (result_in c.args.f) (group).parameters)) (10 ∷ []))
+    left_all 0 (line_text group c.args.position c.args.f) c.args.out.now _
+    (line_pieces fix_keyword (int_text c.args.position.lon.0 ∷ int_text c.args.position.lat.0 ∷ int_text c.args.position.day ∷ grid_name group c.args.f.grid ∷ map int_text (list_of (result_in c.args.f) group.parameters)) (10 ∷ []))
     (omega (arith, c.requires.1)) in
-    let left₁ : Rest (from-lon) c.put_bytes-p.result c.put_bytes-p.new.out = left_more fix_keyword (from-lon) (left₀) c.put_bytes-p.ensures in
-    let left₂ : Rest (from-lat) c.put_number-q.result c.put_number-q.new.out = int_more c.args.position.lon.0 (from-lat) (record { sfits = c.struct_told-1.given.0.1.1.0.1 }) (left₁) c.put_number-q.ensures in
-    let left₃ : Rest (dated) c.put_number-r.result c.put_number-r.new.out = int_more c.args.position.lat.0 (dated) (record { sfits = c.struct_told-2-1.given.1.0.1.1.0.1 }) (left₂) c.put_number-r.ensures in
-    let left₄ : Rest (named) c.put_number-s.result c.put_number-s.new.out = int_more c.args.position.day (named) (record { sfits = c.struct_told-3-1.given.1.1.0.1 }) (left₃) c.put_number-s.ensures in
+    let left₁ : Rest from-lon c.put_bytes-p.result c.put_bytes-p.new.out = left_more fix_keyword from-lon left₀ c.put_bytes-p.ensures in
+    let left₂ : Rest from-lat c.put_number-q.result c.put_number-q.new.out = int_more c.args.position.lon.0 from-lat (search rules) left₁ c.put_number-q.ensures in
+    let left₃ : Rest dated c.put_number-r.result c.put_number-r.new.out = int_more c.args.position.lat.0 dated (search rules) left₂ c.put_number-r.ensures in
+    let left₄ : Rest named c.put_number-s.result c.put_number-s.new.out = int_more c.args.position.day named (search rules) left₃ c.put_number-s.ensures in
     let left₅ : Rest (9 ∷ (name_text c.grid_of_words-grid.result.name ++ shifts)) c.put_number-s.result c.put_number-s.new.out =
     subst (λ (d : Grid). Rest (9 ∷ (name_text d.name ++ shifts)) c.put_number-s.result c.put_number-s.new.out)
-    (grid_is) (left₄) in
-    let left₆ : Rest (shifts) c.put_name-t.result c.put_name-t.new.out = left_more (9 ∷ name_text c.grid_of_words-grid.result.name) (shifts) (left₅) c.put_name-t.ensures in
+    grid_is left₄ in
+    let left₆ : Rest shifts c.put_name-t.result c.put_name-t.new.out = left_more (9 ∷ name_text c.grid_of_words-grid.result.name) shifts left₅ c.put_name-t.ensures in
     let left₇ : Rest (results ++ (10 ∷ [])) c.put_name-t.result c.put_name-t.new.out =
     subst (λ (rest : List ℕ). Rest rest c.put_name-t.result c.put_name-t.new.out)
-    (results_are) (left₆) in
-    let left₈ : Rest (10 ∷ []) c.put_numbers-u.result c.put_numbers-u.new.out = left_more (results) (10 ∷ []) (left₇) c.put_numbers-u.ensures in
-    left_none (left_more (10 ∷ []) [] (left₈) c.put_byte.ensures)
+    results_are left₆ in
+    let left₈ : Rest (10 ∷ []) c.put_numbers-u.result c.put_numbers-u.new.out = left_more results (10 ∷ []) left₇ c.put_numbers-u.ensures in
+    left_none (left_more (10 ∷ []) [] left₈ c.put_byte.ensures)

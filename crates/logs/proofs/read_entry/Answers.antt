@@ -18,7 +18,6 @@ use Rattle.logs.proofs.read_entry.Goals as goal
 
 pub returns-then-not-cut_as : goal.returns-then-not-cut_as
 returns-then-not-cut_as c =
-    let s = c in
     entry_bad (entry_miss c.args.np c.args.line.now _ c.cut_as.ensures.value (c.if-not-cut_as.true))
 
 pub cut_field-requires : goal.cut_field-requires
@@ -32,35 +31,36 @@ pub returns-in_default : goal.returns-in_default
 returns-in_default c =
     let line : List ℕ = c.args.line.now in
     let hit : c.cut_as.result ≡ true = c.if-not-cut_as.false in
-    let k = c in
-    entry_bad (entry_unnamed c.args.np (line) _ c.cut_as.ensures.value (hit)
-    (form_bad _ (field_of (line) 4) _ c.cut_field.ensures c.name_form.ensures c.in_default.is))
+    entry_bad (entry_unnamed c.args.np line _ c.cut_as.ensures.value hit
+    (form_bad _ (field_of line 4) _ c.cut_field.ensures c.name_form.ensures c.in_default.is))
 
 pub read_numbers-requires : goal.read_numbers-requires
 read_numbers-requires c =
-    let k = c in let n = counted k in let l = (start k).pre.2 in
+    let n = entry_count c.args.np c.args.line.now _ c.cut_as.ensures.value c.if-not-cut_as.false in
+    let l = c.requires.2 in
     (c.cut_as.ensures.cuts, omega arith, omega arith)
 
 pub returns-then-not-read_numbers : goal.returns-then-not-read_numbers
 returns-then-not-read_numbers c =
     let line : List ℕ = c.args.line.now in
     let hit : c.cut_as.result ≡ true = c.if-not-cut_as.false in
-    let named : is_name (field_of (line) 4) ≡ true = form_good _ (field_of (line) 4) _ c.cut_field.ensures c.name_form.ensures c.in-Named.is in
-    let place : NumbersRead (read_ints (take 3 (drop 1 (split 9 (line))))) c.read_numbers.result c.read_numbers.new.numbers =
-    subst (λ (n : ℕ). NumbersRead (read_ints (take n (drop 1 (split 9 (line))))) c.read_numbers.result c.read_numbers.new.numbers)
+    let named : is_name (field_of line 4) ≡ true = form_good _ (field_of line 4) _ c.cut_field.ensures c.name_form.ensures c.in-Named.is in
+    let place : NumbersRead (read_ints (take 3 (drop 1 (split 9 line)))) c.read_numbers.result c.read_numbers.new.numbers =
+    subst (λ (n : ℕ). NumbersRead (read_ints (take n (drop 1 (split 9 line)))) c.read_numbers.result c.read_numbers.new.numbers)
     c.requires.2 c.read_numbers.ensures in
-    let r = c in let k = c in
-    entry_placed c.args.np (line) _ c.cut_as.ensures.value (hit) (named) _ _ (place) (c.if-not-read_numbers.true)
+    entry_placed c.args.np line _ c.cut_as.ensures.value hit named _ _ place (c.if-not-read_numbers.true)
 
 pub slice_bounds-read_numbers-end-2 : goal.slice_bounds-read_numbers-end-2
 slice_bounds-read_numbers-end-2 c =
     let shifts_length : length (take c.args.np c.args.values.now) ≡ c.args.np = let n = c.requires.0 in let l = c.requires.3 in length-take-le c.args.np c.args.values.now (omega arith) in
-    let s = c in sym (shifts_length)
+    sym shifts_length
 
 pub read_numbers-requires-2 : goal.read_numbers-requires-2
 read_numbers-requires-2 c =
     let shifts_length : length (take c.args.np c.args.values.now) ≡ c.args.np = let n = c.requires.0 in let l = c.requires.3 in length-take-le c.args.np c.args.values.now (omega arith) in
-    let k = c in let n = counted k in let l = shifts_length in let m = (start k).pre.0 in
+    let n = entry_count c.args.np c.args.line.now _ c.cut_as.ensures.value c.if-not-cut_as.false in
+    let l = shifts_length in
+    let m = c.requires.0 in
     (c.cut_as.ensures.cuts, omega arith, omega arith)
 
 pub returns : goal.returns
@@ -68,13 +68,13 @@ returns c =
     let line : List ℕ = c.args.line.now in
     let hit : c.cut_as.result ≡ true = c.if-not-cut_as.false in
     let counted : length (split 9 line) ≡ 5 + c.args.np = entry_count c.args.np line _ c.cut_as.ensures.value hit in
-    let named : is_name (field_of (line) 4) ≡ true = form_good _ (field_of (line) 4) _ c.cut_field.ensures c.name_form.ensures c.in-Named.is in
-    let place : NumbersRead (read_ints (take 3 (drop 1 (split 9 (line))))) c.read_numbers.result c.read_numbers.new.numbers =
-    subst (λ (n : ℕ). NumbersRead (read_ints (take n (drop 1 (split 9 (line))))) c.read_numbers.result c.read_numbers.new.numbers)
+    let named : is_name (field_of line 4) ≡ true = form_good _ (field_of line 4) _ c.cut_field.ensures c.name_form.ensures c.in-Named.is in
+    let place : NumbersRead (read_ints (take 3 (drop 1 (split 9 line)))) c.read_numbers.result c.read_numbers.new.numbers =
+    subst (λ (n : ℕ). NumbersRead (read_ints (take n (drop 1 (split 9 line)))) c.read_numbers.result c.read_numbers.new.numbers)
     c.requires.2 c.read_numbers.ensures in
     let shifts_length : length (take c.args.np c.args.values.now) ≡ c.args.np = let n = c.requires.0 in let l = c.requires.3 in length-take-le c.args.np c.args.values.now (omega arith) in
-    let r = c in let k = c in let s = c in let n = counted in
-    entry_valued c.args.np (line) _ c.cut_as.ensures.value (hit) (named) _ _ _ _ (place) (c.if-not-read_numbers.false)
-    (subst (λ (m : ℕ). NumbersRead (read_ints (take m (drop 5 (split 9 (line))))) c.read_numbers-2.result c.read_numbers-2.new.numbers) (shifts_length) c.read_numbers-2.ensures)
+    let n = counted in
+    entry_valued c.args.np line _ c.cut_as.ensures.value hit named _ _ _ _ place (c.if-not-read_numbers.false)
+    (subst (λ (m : ℕ). NumbersRead (read_ints (take m (drop 5 (split 9 line)))) c.read_numbers-2.result c.read_numbers-2.new.numbers) shifts_length c.read_numbers-2.ensures)
     (c.cut_as.ensures.cuts 4 (omega arith) (omega arith))
     (λ e. sym (take_at c.read_numbers-2.new.numbers _ c.args.np e))

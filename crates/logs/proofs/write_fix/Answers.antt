@@ -14,7 +14,6 @@ use Rattle.logs.proofs.write_fix.Goals as goal
 
 pub put_line-n-requires : goal.put_line-n-requires
 put_line-n-requires c =
-    let s = c in
     (c.requires, text_most (group_of_words c.args.words.now) c.args.position c.args.f c.requires)
 
 pub returns-then-out-n : goal.returns-then-out-n
@@ -22,7 +21,8 @@ returns-then-out-n c =
     let a = c.args in
     let w = c.put_line-n.ensures.place in
     let l = c.if-out-n.true in
-    fix_short (group_of_words a.words.now) a.position a.f a.out.now (omega arith)
+    let p = fix_short (group_of_words a.words.now) a.position a.f a.out.now (omega arith) in
+    record { answer = p.0; bytes = p.1 }
 
 pub put_front-requires : goal.put_front-requires
 put_front-requires c =
@@ -38,5 +38,7 @@ returns c =
     let k = c.put_line-n in
     let l = c.if-out-n.false in
     let w = k.ensures.place in
-    fix_count (group_of_words a.words.now) a.position a.f a.out.now _ _ (omega arith) (omega arith)
-    (c.put_front.ensures.holds ∙ ap (λ (t : List ℕ). put 0 t a.out.now) (front_of _ _ _ _ k.ensures))
+    let p =
+        fix_count (group_of_words a.words.now) a.position a.f a.out.now k.result c.put_front.new.out (omega arith) (omega arith)
+        (c.put_front.ensures.holds ∙ ap (λ (t : List ℕ). put 0 t a.out.now) (front_of _ _ _ _ k.ensures)) in
+    record { answer = p.0; bytes = p.1 }

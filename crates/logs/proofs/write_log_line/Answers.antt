@@ -12,10 +12,15 @@ use Rattle.logs.proofs.write_log_line.Goals as goal
 
 pub returns : goal.returns
 returns c =
-    let s = c in let a = c.args in let h = machine_shaped a.group _ c.well_formed.0 in
-    let e = c.line_words.ensures in let n = c.numbers_of-words.ensures in (
-      e.0 ∙ ap (λ (ns : List ℤ). line_written (group_of_words ns) a.nodes.now a.position (length a.out.now)) n
-          ∙ written_stored a.group h a.nodes.now a.position (length a.out.now),
-      e.1 ∙ ap (λ (ns : List ℤ). line_after (group_of_words ns) a.nodes.now a.position a.out.now) n
-          ∙ after_stored a.group h a.nodes.now a.position a.out.now,
-    )
+    let a = c.args in
+    let h = machine_shaped a.group _ c.well_formed.0 in
+    let e = c.line_words.ensures in
+    let n = c.numbers_of-words.ensures in
+    record {
+      answer = e.answer
+          ∙ ap (λ (ns : List ℤ). line_written (group_of_words ns) a.nodes.now a.position (length a.out.now)) n
+          ∙ written_stored a.group h a.nodes.now a.position (length a.out.now);
+      bytes = e.bytes
+          ∙ ap (λ (ns : List ℤ). line_after (group_of_words ns) a.nodes.now a.position a.out.now) n
+          ∙ after_stored a.group h a.nodes.now a.position a.out.now;
+    }
