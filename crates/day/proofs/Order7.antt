@@ -1,10 +1,10 @@
 -- Order 7 holds of the factor.
-use Prim.Native.Nat.{ℕ, ◌+◌, ◌*◌, ◌≤◌, ◌<◌}
+use Prim.Native.Nat.{ℕ, ◌+◌, ◌<◌}
 use mathlib.Core.Path.{◌≡◌, refl, sym, ap, ◌∙◌}
 use mathlib.Core.Bool.{Bool, true, false, cond}
 use native.Mathlib.Nat.{mul-add, mul-le-mul_left}
 use native.Mathlib.Omega.{arith}
-use lib.IntN.{ℤ, pos, negsuc, neg_ℤ, ◌+ℤ◌, ◌-ℤ◌, ◌*ℤ◌, nat_abs, one, +ℤ_idl, +ℤ_idr, +ℤ_invr, zero-*ℤ, *ℤ-zero, *ℤ-one, *ℤ-negsuc, *ℤ_comm}
+use lib.IntN.{ℤ, pos, neg_ℤ, ◌+ℤ◌, ◌-ℤ◌, ◌*ℤ◌, nat_abs, one, +ℤ_idl, +ℤ_idr, +ℤ_invr, zero-*ℤ, *ℤ-zero, *ℤ-one, *ℤ-negsuc, *ℤ_comm}
 use lib.Signed.{◌≤ℤ◌, ◌<ℤ◌, le_z, yes_non_neg, pos-nat_abs}
 use Rattle.numbers.specs.Round.{round_z}
 use Rattle.numbers.proofs.Diff.{up, dn, up_pos, dn_pos, ≤_diff, <_diff, diff_≤, diff_<, diff_≡, diff__, diff_self, diff_scale, nat_abs_diff}

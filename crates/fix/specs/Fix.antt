@@ -9,7 +9,6 @@ use Rattle.cell.specs.Used.{SameUsed}
 use Rattle.day.specs.Day.{result_of}
 use Rattle.fix.specs.declared.Offset.{Offset}
 use Rattle.fix.specs.declared.Cell.{Cell}
-use Rattle.fix.specs.declared.Fix.{Fix}
 use Rattle.fix.specs.declared.Lookup.{Lookup}
 use Rattle.fix.specs.declared.Lookup.TheVariants as L
 

@@ -1,5 +1,4 @@
 -- `cell_of` meets its contract.
-use borrow.Author.Rules.{rules}
 use mathlib.Core.Path.{refl}
 use Rattle.fix.specs.Fix.{cell_of}
 use Rattle.fix.proofs.OffsetLaws.{distances}

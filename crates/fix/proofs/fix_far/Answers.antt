@@ -1,10 +1,9 @@
 -- `fix_far` meets its contract, parameter by parameter.
-use mathlib.Core.Bool.{Bool, true, false}
+use mathlib.Core.Bool.{Bool, false}
 use mathlib.Core.Path.{◌≡◌, ◌∙◌}
 use native.Mathlib.Omega.{arith}
 use mir.Syntax.{w64}
 use mir.Val.{to_z, of_z}
-use borrow.Author.Rules.{rules}
 use Rattle.cell.specs.Cell.{is_beyond, used_some}
 use Rattle.cell.proofs.Order6.{in_word_lem, used_either}
 use Rattle.fix.specs.Fix.{result_at}

@@ -10,7 +10,6 @@ use Rattle.fix.specs.declared.Cell.{Cell}
 use Rattle.fix.specs.Fix.{cell_of, position, fix_in}
 use Rattle.fix.proofs.OffsetLaws.{cell_i, cell_j}
 use Rattle.fix.proofs.PartLaws.{fix_none}
-use borrow.Author.Rules.{rules}
 use Rattle.fix.proofs.fix_in.Goals as goal
 
 pub returns-then-l-eq0 : goal.returns-then-l-eq0

@@ -1,5 +1,4 @@
 -- `position` meets its contract: the position stays within the grid's node range.
-use borrow.Author.Rules.{rules}
 use native.Mathlib.Omega.{arith}
 use Rattle.fix.proofs.OffsetLaws.{Stands, stands}
 use Rattle.fix.proofs.position.Goals as goal

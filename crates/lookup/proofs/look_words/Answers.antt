@@ -16,8 +16,8 @@ look_accepted-requires c =
       record {
         flat = j.ensures.1 v;
         room = record {
-          room = record { few = omega arith; sides_room = omega (arith, j.auto.1.0); ranks_room = omega (arith, j.auto.1.1.0) };
-          frames_room = omega (arith, j.auto.1.1.1.0);
+          room = record { few = omega arith; sides_room = omega (arith, j.auto.sides); ranks_room = omega (arith, j.auto.ranks) };
+          frames_room = omega (arith, j.auto.frames);
         };
       },
     )
