@@ -167,8 +167,8 @@ module _ (g : Group) (nodes : List ℤ) (p : Position) (out : List ℕ) where
     written_only : (bytes : List ℕ) → OwnLine g nodes p bytes → bytes ≡ written_bytes g nodes p out
     written_only bytes o = let w = wrote (outcome g nodes p out) z in only_line g nodes p w.0 w.1 bytes o ∙ sym written_text
 
-    written_count : length (written_bytes g nodes p out) ≡ written_count (line_written g nodes p (length out))
-    written_count = ap length written_text ∙ sym (ap written_count (wrote (outcome g nodes p out) z).2)
+    written_counted : length (written_bytes g nodes p out) ≡ written_count (line_written g nodes p (length out))
+    written_counted = ap length written_text ∙ sym (ap written_count (wrote (outcome g nodes p out) z).2)
 
     written_behind : drop (written_count (line_written g nodes p (length out))) (line_after g nodes p out) ≡ drop (written_count (line_written g nodes p (length out))) out
     written_behind =
@@ -195,7 +195,7 @@ module _ (g : Group) (nodes : List ℤ) (p : Position) (out : List ℕ) where
         refused = line_refused;
         line = written_own;
         only = written_only;
-        count = written_count;
+        count = written_counted;
         behind = written_behind;
         unchanged = kept o;
         most = most o;
