@@ -17,11 +17,10 @@ of_fix p x y a b c r d e f = rw (d, e) (ap (record_of p) f)
 pub returns-in-Fix : goal.returns-in-Fix
 returns-in-Fix c =
     let p = c.args.point in
-    let v = c.answer-1.given in
-    of_fix p c.degrees.result c.degrees-in-Fix.result v.0.0 v.0.1.0 v.0.1.1.0 _
-    (c.degrees.ensures ∙ ap degrees_of (to_z-of_z w64 p.lon.0 (record { sfits = c.struct_told-1.given.0.1.1.0.1 })))
-    (c.degrees-in-Fix.ensures ∙ ap degrees_of (to_z-of_z w64 p.lat.0 (record { sfits = c.struct_told-in-Fix-1.given.1.0.1.1.0.1 })))
-    (sym v.1)
+    of_fix p c.degrees.result c.degrees-in-Fix.result c.in-Fix.first c.in-Fix.second c.in-Fix.third _
+    (c.degrees.ensures ∙ ap degrees_of (to_z-of_z w64 p.lon.0 (search rules)))
+    (c.degrees-in-Fix.ensures ∙ ap degrees_of (to_z-of_z w64 p.lat.0 (search rules)))
+    (sym c.in-Fix.is)
 
 pub returns-in-Refused : goal.returns-in-Refused
 unfolding record_of of_bits

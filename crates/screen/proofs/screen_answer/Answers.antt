@@ -2,7 +2,6 @@
 use Rattle.std.proofs.Common.{◌≡◌, ℕ, ◌≤◌, true, false, not, ◌&&◌, leb, sym, ap, ◌∙◌, w64, rules, leb-true}
 use lib.Ieee.{Float}
 use mir.ValLaws.{to_z-of_z}
-use borrow.Author.Tests.{not-true, not-false}
 use Rattle.numbers.proofs.Bools.{and_left}
 use Rattle.group.specs.declared.Refusal.{Refusal}
 use Rattle.group.specs.Refusals.{refusal}
@@ -40,41 +39,35 @@ quantum_limit q np h = leb-true q quantum_most (and_left (leb q quantum_most) (l
 pub returns-then-not-admits : goal.returns-then-not-admits
 returns-then-not-admits c =
     let a = c.args in
-    is_outside a.quantum a.parameters a.found (sym c.admits.ensures ∙ not-true _ c.if-not-admits.true)
+    is_outside a.quantum a.parameters a.found (sym c.admits.ensures ∙ c.if-not-admits.true)
 
 pub shown_shift-requires : goal.shown_shift-requires
 shown_shift-requires c =
-    let within : admitted c.args.quantum c.args.parameters ≡ true = sym c.admits.ensures ∙ not-false _ c.if-not-admits.false in
-    let limit : c.args.quantum ≤ quantum_most = quantum_limit c.args.quantum c.args.parameters (within) in
-    limit
+    quantum_limit c.args.quantum c.args.parameters (sym c.admits.ensures ∙ c.if-not-admits.false)
 
 pub shown_shift-requires-in-Fix : goal.shown_shift-requires-in-Fix
 shown_shift-requires-in-Fix c =
-    let within : admitted c.args.quantum c.args.parameters ≡ true = sym c.admits.ensures ∙ not-false _ c.if-not-admits.false in
-    let limit : c.args.quantum ≤ quantum_most = quantum_limit c.args.quantum c.args.parameters (within) in
-    limit
+    quantum_limit c.args.quantum c.args.parameters (sym c.admits.ensures ∙ c.if-not-admits.false)
 
 pub shown_shift-requires-in-Fix-2 : goal.shown_shift-requires-in-Fix-2
 shown_shift-requires-in-Fix-2 c =
-    let within : admitted c.args.quantum c.args.parameters ≡ true = sym c.admits.ensures ∙ not-false _ c.if-not-admits.false in
-    let limit : c.args.quantum ≤ quantum_most = quantum_limit c.args.quantum c.args.parameters (within) in
-    limit
+    quantum_limit c.args.quantum c.args.parameters (sym c.admits.ensures ∙ c.if-not-admits.false)
 
 pub handed_on-requires : goal.handed_on-requires
 handed_on-requires c = tt
 
 pub returns-in-Fix : goal.returns-in-Fix
 returns-in-Fix c =
-    let within : admitted c.args.quantum c.args.parameters ≡ true = sym c.admits.ensures ∙ not-false _ c.if-not-admits.false in
+    let within : admitted c.args.quantum c.args.parameters ≡ true = sym c.admits.ensures ∙ c.if-not-admits.false in
     let a = c.args in
     let f = c.in-Fix.f in
-    is_fix a.quantum a.parameters a.found f c.shown_shift.result c.shown_shift-in-Fix.result c.shown_shift-in-Fix-2.result (within) c.in-Fix.is
-    (c.shown_shift.ensures ∙ ap (shown_shift a.quantum a.parameters 0) (to_z-of_z w64 f.first (record { sfits = c.struct_told-1.given.1.0.1 })))
-    (c.shown_shift-in-Fix.ensures ∙ ap (shown_shift a.quantum a.parameters 1) (to_z-of_z w64 f.second (record { sfits = c.struct_told-in-Fix-1.given.1.1.0.1 })))
-    (c.shown_shift-in-Fix-2.ensures ∙ ap (shown_shift a.quantum a.parameters 2) (to_z-of_z w64 f.third (record { sfits = c.struct_told-in-Fix-2-1.given.1.1.1.0.1 })))
+    is_fix a.quantum a.parameters a.found f c.shown_shift.result c.shown_shift-in-Fix.result c.shown_shift-in-Fix-2.result within c.in-Fix.is
+    (c.shown_shift.ensures ∙ ap (shown_shift a.quantum a.parameters 0) (to_z-of_z w64 f.first (search rules)))
+    (c.shown_shift-in-Fix.ensures ∙ ap (shown_shift a.quantum a.parameters 1) (to_z-of_z w64 f.second (search rules)))
+    (c.shown_shift-in-Fix-2.ensures ∙ ap (shown_shift a.quantum a.parameters 2) (to_z-of_z w64 f.third (search rules)))
 
 pub returns-in-Refused : goal.returns-in-Refused
 returns-in-Refused c =
-    let within : admitted c.args.quantum c.args.parameters ≡ true = sym c.admits.ensures ∙ not-false _ c.if-not-admits.false in
+    let within : admitted c.args.quantum c.args.parameters ≡ true = sym c.admits.ensures ∙ c.if-not-admits.false in
     let a = c.args in
-    is_refused a.quantum a.parameters a.found c.in-Refused.r c.handed_on.result (within) c.in-Refused.is c.handed_on.ensures
+    is_refused a.quantum a.parameters a.found c.in-Refused.r c.handed_on.result within c.in-Refused.is c.handed_on.ensures
