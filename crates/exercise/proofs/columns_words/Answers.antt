@@ -51,7 +51,7 @@ pub offset_bounds-lons-i : goal.offset_bounds-lons-i
 offset_bounds-lons-i c =
     let verdict : Verdict = c.judge_call-verdict.result in
     let below : c.loop-i.i < length c.args.lons.now = omega (arith, c.loop-i-test.true, c.counted-count.ensures, counted_most verdict (length c.args.lons.now)) in
-    omega (arith, below, c.good)
+    omega (arith, below, c.well_formed)
 
 pub bounds-lons-i : goal.bounds-lons-i
 bounds-lons-i c =
@@ -63,7 +63,7 @@ pub offset_bounds-lats-i : goal.offset_bounds-lats-i
 offset_bounds-lats-i c =
     let verdict : Verdict = c.judge_call-verdict.result in
     let below : c.loop-i.i < length c.args.lons.now = omega (arith, c.loop-i-test.true, c.counted-count.ensures, counted_most verdict (length c.args.lons.now)) in
-    omega (arith, below, c.good)
+    omega (arith, below, c.well_formed)
 
 pub bounds-lats-i : goal.bounds-lats-i
 bounds-lats-i c =

@@ -34,18 +34,18 @@ rank_rows-count-requires c =
     let ranked : c.grid_count-n.result ≤ length c.args.ranks.now = omega (arith, few, c.requires.2.room.room.ranks_room) in
     let room : g.grids * 4 ≤ length c.args.sides.now = omega (arith, (accepted_head g c.requires.0).grids, c.requires.2.room.room.sides_room) in
     let q = c in let n = few in
-    let e = length-take-le q.grid-count.result c.args.ranks.now (ranked) in (
+    let e = length-take-le q.grid_count-n.result c.args.ranks.now (ranked) in (
       omega arith,
-      subst (SidesTurnable c.args.sides.now) (sym (e ∙ q.grid-count.ensures)) (flat_turnable (g) c.requires.0 c.args.sides.now c.args.ranks.now c.requires.2.flat.sided (room)),
+      subst (SidesTurnable c.args.sides.now) (sym (e ∙ q.grid_count-n.ensures)) (flat_turnable (g) c.requires.0 c.args.sides.now c.args.ranks.now c.requires.2.flat.sided (room)),
       record { rows_room = omega (arith, rows_length c.args.tables.now c.requires.1); owners_room = omega arith; shifts_room = omega arith },
     )
 
 pub bounds-tables-1600 : goal.bounds-tables-1600
 bounds-tables-1600 c =
-    let r : List ℕ = c.rank_rows-count.new.1.1.0 in
+    let r : List ℕ = c.rank_rows-count.new.rows in
     let t : List ℕ = c.args.tables.now in
-    let o : List ℕ = c.rank_rows-count.new.1.1.1.0 in
-    let v : List ℕ = c.rank_rows-count.new.1.1.1.1.0 in
+    let o : List ℕ = c.rank_rows-count.new.owners in
+    let v : List ℕ = c.rank_rows-count.new.shifts in
     let er : length r ≡ owners_from = c.rank_rows-count.ensures.1.rows_long ∙ rows_length t c.requires.1 in
     let eo : length o ≡ rows_most = c.rank_rows-count.ensures.1.owners_long in
     let ev : length v ≡ rows_most = c.rank_rows-count.ensures.1.shifts_long in
@@ -61,10 +61,10 @@ bounds-tables-1600 c =
 
 pub shape_of-tables : goal.shape_of-tables
 shape_of-tables c =
-    let r : List ℕ = c.rank_rows-count.new.1.1.0 in
+    let r : List ℕ = c.rank_rows-count.new.rows in
     let t : List ℕ = c.args.tables.now in
-    let o : List ℕ = c.rank_rows-count.new.1.1.1.0 in
-    let v : List ℕ = c.rank_rows-count.new.1.1.1.1.0 in
+    let o : List ℕ = c.rank_rows-count.new.owners in
+    let v : List ℕ = c.rank_rows-count.new.shifts in
     let er : length r ≡ owners_from = c.rank_rows-count.ensures.1.rows_long ∙ rows_length t c.requires.1 in
     let eo : length o ≡ rows_most = c.rank_rows-count.ensures.1.owners_long in
     let ev : length v ≡ rows_most = c.rank_rows-count.ensures.1.shifts_long in
@@ -81,10 +81,10 @@ shape_of-tables c =
 
 pub returns : goal.returns
 returns c =
-    let r : List ℕ = c.rank_rows-count.new.1.1.0 in
+    let r : List ℕ = c.rank_rows-count.new.rows in
     let t : List ℕ = c.args.tables.now in
-    let o : List ℕ = c.rank_rows-count.new.1.1.1.0 in
-    let v : List ℕ = c.rank_rows-count.new.1.1.1.1.0 in
+    let o : List ℕ = c.rank_rows-count.new.owners in
+    let v : List ℕ = c.rank_rows-count.new.shifts in
     let er : length r ≡ owners_from = c.rank_rows-count.ensures.1.rows_long ∙ rows_length t c.requires.1 in
     let eo : length o ≡ rows_most = c.rank_rows-count.ensures.1.owners_long in
     let ev : length v ≡ rows_most = c.rank_rows-count.ensures.1.shifts_long in

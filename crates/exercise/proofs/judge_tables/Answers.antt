@@ -21,7 +21,7 @@ judge_rest-requires c =
     let g : Group = group_of_words c.args.words.now in
     let accepted : judged g ≡ Accepted = sym c.judge_into-verdict.ensures.0 ∙ c.in-Accepted.is in
     let t : List ℕ = c.args.tables.now in
-    let frames : List ℕ = c.judge_into-verdict.last.1.1.1.0 in
+    let frames : List ℕ = c.judge_into-verdict.new.frames in
     let ef : length frames ≡ grids_most * 7 = c.judge_into-verdict.kept.1.1.1.0 ∙ frames_length t c.requires in
     let j = c.judge_into-verdict in (
       accepted,

@@ -3,7 +3,6 @@ use Prim.Native.Nat.{◌≤◌}
 use mathlib.Core.Path.{◌≡◌, sym, ap, ◌∙◌, subst}
 use mathlib.Core.Bool.{true}
 use native.Mathlib.Omega.{arith}
-use borrow.Author.Tests.{not-true, not-false}
 use lib.IntN.{ℤ, nat_abs}
 use lib.ListN.{length}
 use mir.Syntax.{w64}
@@ -33,7 +32,7 @@ returns-then-not-point_fits c =
     let a = c.args in
     sym
     (looked_accepted (g) a.nodes.now a.point a.scale.day c.requires.0.accepted
-    ∙ looked_6 (g) a.nodes.now a.point a.scale.day (sym c.point_fits.ensures ∙ not-true _ c.if-not-point_fits.true))
+    ∙ looked_6 (g) a.nodes.now a.point a.scale.day (sym c.point_fits.ensures ∙ c.if-not-point_fits.true))
 
 pub returns-then-not-day_fits : goal.returns-then-not-day_fits
 returns-then-not-day_fits c =
@@ -42,8 +41,8 @@ returns-then-not-day_fits c =
     sym
     (looked_accepted (g) a.nodes.now a.point a.scale.day c.requires.0.accepted
     ∙ looked_9 (g) a.nodes.now a.point a.scale.day
-    (sym c.point_fits.ensures ∙ not-false _ c.if-not-point_fits.false)
-    (day_told {t = a.scale.day} (record { sfits = c.struct_told-1.given.0.1 }) c.day_fits.ensures ∙ not-true _ c.if-not-day_fits.true))
+    (sym c.point_fits.ensures ∙ c.if-not-point_fits.false)
+    (day_told {t = a.scale.day} (search rules) c.day_fits.ensures ∙ c.if-not-day_fits.true))
 
 pub bounds-tables-1600 : goal.bounds-tables-1600
 bounds-tables-1600 c = omega (arith, c.requires.0.tabled.long)
@@ -54,17 +53,17 @@ slice_bounds-look_ranked-end c = sym (rows_length c.args.tables.now c.requires.0
 pub look_ranked-requires : goal.look_ranked-requires
 look_ranked-requires c =
     let g : Group = group_of_words c.args.words.now in
-    let day_bits : SFits w64 c.args.scale.day = record { sfits = c.struct_told-1.given.0.1 } in
-    let day : day_fits c.args.scale.day ≡ true = day_told day_bits c.day_fits.ensures ∙ not-false _ c.if-not-day_fits.false in
+    let day_bits : SFits w64 c.args.scale.day = search rules in
+    let day : day_fits c.args.scale.day ≡ true = day_told day_bits c.day_fits.ensures ∙ c.if-not-day_fits.false in
     let ready : LookupReady (g) (length c.args.nodes.now) c.args.point c.args.scale.day =
     record {
       accepted = c.requires.0.accepted;
-      point = sym c.point_fits.ensures ∙ not-false _ c.if-not-point_fits.false;
+      point = sym c.point_fits.ensures ∙ c.if-not-point_fits.false;
       day = day;
       ends = c.requires.0.ends;
     } in
     let factor : to_z w64 (of_z w64 c.args.scale.factor) ≡ factor_of (g).function (g).functions c.args.scale.day =
-    to_z-of_z w64 c.args.scale.factor (record { sfits = c.struct_told-2-1.given.1.0.1 })
+    to_z-of_z w64 c.args.scale.factor (search rules)
     ∙ ap (λ (s : Scale). s.factor) (c.requires.1 ∙ scale_in (g) c.args.scale.day day) in
     let a = c.args in let t = c.requires.0.tabled in let l = a.tables.now in let e = c.requires.0.accepted in let m = few_rows (g) l e t in (
       rw c.parameter_count.ensures
@@ -78,17 +77,17 @@ look_ranked-requires c =
 pub returns : goal.returns
 returns c =
     let g : Group = group_of_words c.args.words.now in
-    let day_bits : SFits w64 c.args.scale.day = record { sfits = c.struct_told-1.given.0.1 } in
-    let day : day_fits c.args.scale.day ≡ true = day_told day_bits c.day_fits.ensures ∙ not-false _ c.if-not-day_fits.false in
+    let day_bits : SFits w64 c.args.scale.day = search rules in
+    let day : day_fits c.args.scale.day ≡ true = day_told day_bits c.day_fits.ensures ∙ c.if-not-day_fits.false in
     let ready : LookupReady (g) (length c.args.nodes.now) c.args.point c.args.scale.day =
     record {
       accepted = c.requires.0.accepted;
-      point = sym c.point_fits.ensures ∙ not-false _ c.if-not-point_fits.false;
+      point = sym c.point_fits.ensures ∙ c.if-not-point_fits.false;
       day = day;
       ends = c.requires.0.ends;
     } in
     let factor : to_z w64 (of_z w64 c.args.scale.factor) ≡ factor_of (g).function (g).functions c.args.scale.day =
-    to_z-of_z w64 c.args.scale.factor (record { sfits = c.struct_told-2-1.given.1.0.1 })
+    to_z-of_z w64 c.args.scale.factor (search rules)
     ∙ ap (λ (s : Scale). s.factor) (c.requires.1 ∙ scale_in (g) c.args.scale.day day) in
     let a = c.args in let t = c.requires.0.tabled in let l = a.tables.now in
     let x = c.lon_from_least-x.result in let y = c.lat_from_least-y.result in

@@ -12,8 +12,8 @@ pub returns : goal.returns
 returns c =
     let a = c.args in
     let t = c.struct_told-1.given in
-    let number = told c.as_stored.type-inv c.as_stored.ensures in
-    let place = told c.as_stored-2.type-inv c.as_stored-2.ensures in
+    let number = told c.as_stored.type_inv c.as_stored.ensures in
+    let place = told c.as_stored-2.type_inv c.as_stored-2.ensures in
     let grid = told t.1.1.0.1 refl in
     let first = told t.1.1.1.0.1 refl in
     let second = told t.1.1.1.1.0.1 refl in
