@@ -3,7 +3,7 @@ use Prim.Native.Nat.{ℕ}
 use mathlib.Core.Path.{refl}
 use mathlib.Core.List.{List, [], ◌∷◌}
 use seplogic.Ra.Ura.{Ura}
-use seplogic.Ra.TreeShare.{full_share}
+use base.Fraction.{full_share}
 use mir.Val.{Val}
 use base.Logic.{ent}
 use base.Fml.{fsep}
@@ -26,7 +26,7 @@ module _ {M : Type 1} {𝓤 : Ura M} (𝓛 : Logic 𝓤) (S : RattleType) (l : �
   unfolding part_of
   lies_in mk h us is =
       qed 𝓛 (‵ (cell_at full_share S.mir us l 0) ∷ []) ∵ owned ! S (Is S) mk h us is $ move ! (1 ∷ 0 ∷ []) $ fjoin ! $
-      fpack ! (List Val) (λ vs. fsep (cell_at full_share S.mir vs l 0) (S.own h vs)) us $ done !
+      fpack ! (List Val) (λ vs. fsep (cell_at full_share S.mir vs l 0) (S.own_val h vs)) us $ done !
 
   pub lies_out : (vals : S.Denot → List Val) → Tells S (Is S) vals → (h : S.Denot)
       → ent 𝓤 (sem 𝓛 (part_at S full_share h l 0)) (sem 𝓛 (cell_at full_share S.mir (vals h) l 0))

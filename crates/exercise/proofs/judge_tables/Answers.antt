@@ -22,14 +22,14 @@ judge_rest-requires c =
     let accepted : judged g ≡ Accepted = sym c.judge_into-verdict.ensures.0 ∙ c.in-Accepted.is in
     let t : List ℕ = c.args.tables.now in
     let frames : List ℕ = c.judge_into-verdict.new.frames in
-    let ef : length frames ≡ grids_most * 7 = c.judge_into-verdict.kept.1.1.1.0 ∙ frames_length t c.requires in
+    let ef : length frames ≡ grids_most * 7 = c.judge_into-verdict.auto.frames ∙ frames_length t c.requires in
     let j = c.judge_into-verdict in (
       accepted,
       framed_length (t) (frames) c.requires (ef),
       record {
         flat = subst (Flat (g) (g).grids _ _) (sym (framed_frames (t) (frames) c.requires (ef))) (j.ensures.1 c.in-Accepted.is);
         room = record {
-          room = record { few = omega arith; sides_room = omega (arith, j.kept.1.0); ranks_room = omega (arith, j.kept.1.1.0) };
+          room = record { few = omega arith; sides_room = omega (arith, j.auto.sides); ranks_room = omega (arith, j.auto.ranks) };
           frames_room = omega (arith, ap length (framed_frames (t) (frames) c.requires (ef)), ef);
         };
       },
