@@ -1,5 +1,5 @@
 -- `degrees`: one division.
-use Rattle.std.proofs.Common.{pos, ap, ◌∙◌, w64, rules}
+use Rattle.std.proofs.Common.{pos, ap, ◌∙◌, w64}
 use lib.Ieee.{Float, binary64, of_int, of_bits, div}
 use mir.ValLaws.{to_z-of_z}
 use Rattle.group.specs.Numbers.{mas_in_degree}

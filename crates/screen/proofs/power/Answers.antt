@@ -1,5 +1,5 @@
 -- `power`: the shift is a power of two, which a float counts without a gap.
-use Rattle.std.proofs.Common.{ℕ, ◌^◌, ◌≤◌, T, pos, sym, ap, subst, arith, le→leb, pow_mono, rules}
+use Rattle.std.proofs.Common.{ℕ, ◌^◌, ◌≤◌, T, pos, sym, ap, subst, arith, le→leb, pow_mono}
 use lib.Ieee.{binary64, of_bits, of_int, in_float, div}
 use Rattle.numbers.proofs.Machine.{one_shifted}
 use Rattle.screen.specs.Screen.{neg_power}

@@ -1,5 +1,5 @@
 -- `screen_record`: the record of the screen answer.
-use Rattle.std.proofs.Common.{ap, ◌∙◌, rules}
+use Rattle.std.proofs.Common.{ap, ◌∙◌}
 use Rattle.screen.specs.Screen.{record_of}
 use Rattle.screen.proofs.screen_record.Goals as goal
 

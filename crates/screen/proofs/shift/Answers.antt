@@ -1,5 +1,5 @@
 -- `shift`: one product.
-use Rattle.std.proofs.Common.{ap, ◌∙◌, w64, rules}
+use Rattle.std.proofs.Common.{ap, ◌∙◌, w64}
 use lib.Ieee.{Float, binary64, of_int, mul}
 use mir.ValLaws.{to_z-of_z}
 use Rattle.screen.specs.Screen.{shift_of}

@@ -1,5 +1,5 @@
 -- `shown_shift`: the shift, or +0.
-use Rattle.std.proofs.Common.{ap, ◌∙◌, w64, rules, le-ltb, lt-ltb}
+use Rattle.std.proofs.Common.{ap, ◌∙◌, w64, le-ltb, lt-ltb}
 use lib.Ieee.{of_bits}
 use mir.ValLaws.{to_z-of_z}
 use Rattle.screen.specs.Screen.{shift_of, shown_shift}
