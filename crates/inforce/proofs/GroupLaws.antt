@@ -29,7 +29,7 @@ use Rattle.coverage.specs.InForce.{in_force_by}
 use Rattle.coverage.specs.Demand3.{Inside, Ordered, IsFirstTaken, EntriesInForce}
 use Rattle.coverage.specs.Listing.{listing_of}
 use Rattle.coverage.proofs.EntryLaws.{filled_used, filled_length}
-use Rattle.coverage.proofs.Demand3.{first_taken, first_found, first_alike, in_force_lem, in_force_alike}
+use Rattle.coverage.proofs.Demand3.{first_taken_lem, first_found, first_alike, in_force_lem, in_force_alike}
 use Rattle.inforce.specs.declared.Area.{Area}
 use Rattle.inforce.specs.Area.{area_fits, InArea, lon_at, lat_at, area_from_least}
 use Rattle.inforce.specs.Flat.{FlatSound, flat_chosen, flat_listing, flat_hole}
@@ -119,7 +119,7 @@ module _ (g : Group) (a : Area) (f : area_fits a ≡ true) where
 
   -- the hole is the first coordinate at which no grid is chosen, and there is one where such a coordinate is
   pub hole_first : (x y : ℕ) → hole_in g a ≡ At x y → IsFirstChosen g a 0 (lon_at x) (lat_at y)
-  hole_first x y e = first_chosen_lem 0 x y (first_taken (choice_at g) (area_from_least a) 0 x y e)
+  hole_first x y e = first_chosen_lem 0 x y (first_taken_lem (choice_at g) (area_from_least a) 0 x y e)
 
   pub hole_found : (x y : ℤ) → InArea a x y → chosen_in g x y ≡ 0 → (u : ℕ) × (v : ℕ) × (hole_in g a ≡ At u v)
   hole_found x y i c =
@@ -127,7 +127,7 @@ module _ (g : Group) (a : Area) (f : area_fits a ≡ true) where
 
   pub narrow_hole : NarrowSpot (hole_in g a)
   narrow_hole x y e =
-      let m = inside_most a f x y (first_taken (choice_at g) (area_from_least a) 0 x y e).inside in
+      let m = inside_most a f x y (first_taken_lem (choice_at g) (area_from_least a) 0 x y e).inside in
       (omega (arith, m.0), omega (arith, m.1))
 
 -- what is known of the list

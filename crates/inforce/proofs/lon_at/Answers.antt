@@ -4,11 +4,10 @@ use mir.Val.{SFits}
 use mir.Facts.{to_z-of_z}
 use Rattle.numbers.proofs.Diff.{less_of}
 use Rattle.group.specs.Numbers.{lon_zero}
-use borrow.Author.Rules.{rules}
 use Rattle.inforce.proofs.lon_at.Goals as goal
 
 pub returns : goal.returns
 returns c =
     let r = c.lowered in
-    let fits : SFits w64 r.result = record { sfits = r.type-inv } in
+    let fits : SFits w64 r.result = record { sfits = r.type_inv } in
     rw (to_z-of_z fits) (less_of r.result c.args.x lon_zero r.ensures)
