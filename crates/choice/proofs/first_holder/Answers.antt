@@ -1,6 +1,5 @@
 -- `choice::first_holder` meets its contract, by the loop of FirstLaws.
 use mathlib.Core.Path.{sym, ◌∙◌}
-use native.Mathlib.Omega.{arith}
 use Rattle.numbers.specs.Lists.{at}
 use Rattle.numbers.proofs.FirstLaws.{passed_none, passed_more, passed_end, passed_found}
 use Rattle.choice.specs.Rect.{rect_holds}
@@ -10,21 +9,6 @@ use Rattle.choice.proofs.first_holder.Goals as goal
 pub loop-i-init : goal.loop-i-init
 loop-i-init c = passed_none _ _
 
-pub rect_holds-requires : goal.rect_holds-requires
-rect_holds-requires c = omega arith
-
-pub offset_bounds-owners-i : goal.offset_bounds-owners-i
-offset_bounds-owners-i c = omega arith
-
-pub bounds-owners-i : goal.bounds-owners-i
-bounds-owners-i c = omega arith
-
-pub offset_bounds-shifts-i : goal.offset_bounds-shifts-i
-offset_bounds-shifts-i c = omega arith
-
-pub bounds-shifts-i : goal.bounds-shifts-i
-bounds-shifts-i c = omega arith
-
 pub returns-then-rect_holds : goal.returns-then-rect_holds
 returns-then-rect_holds c =
     let a = c.args in let l = c.loop-i in
@@ -32,12 +16,6 @@ returns-then-rect_holds c =
     held_at (λ k. rect_holds a.sides.now k a.x a.y) (at a.owners.now) a.rows (at a.shifts.now) l.i
     (passed_found (λ k. rect_holds a.sides.now k a.x a.y) a.rows l.i l.invariant t (sym c.rect_holds.ensures ∙ c.if-rect_holds.true))
     t
-
-pub overflow_add-i : goal.overflow_add-i
-overflow_add-i c = omega arith
-
-pub loop-i-smaller : goal.loop-i-smaller
-loop-i-smaller c = omega arith
 
 pub loop-i-preserved : goal.loop-i-preserved
 loop-i-preserved c =

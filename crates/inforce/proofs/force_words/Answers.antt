@@ -11,7 +11,7 @@ list_in-requires c =
     record {
       accepted = sym j.ensures.0 ∙ v;
       sided = j.ensures.1 v;
-      room = record { few = omega arith; sides_room = omega (arith, j.auto.1.1.0); ranks_room = omega (arith, j.auto.1.1.1.0) };
+      room = record { few = omega arith; sides_room = omega (arith, j.auto.sides); ranks_room = omega (arith, j.auto.ranks) };
     }
 
 pub returns-in-Refused : goal.returns-in-Refused

@@ -12,6 +12,6 @@ use Rattle.inforce.proofs.grids_in_force.Goals as goal
 pub returns : goal.returns
 unfolding in_force_of
 returns c =
-    let s = c in let a = c.args in
+    let a = c.args in
     c.force_words.ensures ∙ ap (λ (ns : List ℤ). in_force_of (group_of_words ns) a.area) c.numbers_of-words.ensures
     ∙ area_stored a.group (machine_shaped a.group _ c.well_formed.0) a.area refused_by (λ g. accepted_list (in_force_in g a.area))

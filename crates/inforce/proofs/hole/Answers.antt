@@ -12,6 +12,6 @@ use Rattle.inforce.proofs.hole.Goals as goal
 pub returns : goal.returns
 unfolding hole_of
 returns c =
-    let s = c in let a = c.args in
+    let a = c.args in
     c.hole_words.ensures ∙ ap (λ (ns : List ℤ). hole_of (group_of_words ns) a.area) c.numbers_of-words.ensures
     ∙ area_stored a.group (machine_shaped a.group _ c.well_formed.0) a.area refused_hole (λ g. accepted_hole (hole_in g a.area))

@@ -13,9 +13,9 @@ use Rattle.inforce.proofs.hole_in.Goals as goal
 pub hole_flat-s-requires : goal.hole_flat-s-requires
 hole_flat-s-requires c =
     let g : Group = group_of_words c.args.words.now in
-    let s = c in let a = c.args in
+    let a = c.args in
     let j = ready_judged c.requires in (
-      subst (FlatSound a.sides.now a.ranks.now) (sym c.grid_count-n.ensures) (group_flat (g) j.0 a.sides.now a.ranks.now c.requires.sided c.requires.room),
+      subst (FlatSound a.sides.now a.ranks.now) (sym c.grid_count-n.ensures) (group_flat g j.0 a.sides.now a.ranks.now c.requires.sided c.requires.room),
       subst Admitted (sym c.area_from_least.ensures) (area_admitted a.area j.1),
     )
 

@@ -1,15 +1,22 @@
 -- `region::first_free` meets its contract. The loop's invariant: rectangles hold all of the rows from south up to below y.
 use Prim.Native.Nat.{ℕ, ◌≤◌}
+use Prim.Native.Nat.{ℕ, ◌≤◌, ◌<◌}
 use mathlib.Core.Path.{◌≡◌, sym, subst}
-use mathlib.Core.Bool.{false}
+use mathlib.Core.Bool.{Bool, false}
 use native.Mathlib.Omega.{arith}
 use native.Mathlib.Decide.{dec_lt}
 use Rattle.region.specs.Free.{free}
 use Rattle.region.specs.Rows.{RowAnswer}
 use Rattle.region.specs.declared.Row.{Row}
 use Rattle.region.proofs.SearchLaws.{first_at, first_none}
-use borrow.Author.Rules.{rules}
 use Rattle.region.proofs.first_free.Goals as goal
+
+-- the rows below y, and those from y to top
+shut_on : {p : ℕ → ℕ → Bool} {west east south y top : ℕ}
+    → ((k j : ℕ) → west ≤ k → k ≤ east → south ≤ j → j < y → p k j ≡ false)
+    → ((k j : ℕ) → west ≤ k → k ≤ east → y ≤ j → j ≤ top → p k j ≡ false)
+    → (k j : ℕ) → west ≤ k → k ≤ east → south ≤ j → j ≤ top → p k j ≡ false
+shut_on {y = y} f g k j a b s t = elim (dec_lt j y) [ yes lt ↦ f k j a b s lt | no ge ↦ g k j a b (omega arith) t ]
 
 pub returns-then-east-west : goal.returns-then-east-west
 returns-then-east-west c =
@@ -17,54 +24,32 @@ returns-then-east-west c =
     sym (first_none (free a.rs.now) a.west a.east a.south a.north (λ i j p q r o. absurd (omega arith)))
 
 pub loop-y-init : goal.loop-y-init
-loop-y-init c = (search rules, λ k j p q r s. absurd (omega arith))
+loop-y-init c = (omega arith, λ k j p q r s. absurd (omega arith))
 
 pub returns-in-Open : goal.returns-in-Open
 returns-in-Open c =
-    let a = c.args in
-    let l = c.loop-y in
+    let a = c.args in let l = c.loop-y in
     let s = subst (λ (r : Row). RowAnswer a.rs.now l.y a.west a.east a.north r) c.in-Open.is c.first_in_row-row.ensures in
     sym (first_at (free a.rs.now) a.west a.east a.south a.north
     (record { west≤ = s.0; ≤east = s.1; south≤ = l.invariant.0; ≤north = c.loop-y-test.true; here = s.3; below = l.invariant.1; left = s.2 }))
 
 pub returns-then-north-top : goal.returns-then-north-top
 returns-then-north-top c =
-    let shut : let a = c.args in
-    let l = c.loop-y in
-    let top = c.in-Shut.top in
-    (l.y ≤ top) × ((k j : ℕ) → a.west ≤ k → k ≤ a.east → a.south ≤ j → j ≤ top → free a.rs.now k j ≡ false) =
-    let a = c.args in
-    let l = c.loop-y in
+    let a = c.args in let l = c.loop-y in
     let s = subst (λ (r : Row). RowAnswer a.rs.now l.y a.west a.east a.north r) c.in-Shut.is c.first_in_row-row.ensures in
-    (s.0, λ k j p q r o. elim (dec_lt j l.y) [ yes lt ↦ l.invariant.1 k j p q r lt | no ge ↦ s.1 k j p q (omega arith) o ]) in
-    let a = c.args in
-    let s = shut in
-    sym (first_none (free a.rs.now) a.west a.east a.south a.north (λ i j p q r o. s.1 i j p q r (omega arith)))
+    sym (first_none (free a.rs.now) a.west a.east a.south a.north (λ i j p q r o. shut_on l.invariant.1 s.1 i j p q r (omega arith)))
 
 pub loop-y-smaller : goal.loop-y-smaller
 loop-y-smaller c =
-    let shut : let a = c.args in
-    let l = c.loop-y in
-    let top = c.in-Shut.top in
-    (l.y ≤ top) × ((k j : ℕ) → a.west ≤ k → k ≤ a.east → a.south ≤ j → j ≤ top → free a.rs.now k j ≡ false) =
-    let a = c.args in
-    let l = c.loop-y in
+    let a = c.args in let l = c.loop-y in
     let s = subst (λ (r : Row). RowAnswer a.rs.now l.y a.west a.east a.north r) c.in-Shut.is c.first_in_row-row.ensures in
-    (s.0, λ k j p q r o. elim (dec_lt j l.y) [ yes lt ↦ l.invariant.1 k j p q r lt | no ge ↦ s.1 k j p q (omega arith) o ]) in
-    omega (arith, (shut).0)
+    omega (arith, s.0)
 
 pub loop-y-preserved : goal.loop-y-preserved
 loop-y-preserved c =
-    let shut : let a = c.args in
-    let l = c.loop-y in
-    let top = c.in-Shut.top in
-    (l.y ≤ top) × ((k j : ℕ) → a.west ≤ k → k ≤ a.east → a.south ≤ j → j ≤ top → free a.rs.now k j ≡ false) =
-    let a = c.args in
-    let l = c.loop-y in
+    let a = c.args in let l = c.loop-y in
     let s = subst (λ (r : Row). RowAnswer a.rs.now l.y a.west a.east a.north r) c.in-Shut.is c.first_in_row-row.ensures in
-    (s.0, λ k j p q r o. elim (dec_lt j l.y) [ yes lt ↦ l.invariant.1 k j p q r lt | no ge ↦ s.1 k j p q (omega arith) o ]) in
-    let s = shut in
-    (omega (arith, s.0), λ k j p q r o. s.1 k j p q r (omega arith))
+    (omega (arith, s.0), λ k j p q r o. shut_on l.invariant.1 s.1 k j p q r (omega arith))
 
 pub returns : goal.returns
 returns c =

@@ -10,5 +10,4 @@ invariant-loop-y l =
     (l.south ≤ l.y) × ((k j : ℕ) → l.west ≤ k → k ≤ l.east → l.south ≤ j → j < l.y → free l.rs k j ≡ false)
 
 abbrev pub decreases-loop-y : goal.decreases-loop-y
-decreases-loop-y l =
-    l.north + 1 - l.y
+decreases-loop-y l = l.north + 1 - l.y

@@ -1,21 +1,15 @@
 -- `region::first_in_row` meets its contract. The loop's invariant: rectangles hold all from west up to below x, in each row from y to top,
 -- and of those walked through none holds x.
-use Prim.Native.Nat.{◌≤◌, ◌+◌}
 use mathlib.Core.Path.{refl, sym, ◌∙◌}
 use mathlib.Core.Bool.{false}
 use native.Mathlib.Omega.{arith}
-use Rattle.choice.specs.Rect.{east_of}
-use Rattle.region.proofs.FreeLaws.{Shut-to, free_is, shut_more, walked_none, walked_by, walked_ahead, walked_on, less_left}
+use Rattle.region.proofs.FreeLaws.{free_is, shut_more, walked_none, walked_by, walked_ahead, walked_on, less_left}
 use Rattle.region.proofs.first_in_row.Goals as goal
 
 pub loop-i-init : goal.loop-i-init
 loop-i-init c =
-    let s = c in
     let a = c.args in
     (refl, omega arith, omega arith, c.requires.1, c.requires.0, (λ k j p q. absurd (omega arith)), walked_none a.rs.now a.west a.y false)
-
-pub loop-i-smaller-then-x-rs : goal.loop-i-smaller-then-x-rs
-loop-i-smaller-then-x-rs c = omega arith
 
 pub loop-i-preserved-then-x-rs : goal.loop-i-preserved-then-x-rs
 loop-i-preserved-then-x-rs c =
@@ -26,87 +20,43 @@ loop-i-preserved-then-x-rs c =
 
 pub returns-then-east-to : goal.returns-then-east-to
 returns-then-east-to c =
-    let found : let a = c.args in
-    let l = c.loop-i in
-    let e = east_of a.rs.now l.i in
-    let m = c.smaller-top.result in
-    (l.x ≤ e) × (a.y ≤ m) × Shut-to a.rs.now a.west a.y (e + 1) m =
-    let a = c.args in
-    let l = c.loop-i in
+    let a = c.args in let l = c.loop-i in
+    let s =
     shut_more a.rs.now l.i l.x a.y a.west l.top c.smaller-top.result (omega (arith, l.invariant.0))
     (sym c.reaches-reached.ensures ∙ c.if-reached.true) (omega (arith, c.if-x-rs.false)) c.smaller-top.ensures l.invariant.4 l.invariant.5 in
-    let s = found in
     (s.1, λ k j p q r o. s.2 k j p (omega arith) r o)
-
-pub overflow_add-x : goal.overflow_add-x
-overflow_add-x c = omega arith
 
 pub loop-i-smaller-then-ahead : goal.loop-i-smaller-then-ahead
 loop-i-smaller-then-ahead c =
-    let found : let a = c.args in
-    let l = c.loop-i in
-    let e = east_of a.rs.now l.i in
-    let m = c.smaller-top.result in
-    (l.x ≤ e) × (a.y ≤ m) × Shut-to a.rs.now a.west a.y (e + 1) m =
-    let a = c.args in
-    let l = c.loop-i in
+    let a = c.args in let l = c.loop-i in
+    let s =
     shut_more a.rs.now l.i l.x a.y a.west l.top c.smaller-top.result (omega (arith, l.invariant.0))
     (sym c.reaches-reached.ensures ∙ c.if-reached.true) (omega (arith, c.if-x-rs.false)) c.smaller-top.ensures l.invariant.4 l.invariant.5 in
-    let l = c.loop-i in
-    let a = c.args in
-    let s = found in
     less_left _ _ _ _ _ (omega (arith, s.0, l.invariant.3)) (omega arith)
 
 pub loop-i-preserved-then-ahead : goal.loop-i-preserved-then-ahead
 loop-i-preserved-then-ahead c =
-    let found : let a = c.args in
-    let l = c.loop-i in
-    let e = east_of a.rs.now l.i in
-    let m = c.smaller-top.result in
-    (l.x ≤ e) × (a.y ≤ m) × Shut-to a.rs.now a.west a.y (e + 1) m =
-    let a = c.args in
-    let l = c.loop-i in
+    let a = c.args in let l = c.loop-i in
+    let s =
     shut_more a.rs.now l.i l.x a.y a.west l.top c.smaller-top.result (omega (arith, l.invariant.0))
     (sym c.reaches-reached.ensures ∙ c.if-reached.true) (omega (arith, c.if-x-rs.false)) c.smaller-top.ensures l.invariant.4 l.invariant.5 in
-    let l = c.loop-i in
-    let a = c.args in
-    let s = found in
     (l.invariant.0, omega arith, omega (arith, s.0, l.invariant.2), omega arith, s.1, s.2, walked_none a.rs.now _ a.y false)
 
 pub loop-i-smaller-else-ahead : goal.loop-i-smaller-else-ahead
 loop-i-smaller-else-ahead c =
-    let found : let a = c.args in
-    let l = c.loop-i in
-    let e = east_of a.rs.now l.i in
-    let m = c.smaller-top.result in
-    (l.x ≤ e) × (a.y ≤ m) × Shut-to a.rs.now a.west a.y (e + 1) m =
-    let a = c.args in
-    let l = c.loop-i in
+    let a = c.args in let l = c.loop-i in
+    let s =
     shut_more a.rs.now l.i l.x a.y a.west l.top c.smaller-top.result (omega (arith, l.invariant.0))
     (sym c.reaches-reached.ensures ∙ c.if-reached.true) (omega (arith, c.if-x-rs.false)) c.smaller-top.ensures l.invariant.4 l.invariant.5 in
-    let l = c.loop-i in
-    let a = c.args in
-    let s = found in
     less_left _ _ _ _ _ (omega (arith, s.0, l.invariant.3)) (omega arith)
 
 pub loop-i-preserved-else-ahead : goal.loop-i-preserved-else-ahead
 loop-i-preserved-else-ahead c =
-    let found : let a = c.args in
-    let l = c.loop-i in
-    let e = east_of a.rs.now l.i in
-    let m = c.smaller-top.result in
-    (l.x ≤ e) × (a.y ≤ m) × Shut-to a.rs.now a.west a.y (e + 1) m =
-    let a = c.args in
-    let l = c.loop-i in
+    let a = c.args in let l = c.loop-i in
+    let s =
     shut_more a.rs.now l.i l.x a.y a.west l.top c.smaller-top.result (omega (arith, l.invariant.0))
     (sym c.reaches-reached.ensures ∙ c.if-reached.true) (omega (arith, c.if-x-rs.false)) c.smaller-top.ensures l.invariant.4 l.invariant.5 in
-    let l = c.loop-i in
-    let a = c.args in
-    let s = found in
     (l.invariant.0, omega arith, omega (arith, s.0, l.invariant.2), omega arith, s.1, s.2, walked_on a.rs.now l.x a.y l.i l.ahead l.invariant.6 c.if-ahead.false s.0)
-
-pub loop-i-smaller : goal.loop-i-smaller
-loop-i-smaller c = omega arith
 
 pub loop-i-preserved : goal.loop-i-preserved
 loop-i-preserved c =
