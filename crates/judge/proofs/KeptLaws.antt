@@ -21,7 +21,7 @@ use Rattle.group.specs.Record.{grid_at}
 use Rattle.group.proofs.BlankLaws.{blank_grid_lem}
 use Rattle.judge.specs.Judge.{unused_grid, judged}
 use Rattle.judge.proofs.Accepted.{accepted}
-use Rattle.judge.proofs.LimitLaws.{name_good, ni_between, nj_between, rank_between, start_most_lem, quantum_most_lem, parameters_between, functions_most_lem, grids_between}
+use Rattle.judge.proofs.LimitLaws.{name_good, ni_between, nj_between, rank_between, start_most, quantum_most_lem, parameters_between, functions_most_lem, grids_between}
 use Rattle.abi.specs.Abi.{KeptName, KeptGrid, KeptHead, KeptGroup}
 
 letter : (b : ℕ) → name_byte b ≡ true → b < 127
@@ -66,7 +66,7 @@ fitting_kept d b e =
       ni = omega (arith, ni_between d e);
       nj = omega (arith, nj_between d e);
       rank = omega (arith, rank_between d e);
-      start = omega (arith, start_most_lem d e);
+      start = omega (arith, start_most d e);
     }
 
 -- the unused grid, which is blank

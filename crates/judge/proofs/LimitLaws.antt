@@ -16,7 +16,7 @@ use Rattle.numbers.proofs.OrderLaws.{within_size}
 use Rattle.group.specs.declared.Name.{Name}
 use Rattle.group.specs.declared.Grid.{Grid}
 use Rattle.group.specs.declared.Group.{Group}
-use Rattle.group.specs.Numbers.{lon_edge_most, lat_edge_most, lon_edge_fits, lat_edge_fits, name_most, quantum_most, parameters_most, functions_most, grids_most, nodes_least, nodes_most, rank_most, start_most}
+use Rattle.group.specs.Numbers.{lon_edge_most, lat_edge_most, lon_edge_fits, lat_edge_fits, name_most, quantum_most, parameters_most, functions_most, grids_most, nodes_least, nodes_most, rank_most, start_most as start_limit}
 use Rattle.group.specs.Limits.{name_byte, byte_fits, name_fits, spacing_fits, origin_fits, counts_fit, grid_fits, head_numbers_fit, head_fits}
 use Rattle.group.proofs.LimitLaws.{spacing_size}
 use Rattle.extent.specs.Extent.{inside}
@@ -104,7 +104,7 @@ module _ (g : Grid) (e : grid_fits g ≡ true) where
   c3 = between (pos 1) (pos rank_most) (pos g.rank)
 
   abbrev c4 : Bool
-  c4 = between (pos 0) (pos start_most) (pos g.start)
+  c4 = between (pos 0) (pos start_limit) (pos g.start)
 
   pub ni_between : (nodes_least ≤ g.ni) × (g.ni ≤ nodes_most)
   ni_between = count_between nodes_least nodes_most g.ni (one_of_3 c1 c2 c3 (first_three c1 c2 c3 c4 counts))
@@ -115,15 +115,15 @@ module _ (g : Grid) (e : grid_fits g ≡ true) where
   pub rank_between : (1 ≤ g.rank) × (g.rank ≤ rank_most)
   rank_between = count_between 1 rank_most g.rank (three_of_3 c1 c2 c3 (first_three c1 c2 c3 c4 counts))
 
-  pub start_most_lem : g.start ≤ start_most
-  start_most_lem = (count_between 0 start_most g.start (four_of_4 c1 c2 c3 c4 counts)).1
+  pub start_most : g.start ≤ start_limit
+  start_most = (count_between 0 start_limit g.start (four_of_4 c1 c2 c3 c4 counts)).1
 
   pub grid_sized : Sized g
   grid_sized =
       record {
         lon = record { at_size = lon_size; step_size = spacing_size g.dlon dlon_good; least = ni_between.0; most = ni_between.1 };
         lat = record { at_size = omega (arith, lat_size); step_size = spacing_size g.dlat dlat_good; least = nj_between.0; most = nj_between.1 };
-        first = start_most_lem;
+        first = start_most;
       }
 
   -- with the far edges and the width within the limits, so are all four sides

@@ -14,7 +14,7 @@ use Rattle.numbers.specs.First.{some, every}
 use Rattle.numbers.specs.Order.{beyond, count_of}
 use Rattle.numbers.proofs.Bools.{and_left, and_right, same_test}
 use Rattle.numbers.proofs.FirstLaws.{none_by, some_same, every_at}
-use Rattle.group.specs.Numbers.{name_most, functions_most, grids_most, nodes_most, rank_most, start_most, quantum_most, parameters_most}
+use Rattle.group.specs.Numbers.{name_most, functions_most, grids_most, nodes_most, rank_most, start_most as start_limit, quantum_most, parameters_most}
 use Rattle.group.specs.declared.Name.{Name}
 use Rattle.group.specs.declared.Grid.{Grid}
 use Rattle.group.specs.declared.Group.{Group}
@@ -27,7 +27,7 @@ use Rattle.group.specs.Refusals.{refuse_if, unless_refused}
 use Rattle.group.proofs.RefusalLaws.{if_same, stage_same}
 use Rattle.group.proofs.BlankLaws.{name_blank_lem}
 use Rattle.judge.specs.Judge.{unused_function, unused_grid, bad_function, bad_grid, judged_lines, judged_limits, judged_grids, judged_ranks, judged}
-use Rattle.judge.proofs.LimitLaws.{name_good, ni_between, nj_between, rank_between, start_most_lem, quantum_most_lem, parameters_between, functions_most_lem, grids_between}
+use Rattle.judge.proofs.LimitLaws.{name_good, ni_between, nj_between, rank_between, start_most, quantum_most_lem, parameters_between, functions_most_lem, grids_between}
 use Rattle.abi.specs.Words.{name_words, quantum_index, grid_index}
 use Rattle.abi.specs.Abi.{number_at, count_at, byte_at, byte_of, name_of_words, grid_of_words, group_of_words, signed_most, stored, word_of, name_number, numbers_of, KeptName, KeptGrid, KeptHead, MachineName, MachineGroup}
 use Rattle.abi.proofs.ListLaws.{get_or_list_of}
@@ -112,7 +112,7 @@ module _ (g : Group) (h : MachineGroup g) where
 
   -- the counts of a grid whose counts fit as they are read
   grid_uncut : (k : ℕ) → k < grids_most → KeptName (grid_at g k).name → count_at ns (grid_index k 8) ≤ nodes_most → count_at ns (grid_index k 9) ≤ nodes_most
-      → count_at ns (grid_index k 10) ≤ rank_most → count_at ns (grid_index k 11) ≤ start_most → KeptGrid (grid_at g k)
+      → count_at ns (grid_index k 10) ≤ rank_most → count_at ns (grid_index k 11) ≤ start_limit → KeptGrid (grid_at g k)
   grid_uncut k l name ni nj rank start =
       let d = grid_at g k in
       record {
@@ -120,7 +120,7 @@ module _ (g : Group) (h : MachineGroup g) where
         ni = uncut _ d.ni nodes_most (grid_number g k 8 l (omega arith)) ni (omega arith);
         nj = uncut _ d.nj nodes_most (grid_number g k 9 l (omega arith)) nj (omega arith);
         rank = uncut _ d.rank rank_most (grid_number g k 10 l (omega arith)) rank (omega arith);
-        start = uncut _ d.start start_most (grid_number g k 11 l (omega arith)) start (omega arith);
+        start = uncut _ d.start start_limit (grid_number g k 11 l (omega arith)) start (omega arith);
       }
 
   fitting_uncut : (k : ℕ) → k < grids_most → grid_fits (grid_of_words ns k) ≡ true → KeptGrid (grid_at g k)
@@ -129,7 +129,7 @@ module _ (g : Group) (h : MachineGroup g) where
       let d = grid_of_words ns k in
       grid_uncut k l
       (fitting_kept_name ns (grid_index k 0) (grid_at g k).name _ (h.names k l) (grid_word g k l) (grid_number g k 3 l (omega arith)) (name_good d e))
-      (ni_between d e).1 (nj_between d e).1 (rank_between d e).1 (start_most_lem d e)
+      (ni_between d e).1 (nj_between d e).1 (rank_between d e).1 (start_most d e)
 
   blank_uncut : (k : ℕ) → k < grids_most → grid_blank (grid_of_words ns k) ≡ true → KeptGrid (grid_at g k)
   unfolding grid_of_words

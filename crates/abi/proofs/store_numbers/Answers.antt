@@ -3,7 +3,11 @@ use mathlib.Core.Path.{refl, ap, ◌∙◌}
 use native.Mathlib.Omega.{arith}
 use lib.IntN.{pos}
 use Rattle.abi.proofs.ListLaws.{sets_more}
-use Rattle.abi.proofs.NumberLaws.{told}
+use mir.Syntax.{w64}
+use mir.Val.{SFits}
+use mir.Facts.{to_z-of_z}
+use lib.ListN.{get_or}
+use borrow.Author.Rules.{rules}
 use lib.Seq.{sets, length-sets, take_all}
 use Rattle.abi.proofs.store_numbers.Goals as goal
 
@@ -18,9 +22,10 @@ bounds-out-k c = rw (c.loop-i.invariant.1, length-sets) (omega arith)
 
 pub loop-i-preserved : goal.loop-i-preserved
 loop-i-preserved c =
-    let s = c.args in (
+    let s = c.args in
+    let f : SFits w64 (get_or s.numbers.now c.loop-i.i (pos 0)) = search rules in (
       omega arith,
-      rw (told c.out-1.given refl, c.loop-i.invariant.1)
+      rw (to_z-of_z f, c.loop-i.invariant.1)
           (sets_more s.out.now s.k s.numbers.now _ (pos 0) c.loop-i-test.true),
     )
 

@@ -17,7 +17,7 @@ far_edge-y-requires c = subst Reach (sym c.lat_axis.ensures) c.requires.1.lat
 pub width-wide-requires : goal.width-wide-requires
 width-wide-requires c =
     let p = c.requires in
-    let f : SFits w64 c.args.g.dlon = record { sfits = c.struct_told-1.given.1.1.1.0.1 } in
+    let f : SFits w64 c.args.g.dlon = search rules in
     (p.1.lon.least, p.1.lon.most, rw (to_z-of_z f) p.1.lon.step_size)
 
 pub node_end-end-requires : goal.node_end-end-requires
@@ -32,6 +32,6 @@ returns c =
     let fy : SFits w64 c.far_edge-y.result = search rules in
     let ax = c.lon_axis.ensures in
     let ay = c.lat_axis.ensures in
-    let fd : SFits w64 c.args.g.dlon = record { sfits = c.struct_told-1.given.1.1.1.0.1 } in
+    let fd : SFits w64 c.args.g.dlon = search rules in
     let ew = c.width-wide.ensures in
     rw (to_z-of_z fx, to_z-of_z fy, ex, ey, ax, ay, ew, to_z-of_z fd, c.node_end-end.ensures)
