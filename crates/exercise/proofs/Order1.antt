@@ -20,7 +20,6 @@ use Rattle.group.specs.declared.Verdict.TheVariants.{Accepted, Refused}
 use Rattle.group.specs.Numbers.{value_most, mark}
 use Rattle.group.specs.Refusals.{no_refusal, verdict_refusal, lent_after}
 use Rattle.group.proofs.RefusalLaws.{no_acceptance, first_past, lent_new, lent_kept}
-use Rattle.abi.specs.Abi.{joined}
 use Rattle.abi.proofs.ListLaws.{get_or_joined, length_joined, length_list_of}
 use Rattle.judge.specs.Judge.{judged}
 use Rattle.fix.specs.declared.Lookup.{Lookup}

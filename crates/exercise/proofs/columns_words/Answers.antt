@@ -1,5 +1,5 @@
 -- `columns_words` meets its contract.
-use Prim.Native.Nat.{ℕ, ◌+◌, ◌-◌, ◌*◌, ◌<◌}
+use Prim.Native.Nat.{ℕ, ◌+◌, ◌*◌, ◌<◌}
 use mathlib.Core.Path.{◌≡◌, refl, sym, ap, ◌∙◌, subst}
 use native.Mathlib.Omega.{arith}
 use lib.ListN.{length}
@@ -8,7 +8,7 @@ use Rattle.group.specs.declared.Group.{Group}
 use Rattle.group.specs.declared.Verdict.{Verdict}
 use Rattle.group.specs.declared.Verdict.TheVariants.{Accepted}
 use Rattle.abi.specs.Abi.{group_of_words, joined}
-use Rattle.abi.proofs.ListLaws.{Run, run_none, run_length, run_more, run_all}
+use Rattle.abi.proofs.ListLaws.{run_none, run_length, run_more, run_all}
 use Rattle.abi.proofs.NumberLaws.{told as machine}
 use Rattle.exercise.specs.Exercise.{many_verdict, answer_words, answer_numbers, answer_at, position_at}
 use Rattle.exercise.specs.declared.Scale.{Scale}
@@ -17,7 +17,6 @@ use Rattle.exercise.proofs.ScaleLaws.{scale_none, scale_same}
 use Rattle.exercise.proofs.CallLaws.{call_judged, call_agree, call_ends, call_ready, counted_some, counted_most}
 use Rattle.exercise.proofs.SmallLaws.{numbers_stored}
 use Rattle.exercise.proofs.ColumnLaws.{columns_lengths, columns_all}
-use borrow.Author.Rules.{rules}
 use Rattle.exercise.proofs.columns_words.Goals as goal
 
 same : (k : ℕ) → k ≡ k + 0

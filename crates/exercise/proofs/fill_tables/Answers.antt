@@ -14,7 +14,6 @@ use Rattle.judge.proofs.Accepted.{accepted_head}
 use Rattle.ingroup.proofs.InGroupLaws.{flat_turnable}
 use Rattle.exercise.specs.Tables.{rows_most, owners_from, shifts_from, count_index, Tabled}
 use Rattle.exercise.proofs.TableLaws.{rows_length, shifted, shifted_length, finished_length, tabled}
-use borrow.Author.Rules.{rules}
 use Rattle.exercise.proofs.fill_tables.Goals as goal
 
 pub slice_bounds-rank_rows-end : goal.slice_bounds-rank_rows-end

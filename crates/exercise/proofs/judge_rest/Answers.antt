@@ -3,7 +3,6 @@ use mathlib.Core.Path.{sym, ◌∙◌}
 use Rattle.group.proofs.RefusalLaws.{no_acceptance}
 use Rattle.abi.specs.Abi.{group_of_words}
 use Rattle.exercise.proofs.StageLaws.{many_12, many_nodes}
-use borrow.Author.Rules.{rules}
 use Rattle.exercise.proofs.judge_rest.Goals as goal
 
 pub returns-then-not-agree : goal.returns-then-not-agree

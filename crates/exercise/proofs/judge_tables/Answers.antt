@@ -13,7 +13,6 @@ use Rattle.flat.specs.Lists.{Flat}
 use Rattle.judge.specs.Judge.{judged}
 use Rattle.exercise.proofs.StageLaws.{many_group, many_accepted}
 use Rattle.exercise.proofs.TableLaws.{frames_length, framed_length, framed_frames}
-use borrow.Author.Rules.{rules}
 use Rattle.exercise.proofs.judge_tables.Goals as goal
 
 pub judge_rest-requires : goal.judge_rest-requires

@@ -9,7 +9,6 @@ use Rattle.exercise.specs.declared.Scale.{Scale}
 use Rattle.exercise.specs.Exercise.{point_at, answer_at}
 use Rattle.exercise.specs.Tables.{scale_for}
 use Rattle.exercise.proofs.ScaleLaws.{scale_day}
-use borrow.Author.Rules.{rules}
 use Rattle.exercise.proofs.look_one.Goals as goal
 
 pub look_ready-requires : goal.look_ready-requires

@@ -7,7 +7,6 @@ use Rattle.abi.specs.Abi.{group_of_words}
 use Rattle.abi.proofs.ShapeLaws.{machine_shaped}
 use Rattle.exercise.specs.Exercise.{many_verdict, columns_agree, columns_after}
 use Rattle.exercise.proofs.CallLaws.{many_stored, columns_stored}
-use borrow.Author.Rules.{rules}
 use Rattle.exercise.proofs.lookup_columns.Goals as goal
 
 pub returns : goal.returns

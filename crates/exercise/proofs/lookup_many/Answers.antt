@@ -8,7 +8,6 @@ use Rattle.abi.specs.Abi.{group_of_words}
 use Rattle.abi.proofs.ShapeLaws.{machine_shaped}
 use Rattle.exercise.specs.Exercise.{many_verdict, results_after}
 use Rattle.exercise.proofs.CallLaws.{many_stored, results_stored}
-use borrow.Author.Rules.{rules}
 use Rattle.exercise.proofs.lookup_many.Goals as goal
 
 pub returns : goal.returns

@@ -5,7 +5,6 @@ use mathlib.Core.List.{[], ◌∷◌}
 use lib.Seq.{sets}
 use Rattle.abi.proofs.NumberLaws.{told}
 use Rattle.exercise.specs.Exercise.{answer_words}
-use borrow.Author.Rules.{rules}
 use Rattle.exercise.proofs.store_answer.Goals as goal
 
 pub returns : goal.returns
