@@ -22,7 +22,7 @@ use Rattle.line.specs.Numbers.{NumbersRead}
 use Rattle.abi.specs.Abi.{byte_at, name_of_words, grid_of_words}
 use Rattle.abi.proofs.ListLaws.{length_list_of}
 use Rattle.line.proofs.ReadLaws.{kind_counted}
-use Rattle.logs.specs.Line.{fix_keyword, position_of, entry_with, read_entry}
+use Rattle.logs.specs.Line.{fix_keyword, entry_with, read_entry}
 use Rattle.logs.specs.Reading.{EntryRead}
 
 -- ---- the form of a line

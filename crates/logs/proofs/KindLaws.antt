@@ -5,12 +5,9 @@ use mathlib.Core.Bool.{Bool, true, false, cond}
 use mathlib.Core.List.{List}
 use mathlib.Core.Option.{Option, none, some}
 use native.Mathlib.Omega.{arith}
-use borrow.Author.Tests.{leb-true}
-use lib.IntN.{ℤ, pos, negsuc}
-use lib.Signed.{le_z}
-use Rattle.numbers.proofs.Bools.{and_left, and_right, both, true_false, untrue}
+use lib.IntN.{ℤ}
+use Rattle.numbers.proofs.Bools.{true_false, untrue}
 use Rattle.numbers.proofs.FirstLaws.{every_at, all_every}
-use Rattle.numbers.proofs.OrderLaws.{le_z_refl}
 use Rattle.text.specs.Fields.{same}
 use Rattle.text.proofs.FieldLaws.{same_refl, same_true}
 use Rattle.text.proofs.PartLaws.{Free}

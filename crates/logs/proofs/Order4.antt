@@ -22,7 +22,7 @@ use Rattle.judge.proofs.TableLaws.{judged_told}
 use Rattle.fix.specs.declared.Fix.{Fix}
 use Rattle.fix.specs.declared.Lookup.TheVariants as L
 use Rattle.lookup.specs.Lookup.{ends_early, nodes_judged, looked}
-use Rattle.lookup.specs.Demand2.{Judged, ShortList, NothingRefused, ◌then◌}
+use Rattle.lookup.specs.Demand2.{ShortList, NothingRefused, ◌then◌}
 use Rattle.lookup.proofs.RowLaws.{Single, single_then, single_judged, single_short, single_none, short_stage, judge_stage}
 use Rattle.lookup.proofs.FoundLaws.{found}
 use Rattle.exercise.specs.Exercise.{point_at}

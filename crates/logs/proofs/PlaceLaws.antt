@@ -1,6 +1,6 @@
 -- A position as the code tells its numbers apart is looked up as the position that the line says: what is beyond the one limit is beyond the other.
 use Prim.Native.Nat.{ℕ, zero, suc, ◌<◌, min}
-use mathlib.Core.Path.{◌≡◌, refl, sym, ap, ◌∙◌}
+use mathlib.Core.Path.{◌≡◌, refl, sym, ◌∙◌}
 use mathlib.Core.Bool.{Bool, true, false, ◌&&◌}
 use mathlib.Core.List.{List, [], ◌∷◌, map}
 use native.Mathlib.Omega.{arith}

@@ -1,21 +1,16 @@
 -- `judge_lines` meets its contract.
-use Prim.Native.Nat.{ℕ, ◌+◌, ◌-◌, ◌<◌, ◌≤◌}
-use mathlib.Core.Path.{◌≡◌, sym, ap, ◌∙◌, subst}
+use Prim.Native.Nat.{ℕ, ◌+◌, ◌≤◌}
+use mathlib.Core.Path.{sym, subst}
 use mathlib.Core.List.{List}
 use native.Mathlib.Omega.{arith}
 use mir.Syntax.{w64}
 use mir.Val.{Fits}
-use lib.IntN.{ℤ}
 use lib.ListN.{length}
-use Rattle.group.specs.declared.Group.{Group}
 use Rattle.abi.specs.Abi.{group_of_words}
-use Rattle.exercise.specs.declared.Scale.{Scale}
-use Rattle.exercise.specs.Tables.{scale_for}
 use Rattle.exercise.proofs.ScaleLaws.{scale_none}
-use Rattle.header.proofs.ItemLaws.{end_le, behind_le}
+use Rattle.header.proofs.ItemLaws.{end_le}
 use Rattle.logs.specs.Reading.{Scaled}
 use Rattle.logs.proofs.LoopLaws.{Passed, passed_none, passed_all, line_unclosed, line_bad, line_good}
-use borrow.Author.Rules.{rules}
 use Rattle.logs.proofs.judge_lines.Goals as goal
 
 pub loop-next-init : goal.loop-next-init
@@ -81,8 +76,7 @@ loop-next-smaller c =
 pub loop-next-preserved : goal.loop-next-preserved
 loop-next-preserved c =
     let log : List ℕ = c.args.log.now in
-    let passed : Passed (group_of_words c.args.words.now) c.args.nodes.now log c.loop-next.next c.loop-next.n = c.loop-next.invariant.0 in
-    (
+    let passed : Passed (group_of_words c.args.words.now) c.args.nodes.now log c.loop-next.next c.loop-next.n = c.loop-next.invariant.0 in (
       line_good passed _ c.find_from-e.ensures c.loop-next-test.true c.if-e-log.false _ c.judge_line-turn.ensures.kind c.if-turn-ne0.false,
       c.judge_line-turn.ensures.scale,
     )

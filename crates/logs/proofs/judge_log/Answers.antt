@@ -6,7 +6,6 @@ use Rattle.abi.specs.Abi.{group_of_words}
 use Rattle.abi.proofs.ShapeLaws.{machine_shaped}
 use Rattle.logs.specs.Log.{log_judged}
 use Rattle.logs.proofs.LoopLaws.{log_stored}
-use borrow.Author.Rules.{rules}
 use Rattle.logs.proofs.judge_log.Goals as goal
 
 pub returns : goal.returns

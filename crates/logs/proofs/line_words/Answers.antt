@@ -19,7 +19,7 @@ write_fix-requires c =
     let g = group_of_words a.words.now in
     let t = to_z-of_z {w = w64} {z = a.position.day} (search rules) in
     let found : looked g a.nodes.now (point_at a.position) a.position.day ≡ c.look_words-found.result =
-        sym (c.look_words-found.ensures ∙ ap (looked g a.nodes.now (point_at a.position)) t) in
+    sym (c.look_words-found.ensures ∙ ap (looked g a.nodes.now (point_at a.position)) t) in
     fix_found g a.nodes.now a.position _ (found ∙ c.in-Fix.is)
 
 pub returns-in-Refused : goal.returns-in-Refused
@@ -28,7 +28,7 @@ returns-in-Refused c =
     let g = group_of_words a.words.now in
     let t = to_z-of_z {w = w64} {z = a.position.day} (search rules) in
     let found : looked g a.nodes.now (point_at a.position) a.position.day ≡ c.look_words-found.result =
-        sym (c.look_words-found.ensures ∙ ap (looked g a.nodes.now (point_at a.position)) t) in
+    sym (c.look_words-found.ensures ∙ ap (looked g a.nodes.now (point_at a.position)) t) in
     let p = lookup_refused g a.nodes.now a.position _ (found ∙ c.in-Refused.is) a.out.now in
     record { answer = p.0; bytes = p.1 }
 
@@ -39,7 +39,7 @@ returns-in-Fix c =
     let g = group_of_words a.words.now in
     let t = to_z-of_z {w = w64} {z = a.position.day} (search rules) in
     let found : looked g a.nodes.now (point_at a.position) a.position.day ≡ c.look_words-found.result =
-        sym (c.look_words-found.ensures ∙ ap (looked g a.nodes.now (point_at a.position)) t) in
+    sym (c.look_words-found.ensures ∙ ap (looked g a.nodes.now (point_at a.position)) t) in
     let e = sym (found ∙ c.in-Fix.is) in
     let w = c.write_fix.ensures in
     record {

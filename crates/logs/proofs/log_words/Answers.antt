@@ -9,7 +9,6 @@ use Rattle.exercise.specs.Exercise.{many_verdict}
 use Rattle.exercise.proofs.CallLaws.{call_ready}
 use Rattle.logs.specs.declared.Judgement.TheVariants.{Judged}
 use Rattle.logs.proofs.LoopLaws.{call_refused, call_accepted}
-use borrow.Author.Rules.{rules}
 use Rattle.logs.proofs.log_words.Goals as goal
 
 pub judge_lines-requires : goal.judge_lines-requires

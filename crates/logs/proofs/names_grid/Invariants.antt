@@ -1,15 +1,10 @@
 -- `names_grid` meets its contract.
-use Prim.Native.Nat.{ℕ, ◌≤◌, ◌-◌, ◌<◌}
-use mathlib.Core.Path.{◌≡◌, refl, sym, ap, ◌∙◌}
-use mathlib.Core.List.{List}
-use native.Mathlib.Omega.{arith}
-use lib.ListN.{length, drop, get_or}
+use Prim.Native.Nat.{◌≤◌, ◌-◌}
+use mathlib.Core.Path.{◌≡◌}
+use lib.ListN.{length, drop}
 use Rattle.text.specs.Fields.{same}
-use Rattle.text.proofs.FieldLaws.{same_unequal, same_step, same_differ, same_end}
 use Rattle.line.specs.Names.{name_text}
 use Rattle.abi.specs.Abi.{grid_of_words}
-use Rattle.logs.proofs.EntryLaws.{grid_name_length, grid_name_at}
-use borrow.Author.Rules.{rules}
 use Rattle.logs.proofs.names_grid.Given as goal
 
 abbrev pub invariant-loop-i : goal.invariant-loop-i

@@ -160,8 +160,7 @@ put_name-t-requires c =
     let left₄ : Rest named c.put_number-s.result c.put_number-s.new.out = int_more c.args.position.day named (search rules) left₃ c.put_number-s.ensures in
     let left₅ : Rest (9 ∷ (name_text c.grid_of_words-grid.result.name ++ shifts)) c.put_number-s.result c.put_number-s.new.out =
     subst (λ (d : Grid). Rest (9 ∷ (name_text d.name ++ shifts)) c.put_number-s.result c.put_number-s.new.out)
-    grid_is left₄ in
-    (
+    grid_is left₄ in (
       subst (λ (d : Grid). d.name.len ≤ name_most) grid_is (name_most_lem group c.args.position c.args.f c.requires.0),
       left_room (9 ∷ name_text c.grid_of_words-grid.result.name) shifts left₅,
     )

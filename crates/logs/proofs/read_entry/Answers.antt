@@ -1,10 +1,9 @@
 -- `read_entry` meets its contract.
-use Prim.Native.Nat.{ℕ, ◌+◌, ◌<◌}
-use mathlib.Core.Path.{◌≡◌, refl, sym, ap, ◌∙◌, subst}
+use Prim.Native.Nat.{ℕ, ◌+◌}
+use mathlib.Core.Path.{◌≡◌, sym, subst}
 use mathlib.Core.Bool.{true}
 use mathlib.Core.List.{List}
 use native.Mathlib.Omega.{arith}
-use borrow.Author.Tests.{not-true, not-false}
 use lib.ListN.{length, take, drop}
 use lib.Seq.{length-take-le, take_at}
 use Rattle.text.specs.Parts.{split, field_of}
@@ -13,7 +12,6 @@ use Rattle.line.specs.Names.{is_name}
 use Rattle.line.proofs.ReadLaws.{form_bad, form_good}
 use Rattle.line.specs.Numbers.{NumbersRead}
 use Rattle.logs.proofs.EntryLaws.{entry_bad, entry_miss, entry_count, entry_unnamed, entry_placed, entry_valued}
-use borrow.Author.Rules.{rules}
 use Rattle.logs.proofs.read_entry.Goals as goal
 
 pub returns-then-not-cut_as : goal.returns-then-not-cut_as

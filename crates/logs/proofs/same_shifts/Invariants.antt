@@ -1,13 +1,8 @@
 -- `same_shifts` meets its contract.
-use Prim.Native.Nat.{ℕ, ◌-◌, ◌≤◌}
-use mathlib.Core.Path.{◌≡◌, refl, sym, ap, ◌∙◌}
-use mathlib.Core.Bool.{◌&&◌}
-use native.Mathlib.Omega.{arith}
-use Rattle.numbers.proofs.FirstLaws.{every_none, every_more}
+use Prim.Native.Nat.{◌-◌, ◌≤◌}
+use mathlib.Core.Path.{◌≡◌}
 use Rattle.abi.specs.Abi.{number_at}
-use Rattle.abi.proofs.NumberLaws.{told}
-use Rattle.logs.specs.Line.{equal, same_shifts}
-use borrow.Author.Rules.{rules}
+use Rattle.logs.specs.Line.{same_shifts}
 use Rattle.logs.proofs.same_shifts.Given as goal
 
 abbrev pub invariant-loop-q : goal.invariant-loop-q

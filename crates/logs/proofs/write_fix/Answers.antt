@@ -9,7 +9,6 @@ use Rattle.abi.specs.Abi.{group_of_words}
 use Rattle.header.proofs.HeaderLaws.{front_of, front_le}
 use Rattle.logs.proofs.LengthLaws.{text_most}
 use Rattle.logs.proofs.WrittenLaws.{fix_short, fix_count}
-use borrow.Author.Rules.{rules}
 use Rattle.logs.proofs.write_fix.Goals as goal
 
 pub put_line-n-requires : goal.put_line-n-requires
@@ -39,6 +38,6 @@ returns c =
     let l = c.if-out-n.false in
     let w = k.ensures.place in
     let p =
-        fix_count (group_of_words a.words.now) a.position a.f a.out.now k.result c.put_front.new.out (omega arith) (omega arith)
-        (c.put_front.ensures.holds ∙ ap (λ (t : List ℕ). put 0 t a.out.now) (front_of _ _ _ _ k.ensures)) in
+    fix_count (group_of_words a.words.now) a.position a.f a.out.now k.result c.put_front.new.out (omega arith) (omega arith)
+    (c.put_front.ensures.holds ∙ ap (λ (t : List ℕ). put 0 t a.out.now) (front_of _ _ _ _ k.ensures)) in
     record { answer = p.0; bytes = p.1 }

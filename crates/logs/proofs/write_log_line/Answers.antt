@@ -7,7 +7,6 @@ use Rattle.abi.specs.Abi.{group_of_words}
 use Rattle.abi.proofs.ShapeLaws.{machine_shaped}
 use Rattle.logs.specs.Writing.{line_written, line_after}
 use Rattle.logs.proofs.WrittenLaws.{written_stored, after_stored}
-use borrow.Author.Rules.{rules}
 use Rattle.logs.proofs.write_log_line.Goals as goal
 
 pub returns : goal.returns
