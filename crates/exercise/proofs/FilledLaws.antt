@@ -1,13 +1,9 @@
--- What a loop that overwrites a list from the front has made of it after i turns, and the order of its turns.
+-- What a loop that overwrites a list from the front has made of it after i turns.
 use mathlib.Core.Path.{◌≡◌, sym, ◌∙◌, ap}
-use Prim.Native.Nat.{ℕ, suc, ◌<◌, ◌≤◌, ◌-◌}
+use Prim.Native.Nat.{ℕ, suc, ◌<◌, ◌≤◌}
 use native.Mathlib.Nat.{le_of_lt}
 use native.Mathlib.Omega.{arith}
 use mathlib.Core.List.{List, ◌++◌}
-use mathlib.Core.WellFounded.InvImage
-use mathlib.Core.WellFounded.{WellFounded}
-use lib.IntN.{ℤ}
-use lib.WfN.{lt-wf_rel}
 use lib.ListN.{length, get_or, take, drop, set, length-append, length-drop}
 use lib.Seq.{take-suc, drop-cons, set_at, append_snoc, length-take-le}
 
@@ -27,15 +23,3 @@ module _ {A : Type 0} (s d : List A) where
   filled_length i hs hd =
       let h : length (take i s) ≡ i = length-take-le i s hs in
       omega (arith, length-append (take i s) (drop i d), length-drop i d)
-
--- how far a loop of n turns is, and the day that it had last
-pub record Turn (n : ℕ) : Type 0 where
-  pub i : ℕ
-  pub up_to : i ≤ n
-  pub day : ℤ
-
-abbrev pub Nearer : (n : ℕ) → Turn n → Turn n → Type 0
-Nearer n s t = n - s.i < n - t.i
-
-pub nearer_wf : (n : ℕ) → WellFounded (Nearer n)
-nearer_wf n = record { apply = λ s. InvImage.accessible (λ (t : Turn n). n - t.i) (lt-wf_rel.wf.apply (n - s.i)) }
