@@ -17,6 +17,7 @@ use Rattle.day.specs.Day.{ramp_factor}
 use Rattle.numbers.proofs.SignedLaws.{held, tested, gap_is, above, size_less, gap_positive, way, size_sum}
 use Rattle.day.proofs.DayLaws.{RampSizes, ramp_sizes}
 use Rattle.day.proofs.ramp_factor.Goals as goal
+use Rattle.day.proofs.ramp_factor.Goals.{Else-day-a}
 
 -- what fits between the two days
 record Sloped (a s0 b s1 t : ℤ) : Type 0 where
@@ -51,132 +52,70 @@ sloped a s0 b s1 t z e f =
 pub returns-then-b-day : goal.returns-then-b-day
 unfolding ramp_factor
 returns-then-b-day c =
-    let s = c in
     rw (tested c.args.b c.args.day c.ranges.b c.ranges.day c.if-b-day.true) (to_z-of_z w64 c.args.s1 c.ranges.s1)
 
 pub returns-then-day-a : goal.returns-then-day-a
 unfolding ramp_factor
 returns-then-day-a c =
-    let s = c in
     rw (
       tested c.args.b c.args.day c.ranges.b c.ranges.day c.if-b-day.false,
       tested c.args.day c.args.a c.ranges.day c.ranges.a c.if-day-a.true,
     )
     (to_z-of_z w64 c.args.s0 c.ranges.s0)
 
-pub overflow_sub-b : goal.overflow_sub-b
-overflow_sub-b c =
-    let left_is : held c.args.b -ℤ held c.args.day ≡ c.args.b -ℤ c.args.day = gap_is c.args.b c.args.day c.ranges.b c.ranges.day in
-    let before_b : le_z c.args.b c.args.day ≡ false = tested c.args.b c.args.day c.ranges.b c.ranges.day c.if-b-day.false in
-    let behind_a : le_z c.args.day c.args.a ≡ false = tested c.args.day c.args.a c.ranges.day c.ranges.a c.if-day-a.false in
-    let facts : Sloped c.args.a c.args.s0 c.args.b c.args.s1 c.args.day =
-    sloped c.args.a c.args.s0 c.args.b c.args.s1 c.args.day
-    (ramp_sizes c.args.a c.args.s0 c.args.b c.args.s1 c.requires) before_b behind_a in
-    subst (SFits w64) (sym (left_is)) (facts).left
+module _ (c : Else-day-a) where
+  before_b : le_z c.args.b c.args.day ≡ false
+  before_b = tested c.args.b c.args.day c.ranges.b c.ranges.day c.if-b-day.false
+
+  behind_a : le_z c.args.day c.args.a ≡ false
+  behind_a = tested c.args.day c.args.a c.ranges.day c.ranges.a c.if-day-a.false
+
+  facts : Sloped c.args.a c.args.s0 c.args.b c.args.s1 c.args.day
+  facts =
+      sloped c.args.a c.args.s0 c.args.b c.args.s1 c.args.day
+      (ramp_sizes c.args.a c.args.s0 c.args.b c.args.s1 c.requires) before_b behind_a
+
+  -- each operation, and what is read of it
+  left_is : held c.args.b -ℤ held c.args.day ≡ c.args.b -ℤ c.args.day
+  left_is = gap_is c.args.b c.args.day c.ranges.b c.ranges.day
+
+  first_is : held c.args.s0 *ℤ held (held c.args.b -ℤ held c.args.day) ≡ c.args.s0 *ℤ (c.args.b -ℤ c.args.day)
+  first_is i = to_z-of_z w64 c.args.s0 c.ranges.s0 i *ℤ through w64 left_is facts.left i
+
+  right_is : held c.args.day -ℤ held c.args.a ≡ c.args.day -ℤ c.args.a
+  right_is = gap_is c.args.day c.args.a c.ranges.day c.ranges.a
+
+  second_is : held c.args.s1 *ℤ held (held c.args.day -ℤ held c.args.a) ≡ c.args.s1 *ℤ (c.args.day -ℤ c.args.a)
+  second_is i = to_z-of_z w64 c.args.s1 c.ranges.s1 i *ℤ through w64 right_is facts.right i
+
+  sum_is : held (held c.args.s0 *ℤ held (held c.args.b -ℤ held c.args.day))
+      +ℤ held (held c.args.s1 *ℤ held (held c.args.day -ℤ held c.args.a))
+      ≡ c.args.s0 *ℤ (c.args.b -ℤ c.args.day) +ℤ c.args.s1 *ℤ (c.args.day -ℤ c.args.a)
+  sum_is i = through w64 first_is facts.first i +ℤ through w64 second_is facts.second i
+
+  whole_is : held c.args.b -ℤ held c.args.a ≡ c.args.b -ℤ c.args.a
+  whole_is = gap_is c.args.b c.args.a c.ranges.b c.ranges.a
 
 pub overflow_mul-s0 : goal.overflow_mul-s0
-overflow_mul-s0 c =
-    let left_is : held c.args.b -ℤ held c.args.day ≡ c.args.b -ℤ c.args.day = gap_is c.args.b c.args.day c.ranges.b c.ranges.day in
-    let before_b : le_z c.args.b c.args.day ≡ false = tested c.args.b c.args.day c.ranges.b c.ranges.day c.if-b-day.false in
-    let behind_a : le_z c.args.day c.args.a ≡ false = tested c.args.day c.args.a c.ranges.day c.ranges.a c.if-day-a.false in
-    let facts : Sloped c.args.a c.args.s0 c.args.b c.args.s1 c.args.day =
-    sloped c.args.a c.args.s0 c.args.b c.args.s1 c.args.day
-    (ramp_sizes c.args.a c.args.s0 c.args.b c.args.s1 c.requires) before_b behind_a in
-    let first_is : held c.args.s0 *ℤ held (held c.args.b -ℤ held c.args.day)
-    ≡ c.args.s0 *ℤ (c.args.b -ℤ c.args.day) = λ i. to_z-of_z w64 c.args.s0 c.ranges.s0 i *ℤ through w64 left_is facts.left i in
-    subst (SFits w64) (sym (first_is)) (facts).first
-
-pub overflow_sub-day : goal.overflow_sub-day
-overflow_sub-day c =
-    let right_is : held c.args.day -ℤ held c.args.a ≡ c.args.day -ℤ c.args.a = gap_is c.args.day c.args.a c.ranges.day c.ranges.a in
-    let before_b : le_z c.args.b c.args.day ≡ false = tested c.args.b c.args.day c.ranges.b c.ranges.day c.if-b-day.false in
-    let behind_a : le_z c.args.day c.args.a ≡ false = tested c.args.day c.args.a c.ranges.day c.ranges.a c.if-day-a.false in
-    let facts : Sloped c.args.a c.args.s0 c.args.b c.args.s1 c.args.day =
-    sloped c.args.a c.args.s0 c.args.b c.args.s1 c.args.day
-    (ramp_sizes c.args.a c.args.s0 c.args.b c.args.s1 c.requires) before_b behind_a in
-    subst (SFits w64) (sym (right_is)) (facts).right
+overflow_mul-s0 c = let e = (goal.at.overflow_mul-s0 c).Else-day-a in subst (SFits w64) (sym (first_is e)) (facts e).first
 
 pub overflow_mul-s1 : goal.overflow_mul-s1
-overflow_mul-s1 c =
-    let right_is : held c.args.day -ℤ held c.args.a ≡ c.args.day -ℤ c.args.a = gap_is c.args.day c.args.a c.ranges.day c.ranges.a in
-    let before_b : le_z c.args.b c.args.day ≡ false = tested c.args.b c.args.day c.ranges.b c.ranges.day c.if-b-day.false in
-    let behind_a : le_z c.args.day c.args.a ≡ false = tested c.args.day c.args.a c.ranges.day c.ranges.a c.if-day-a.false in
-    let facts : Sloped c.args.a c.args.s0 c.args.b c.args.s1 c.args.day =
-    sloped c.args.a c.args.s0 c.args.b c.args.s1 c.args.day
-    (ramp_sizes c.args.a c.args.s0 c.args.b c.args.s1 c.requires) before_b behind_a in
-    let second_is : held c.args.s1 *ℤ held (held c.args.day -ℤ held c.args.a)
-    ≡ c.args.s1 *ℤ (c.args.day -ℤ c.args.a) = λ i. to_z-of_z w64 c.args.s1 c.ranges.s1 i *ℤ through w64 right_is facts.right i in
-    subst (SFits w64) (sym (second_is)) (facts).second
+overflow_mul-s1 c = let e = (goal.at.overflow_mul-s1 c).Else-day-a in subst (SFits w64) (sym (second_is e)) (facts e).second
 
 pub overflow_add-s0 : goal.overflow_add-s0
-overflow_add-s0 c =
-    let left_is : held c.args.b -ℤ held c.args.day ≡ c.args.b -ℤ c.args.day = gap_is c.args.b c.args.day c.ranges.b c.ranges.day in
-    let before_b : le_z c.args.b c.args.day ≡ false = tested c.args.b c.args.day c.ranges.b c.ranges.day c.if-b-day.false in
-    let behind_a : le_z c.args.day c.args.a ≡ false = tested c.args.day c.args.a c.ranges.day c.ranges.a c.if-day-a.false in
-    let facts : Sloped c.args.a c.args.s0 c.args.b c.args.s1 c.args.day =
-    sloped c.args.a c.args.s0 c.args.b c.args.s1 c.args.day
-    (ramp_sizes c.args.a c.args.s0 c.args.b c.args.s1 c.requires) before_b behind_a in
-    let first_is : held c.args.s0 *ℤ held (held c.args.b -ℤ held c.args.day)
-    ≡ c.args.s0 *ℤ (c.args.b -ℤ c.args.day) = λ i. to_z-of_z w64 c.args.s0 c.ranges.s0 i *ℤ through w64 left_is facts.left i in
-    let right_is : held c.args.day -ℤ held c.args.a ≡ c.args.day -ℤ c.args.a = gap_is c.args.day c.args.a c.ranges.day c.ranges.a in
-    let second_is : held c.args.s1 *ℤ held (held c.args.day -ℤ held c.args.a)
-    ≡ c.args.s1 *ℤ (c.args.day -ℤ c.args.a) = λ i. to_z-of_z w64 c.args.s1 c.ranges.s1 i *ℤ through w64 right_is facts.right i in
-    let sum_is : held (held c.args.s0 *ℤ held (held c.args.b -ℤ held c.args.day))
-    +ℤ held (held c.args.s1 *ℤ held (held c.args.day -ℤ held c.args.a))
-    ≡ c.args.s0 *ℤ (c.args.b -ℤ c.args.day) +ℤ c.args.s1 *ℤ (c.args.day -ℤ c.args.a) = λ i. through w64 first_is facts.first i +ℤ through w64 second_is facts.second i in
-    subst (SFits w64) (sym (sum_is)) (facts).sum
-
-pub overflow_sub-b-2 : goal.overflow_sub-b-2
-overflow_sub-b-2 c =
-    let whole_is : held c.args.b -ℤ held c.args.a ≡ c.args.b -ℤ c.args.a = gap_is c.args.b c.args.a c.ranges.b c.ranges.a in
-    let before_b : le_z c.args.b c.args.day ≡ false = tested c.args.b c.args.day c.ranges.b c.ranges.day c.if-b-day.false in
-    let behind_a : le_z c.args.day c.args.a ≡ false = tested c.args.day c.args.a c.ranges.day c.ranges.a c.if-day-a.false in
-    let facts : Sloped c.args.a c.args.s0 c.args.b c.args.s1 c.args.day =
-    sloped c.args.a c.args.s0 c.args.b c.args.s1 c.args.day
-    (ramp_sizes c.args.a c.args.s0 c.args.b c.args.s1 c.requires) before_b behind_a in
-    subst (SFits w64) (sym (whole_is)) (facts).whole
+overflow_add-s0 c = let e = (goal.at.overflow_add-s0 c).Else-day-a in subst (SFits w64) (sym (sum_is e)) (facts e).sum
 
 pub rounded-requires : goal.rounded-requires
 rounded-requires c =
-    let before_b : le_z c.args.b c.args.day ≡ false = tested c.args.b c.args.day c.ranges.b c.ranges.day c.if-b-day.false in
-    let behind_a : le_z c.args.day c.args.a ≡ false = tested c.args.day c.args.a c.ranges.day c.ranges.a c.if-day-a.false in
-    let facts : Sloped c.args.a c.args.s0 c.args.b c.args.s1 c.args.day =
-    sloped c.args.a c.args.s0 c.args.b c.args.s1 c.args.day
-    (ramp_sizes c.args.a c.args.s0 c.args.b c.args.s1 c.requires) before_b behind_a in
-    let left_is : held c.args.b -ℤ held c.args.day ≡ c.args.b -ℤ c.args.day = gap_is c.args.b c.args.day c.ranges.b c.ranges.day in
-    let first_is : held c.args.s0 *ℤ held (held c.args.b -ℤ held c.args.day)
-    ≡ c.args.s0 *ℤ (c.args.b -ℤ c.args.day) = λ i. to_z-of_z w64 c.args.s0 c.ranges.s0 i *ℤ through w64 left_is facts.left i in
-    let right_is : held c.args.day -ℤ held c.args.a ≡ c.args.day -ℤ c.args.a = gap_is c.args.day c.args.a c.ranges.day c.ranges.a in
-    let second_is : held c.args.s1 *ℤ held (held c.args.day -ℤ held c.args.a)
-    ≡ c.args.s1 *ℤ (c.args.day -ℤ c.args.a) = λ i. to_z-of_z w64 c.args.s1 c.ranges.s1 i *ℤ through w64 right_is facts.right i in
-    let sum_is : held (held c.args.s0 *ℤ held (held c.args.b -ℤ held c.args.day))
-    +ℤ held (held c.args.s1 *ℤ held (held c.args.day -ℤ held c.args.a))
-    ≡ c.args.s0 *ℤ (c.args.b -ℤ c.args.day) +ℤ c.args.s1 *ℤ (c.args.day -ℤ c.args.a) = λ i. through w64 first_is facts.first i +ℤ through w64 second_is facts.second i in
-    let whole_is : held c.args.b -ℤ held c.args.a ≡ c.args.b -ℤ c.args.a = gap_is c.args.b c.args.a c.ranges.b c.ranges.a in
-    let s = c.args in let l = (facts).whole_most in
-    let h = above s.b s.day (before_b) in let k = above s.day s.a (behind_a) in
-    rw (through w64 (sum_is) (facts).sum, through w64 (whole_is) (facts).whole)
-    (gap_positive s.b s.a (omega arith), refl, (facts).sum_most, omega arith)
+    let e = (goal.at.rounded-requires c).Else-day-a in let s = c.args in let l = (facts e).whole_most in
+    let h = above s.b s.day (before_b e) in let k = above s.day s.a (behind_a e) in
+    rw (through w64 (sum_is e) (facts e).sum, through w64 (whole_is e) (facts e).whole)
+    (gap_positive s.b s.a (omega arith), refl, (facts e).sum_most, omega arith)
 
 pub returns : goal.returns
 unfolding ramp_factor
 returns c =
-    let before_b : le_z c.args.b c.args.day ≡ false = tested c.args.b c.args.day c.ranges.b c.ranges.day c.if-b-day.false in
-    let behind_a : le_z c.args.day c.args.a ≡ false = tested c.args.day c.args.a c.ranges.day c.ranges.a c.if-day-a.false in
-    let left_is : held c.args.b -ℤ held c.args.day ≡ c.args.b -ℤ c.args.day = gap_is c.args.b c.args.day c.ranges.b c.ranges.day in
-    let facts : Sloped c.args.a c.args.s0 c.args.b c.args.s1 c.args.day =
-    sloped c.args.a c.args.s0 c.args.b c.args.s1 c.args.day
-    (ramp_sizes c.args.a c.args.s0 c.args.b c.args.s1 c.requires) before_b behind_a in
-    let first_is : held c.args.s0 *ℤ held (held c.args.b -ℤ held c.args.day)
-    ≡ c.args.s0 *ℤ (c.args.b -ℤ c.args.day) = λ i. to_z-of_z w64 c.args.s0 c.ranges.s0 i *ℤ through w64 left_is facts.left i in
-    let right_is : held c.args.day -ℤ held c.args.a ≡ c.args.day -ℤ c.args.a = gap_is c.args.day c.args.a c.ranges.day c.ranges.a in
-    let second_is : held c.args.s1 *ℤ held (held c.args.day -ℤ held c.args.a)
-    ≡ c.args.s1 *ℤ (c.args.day -ℤ c.args.a) = λ i. to_z-of_z w64 c.args.s1 c.ranges.s1 i *ℤ through w64 right_is facts.right i in
-    let sum_is : held (held c.args.s0 *ℤ held (held c.args.b -ℤ held c.args.day))
-    +ℤ held (held c.args.s1 *ℤ held (held c.args.day -ℤ held c.args.a))
-    ≡ c.args.s0 *ℤ (c.args.b -ℤ c.args.day) +ℤ c.args.s1 *ℤ (c.args.day -ℤ c.args.a) = λ i. through w64 first_is facts.first i +ℤ through w64 second_is facts.second i in
-    let whole_is : held c.args.b -ℤ held c.args.a ≡ c.args.b -ℤ c.args.a = gap_is c.args.b c.args.a c.ranges.b c.ranges.a in
-    let b = c in
-    rw (before_b, behind_a)
+    let e = (goal.at.returns c).Else-day-a in
+    rw (before_b e, behind_a e)
     (to_z-of_z w64 c.rounded.result (record { sfits = c.rounded.type_inv }) ∙ c.rounded.ensures
-    ∙ (λ i. round_z (through w64 (sum_is) (facts).sum i) (nat_abs (through w64 (whole_is) (facts).whole i))))
+    ∙ (λ i. round_z (through w64 (sum_is e) (facts e).sum i) (nat_abs (through w64 (whole_is e) (facts e).whole i))))

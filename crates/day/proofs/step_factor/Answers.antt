@@ -10,55 +10,34 @@ use Rattle.numbers.proofs.RoundLaws.{round_whole}
 use Rattle.numbers.proofs.SignedLaws.{held}
 use Rattle.day.proofs.DayLaws.{step_size, step_part, Gained, gained}
 use Rattle.day.proofs.step_factor.Goals as goal
+use Rattle.day.proofs.step_factor.Goals.{After-step_parts-2}
 
-pub step_parts-requires : goal.step_parts-requires
-step_parts-requires c = tt
+module _ (c : After-step_parts-2) where
+  on_day : held c.step_parts.result ≡ step_parts c.args.event c.args.day
+  on_day =
+      to_z-of_z w64 c.step_parts.result (record { sfits = c.step_parts.type_inv }) ∙ c.step_parts.ensures
+      ∙ (λ i. step_parts (to_z-of_z w64 c.args.event c.ranges.event i) (to_z-of_z w64 c.args.day c.ranges.day i))
 
-pub step_parts-requires-2 : goal.step_parts-requires-2
-step_parts-requires-2 c = tt
+  on_reference : held c.step_parts-2.result ≡ step_parts c.args.event c.args.reference
+  on_reference =
+      to_z-of_z w64 c.step_parts-2.result (record { sfits = c.step_parts-2.type_inv }) ∙ c.step_parts-2.ensures
+      ∙ (λ i. step_parts (to_z-of_z w64 c.args.event c.ranges.event i) (to_z-of_z w64 c.args.reference c.ranges.reference i))
+
+  facts : Gained c.args.mult c.step_parts.result c.step_parts-2.result
+      (step_parts c.args.event c.args.day) (step_parts c.args.event c.args.reference)
+  facts =
+      gained 1 c.args.mult (omega arith) (step_size c.args.event c.args.reference c.args.mult c.requires)
+      c.ranges.mult on_day on_reference
+      (step_part c.args.event c.args.day) (step_part c.args.event c.args.reference)
 
 pub overflow_sub-result : goal.overflow_sub-result
-overflow_sub-result c =
-    let on_day : held c.step_parts.result ≡ step_parts c.args.event c.args.day =
-    to_z-of_z w64 c.step_parts.result (record { sfits = c.step_parts.type_inv }) ∙ c.step_parts.ensures
-    ∙ (λ i. step_parts (to_z-of_z w64 c.args.event c.ranges.event i) (to_z-of_z w64 c.args.day c.ranges.day i)) in
-    let on_reference : held c.step_parts-2.result ≡ step_parts c.args.event c.args.reference =
-    to_z-of_z w64 c.step_parts-2.result (record { sfits = c.step_parts-2.type_inv }) ∙ c.step_parts-2.ensures
-    ∙ (λ i. step_parts (to_z-of_z w64 c.args.event c.ranges.event i) (to_z-of_z w64 c.args.reference c.ranges.reference i)) in
-    let facts : Gained c.args.mult c.step_parts.result c.step_parts-2.result
-    (step_parts c.args.event c.args.day) (step_parts c.args.event c.args.reference) =
-    gained 1 c.args.mult (omega arith) (step_size c.args.event c.args.reference c.args.mult c.requires)
-    c.ranges.mult on_day on_reference
-    (step_part c.args.event c.args.day) (step_part c.args.event c.args.reference) in
-    subst (SFits w64) (sym (facts).less_is) (facts).less_fits
+overflow_sub-result c = let e = (goal.at.overflow_sub-result c).After-step_parts-2 in subst (SFits w64) (sym (facts e).less_is) (facts e).less_fits
 
 pub overflow_mul-result : goal.overflow_mul-result
-overflow_mul-result c =
-    let on_day : held c.step_parts.result ≡ step_parts c.args.event c.args.day =
-    to_z-of_z w64 c.step_parts.result (record { sfits = c.step_parts.type_inv }) ∙ c.step_parts.ensures
-    ∙ (λ i. step_parts (to_z-of_z w64 c.args.event c.ranges.event i) (to_z-of_z w64 c.args.day c.ranges.day i)) in
-    let on_reference : held c.step_parts-2.result ≡ step_parts c.args.event c.args.reference =
-    to_z-of_z w64 c.step_parts-2.result (record { sfits = c.step_parts-2.type_inv }) ∙ c.step_parts-2.ensures
-    ∙ (λ i. step_parts (to_z-of_z w64 c.args.event c.ranges.event i) (to_z-of_z w64 c.args.reference c.ranges.reference i)) in
-    let facts : Gained c.args.mult c.step_parts.result c.step_parts-2.result
-    (step_parts c.args.event c.args.day) (step_parts c.args.event c.args.reference) =
-    gained 1 c.args.mult (omega arith) (step_size c.args.event c.args.reference c.args.mult c.requires)
-    c.ranges.mult on_day on_reference
-    (step_part c.args.event c.args.day) (step_part c.args.event c.args.reference) in
-    subst (SFits w64) (sym (facts).times_is) (facts).times_fits
+overflow_mul-result c = let e = (goal.at.overflow_mul-result c).After-step_parts-2 in subst (SFits w64) (sym (facts e).times_is) (facts e).times_fits
 
 pub returns : goal.returns
 unfolding relative
 returns c =
-    let on_day : held c.step_parts.result ≡ step_parts c.args.event c.args.day =
-    to_z-of_z w64 c.step_parts.result (record { sfits = c.step_parts.type_inv }) ∙ c.step_parts.ensures
-    ∙ (λ i. step_parts (to_z-of_z w64 c.args.event c.ranges.event i) (to_z-of_z w64 c.args.day c.ranges.day i)) in
-    let on_reference : held c.step_parts-2.result ≡ step_parts c.args.event c.args.reference =
-    to_z-of_z w64 c.step_parts-2.result (record { sfits = c.step_parts-2.type_inv }) ∙ c.step_parts-2.ensures
-    ∙ (λ i. step_parts (to_z-of_z w64 c.args.event c.ranges.event i) (to_z-of_z w64 c.args.reference c.ranges.reference i)) in
-    let facts : Gained c.args.mult c.step_parts.result c.step_parts-2.result
-    (step_parts c.args.event c.args.day) (step_parts c.args.event c.args.reference) =
-    gained 1 c.args.mult (omega arith) (step_size c.args.event c.args.reference c.args.mult c.requires)
-    c.ranges.mult on_day on_reference
-    (step_part c.args.event c.args.day) (step_part c.args.event c.args.reference) in
-    through w64 (facts).times_is (facts).times_fits ∙ sym (round_whole _)
+    let e = (goal.at.returns c).After-step_parts-2 in
+    through w64 (facts e).times_is (facts e).times_fits ∙ sym (round_whole _)
