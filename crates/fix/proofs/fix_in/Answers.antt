@@ -17,13 +17,13 @@ returns-then-l-eq0 c = let a = c.args in sym (fix_none a.l a.nodes.now a.factor 
 
 pub position-a-requires : goal.position-a-requires
 position-a-requires c =
-    let b = c in let e = c.cell_of-s.ensures in
+    let e = c.cell_of-s.ensures in
     let i : (cell_of c.args.l).i + 1 < c.args.l.ni = cell_i c.requires.0 in let j : (cell_of c.args.l).j + 1 < c.args.l.nj = cell_j c.requires.0 in
     (c.requires.0, rw e (omega arith), rw e (omega arith), omega arith)
 
 pub fix_from-requires : goal.fix_from-requires
 fix_from-requires c =
-    let b = c in let e = c.cell_of-s.ensures in (
+    let e = c.cell_of-s.ensures in (
       record {
         inside = c.requires.0;
         listed = c.requires.1;
@@ -36,5 +36,4 @@ fix_from-requires c =
 
 pub returns : goal.returns
 returns c =
-    let b = c in
     c.fix_from.ensures ∙ ap (λ (z : ℤ). fix_in c.args.l c.args.nodes.now z c.args.grid) (to_z-of_z w64 c.args.factor c.ranges.factor)
