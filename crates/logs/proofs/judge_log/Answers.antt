@@ -10,7 +10,7 @@ use Rattle.logs.proofs.judge_log.Goals as goal
 
 pub returns : goal.returns
 returns c =
-    let s = c in let a = c.args in
+    let a = c.args in
     c.log_words.ensures
     ∙ ap (λ (ns : List ℤ). log_judged (group_of_words ns) a.nodes.now a.log.now) c.numbers_of-words.ensures
     ∙ log_stored a.group (machine_shaped a.group _ c.well_formed.0) a.nodes.now a.log.now

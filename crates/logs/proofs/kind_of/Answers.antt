@@ -48,8 +48,8 @@ returns-then-not-same_shifts c =
     let compared : same_shifts (group_of_words words).parameters c.args.shifts.now (number_at (result_list f)) ≡ c.same_shifts.result =
     let a = to_z-of_z {w = w64} {z = f.first} (search rules) in let b = to_z-of_z {w = w64} {z = f.second} (search rules) in let d = to_z-of_z {w = w64} {z = f.third} (search rules) in
     sym (c.same_shifts.ensures ∙ (λ i. same_shifts (c.parameter_count.ensures i) c.args.shifts.now (number_at (a i ∷ b i ∷ d i ∷ [])))) in
-    sym (kind_shift (words) c.args.found _ c.in-Fix.is c.requires.0 c.args.name.now c.args.shifts.now
-    (named) (compared ∙ c.if-not-same_shifts.true))
+    sym (kind_shift words c.args.found _ c.in-Fix.is c.requires.0 c.args.name.now c.args.shifts.now
+    named (compared ∙ c.if-not-same_shifts.true))
 
 pub returns : goal.returns
 returns c =
@@ -59,5 +59,5 @@ returns c =
     let compared : same_shifts (group_of_words words).parameters c.args.shifts.now (number_at (result_list f)) ≡ c.same_shifts.result =
     let a = to_z-of_z {w = w64} {z = f.first} (search rules) in let b = to_z-of_z {w = w64} {z = f.second} (search rules) in let d = to_z-of_z {w = w64} {z = f.third} (search rules) in
     sym (c.same_shifts.ensures ∙ (λ i. same_shifts (c.parameter_count.ensures i) c.args.shifts.now (number_at (a i ∷ b i ∷ d i ∷ [])))) in
-    sym (kind_none (words) c.args.found _ c.in-Fix.is c.requires.0 c.args.name.now c.args.shifts.now
-    (named) (compared ∙ c.if-not-same_shifts.false))
+    sym (kind_none words c.args.found _ c.in-Fix.is c.requires.0 c.args.name.now c.args.shifts.now
+    named (compared ∙ c.if-not-same_shifts.false))

@@ -15,8 +15,7 @@ pub judge_lines-requires : goal.judge_lines-requires
 judge_lines-requires c =
     let g : Group = group_of_words c.args.words.now in
     let accepted : many_verdict g (length c.args.nodes.now) true ≡ Accepted = sym c.judge_call-verdict.ensures.0 ∙ c.in-Accepted.is in
-    let q = c in
-    call_ready (g) (length c.args.nodes.now) true (accepted) _ (c.judge_call-verdict.ensures.1 c.in-Accepted.is)
+    call_ready g (length c.args.nodes.now) true accepted _ (c.judge_call-verdict.ensures.1 c.in-Accepted.is)
 
 pub returns-in-Refused : goal.returns-in-Refused
 returns-in-Refused c =
@@ -27,5 +26,4 @@ pub returns-in-Accepted : goal.returns-in-Accepted
 returns-in-Accepted c =
     let g : Group = group_of_words c.args.words.now in
     let accepted : many_verdict g (length c.args.nodes.now) true ≡ Accepted = sym c.judge_call-verdict.ensures.0 ∙ c.in-Accepted.is in
-    let q = c in
-    ap Judged c.judge_lines.ensures ∙ call_accepted (g) c.args.nodes.now c.args.log.now (accepted)
+    ap Judged c.judge_lines.ensures ∙ call_accepted g c.args.nodes.now c.args.log.now accepted

@@ -121,7 +121,7 @@ returns c =
     let factor : to_z w64 (of_z w64 c.args.scale.factor) ≡ factor_of g.function g.functions c.args.scale.day =
     to_z-of_z w64 c.args.scale.factor (search rules)
     ∙ ap (λ (s : Scale). s.factor) (c.requires.scale ∙ scale_in g c.args.scale.day day) in
-    let q = c in let a = c.args in
+    let a = c.args in
     c.fix_held.ensures
     ∙ (λ i. fix_held (frames_in l) (c.first_holder-held.ensures i) (c.parameter_count-np.ensures i) a.nodes.now (to_z w64 (of_z w64 a.scale.factor)) x y)
     ∙ ranked_fix g a.nodes.now a.point a.scale.day ready t.sides t.ranks (frames_in l) t.flat

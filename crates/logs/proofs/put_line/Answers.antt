@@ -130,9 +130,6 @@ put_number-s-requires c =
     let left₃ : Rest dated c.put_number-r.result c.put_number-r.new.out = int_more c.args.position.lat.0 dated (search rules) left₂ c.put_number-r.ensures in
     int_room c.args.position.day named (search rules) left₃
 
-pub overflow_sub-f : goal.overflow_sub-f
-overflow_sub-f c = c.requires.0.some
-
 pub grid_of_words-grid-requires : goal.grid_of_words-grid-requires
 grid_of_words-grid-requires c =
     let group : Group = group_of_words c.args.words.now in
