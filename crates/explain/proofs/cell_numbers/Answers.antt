@@ -1,8 +1,7 @@
 -- `cell_numbers` meets its contract: each number fits.
 use native.Mathlib.Omega.{arith}
 use Rattle.numbers.proofs.OrderLaws.{size_fits}
-use Rattle.explain.proofs.CellLaws.{Sized, sized, cell_told, in_distances, in_grid}
-use borrow.Author.Rules.{rules}
+use Rattle.explain.proofs.CellLaws.{sized, cell_told, in_distances, in_grid}
 use Rattle.explain.proofs.cell_numbers.Goals as goal
 
 pub weights_at-w-requires : goal.weights_at-w-requires
@@ -14,92 +13,57 @@ position-low-requires c =
     (p.0, g.0, g.1, p.1)
 
 pub overflow_mul-high : goal.overflow_mul-high
-overflow_mul-high c =
-    let known : Sized c.requires.0 c.requires.1 c.cell_along-x.result.index c.cell_along-y.result.index c.cell_along-x.result.rest c.cell_along-y.result.rest c.weights_at-w.result c.position-low.result = sized c.requires.0 c.requires.1 c.cell_along-x.ensures c.cell_along-y.ensures c.weights_at-w.ensures c.position-low.ensures in
-    omega (arith, known)
+overflow_mul-high c = omega (arith, sized c.requires.0 c.requires.1 c.cell_along-x.ensures c.cell_along-y.ensures c.weights_at-w.ensures c.position-low.ensures)
 
 pub overflow_add-high : goal.overflow_add-high
-overflow_add-high c =
-    let known : Sized c.requires.0 c.requires.1 c.cell_along-x.result.index c.cell_along-y.result.index c.cell_along-x.result.rest c.cell_along-y.result.rest c.weights_at-w.result c.position-low.result = sized c.requires.0 c.requires.1 c.cell_along-x.ensures c.cell_along-y.ensures c.weights_at-w.ensures c.position-low.ensures in
-    omega (arith, known)
+overflow_add-high c = omega (arith, sized c.requires.0 c.requires.1 c.cell_along-x.ensures c.cell_along-y.ensures c.weights_at-w.ensures c.position-low.ensures)
 
 pub overflow_cast-result-2 : goal.overflow_cast-result-2
-overflow_cast-result-2 c =
-    let known : Sized c.requires.0 c.requires.1 c.cell_along-x.result.index c.cell_along-y.result.index c.cell_along-x.result.rest c.cell_along-y.result.rest c.weights_at-w.result c.position-low.result = sized c.requires.0 c.requires.1 c.cell_along-x.ensures c.cell_along-y.ensures c.weights_at-w.ensures c.position-low.ensures in
-    size_fits _ (omega (arith, known))
+overflow_cast-result-2 c = size_fits _ (omega (arith, sized c.requires.0 c.requires.1 c.cell_along-x.ensures c.cell_along-y.ensures c.weights_at-w.ensures c.position-low.ensures))
 
 pub overflow_cast-result-3 : goal.overflow_cast-result-3
-overflow_cast-result-3 c =
-    let known : Sized c.requires.0 c.requires.1 c.cell_along-x.result.index c.cell_along-y.result.index c.cell_along-x.result.rest c.cell_along-y.result.rest c.weights_at-w.result c.position-low.result = sized c.requires.0 c.requires.1 c.cell_along-x.ensures c.cell_along-y.ensures c.weights_at-w.ensures c.position-low.ensures in
-    size_fits _ (omega (arith, known))
+overflow_cast-result-3 c = size_fits _ (omega (arith, sized c.requires.0 c.requires.1 c.cell_along-x.ensures c.cell_along-y.ensures c.weights_at-w.ensures c.position-low.ensures))
 
 pub overflow_cast-result-4 : goal.overflow_cast-result-4
-overflow_cast-result-4 c =
-    let known : Sized c.requires.0 c.requires.1 c.cell_along-x.result.index c.cell_along-y.result.index c.cell_along-x.result.rest c.cell_along-y.result.rest c.weights_at-w.result c.position-low.result = sized c.requires.0 c.requires.1 c.cell_along-x.ensures c.cell_along-y.ensures c.weights_at-w.ensures c.position-low.ensures in
-    size_fits _ (omega (arith, known))
+overflow_cast-result-4 c = size_fits _ (omega (arith, sized c.requires.0 c.requires.1 c.cell_along-x.ensures c.cell_along-y.ensures c.weights_at-w.ensures c.position-low.ensures))
 
 pub overflow_cast-result-5 : goal.overflow_cast-result-5
-overflow_cast-result-5 c =
-    let known : Sized c.requires.0 c.requires.1 c.cell_along-x.result.index c.cell_along-y.result.index c.cell_along-x.result.rest c.cell_along-y.result.rest c.weights_at-w.result c.position-low.result = sized c.requires.0 c.requires.1 c.cell_along-x.ensures c.cell_along-y.ensures c.weights_at-w.ensures c.position-low.ensures in
-    size_fits _ (omega (arith, known))
+overflow_cast-result-5 c = size_fits _ (omega (arith, sized c.requires.0 c.requires.1 c.cell_along-x.ensures c.cell_along-y.ensures c.weights_at-w.ensures c.position-low.ensures))
 
 pub overflow_cast-result-8 : goal.overflow_cast-result-8
-overflow_cast-result-8 c =
-    let known : Sized c.requires.0 c.requires.1 c.cell_along-x.result.index c.cell_along-y.result.index c.cell_along-x.result.rest c.cell_along-y.result.rest c.weights_at-w.result c.position-low.result = sized c.requires.0 c.requires.1 c.cell_along-x.ensures c.cell_along-y.ensures c.weights_at-w.ensures c.position-low.ensures in
-    size_fits _ (omega (arith, known))
+overflow_cast-result-8 c = size_fits _ (omega (arith, sized c.requires.0 c.requires.1 c.cell_along-x.ensures c.cell_along-y.ensures c.weights_at-w.ensures c.position-low.ensures))
 
 pub overflow_cast-result-9 : goal.overflow_cast-result-9
-overflow_cast-result-9 c =
-    let known : Sized c.requires.0 c.requires.1 c.cell_along-x.result.index c.cell_along-y.result.index c.cell_along-x.result.rest c.cell_along-y.result.rest c.weights_at-w.result c.position-low.result = sized c.requires.0 c.requires.1 c.cell_along-x.ensures c.cell_along-y.ensures c.weights_at-w.ensures c.position-low.ensures in
-    size_fits _ (omega (arith, known))
+overflow_cast-result-9 c = size_fits _ (omega (arith, sized c.requires.0 c.requires.1 c.cell_along-x.ensures c.cell_along-y.ensures c.weights_at-w.ensures c.position-low.ensures))
 
 pub overflow_cast-result-10 : goal.overflow_cast-result-10
-overflow_cast-result-10 c =
-    let known : Sized c.requires.0 c.requires.1 c.cell_along-x.result.index c.cell_along-y.result.index c.cell_along-x.result.rest c.cell_along-y.result.rest c.weights_at-w.result c.position-low.result = sized c.requires.0 c.requires.1 c.cell_along-x.ensures c.cell_along-y.ensures c.weights_at-w.ensures c.position-low.ensures in
-    size_fits _ (omega (arith, known))
+overflow_cast-result-10 c = size_fits _ (omega (arith, sized c.requires.0 c.requires.1 c.cell_along-x.ensures c.cell_along-y.ensures c.weights_at-w.ensures c.position-low.ensures))
 
 pub overflow_cast-result-11 : goal.overflow_cast-result-11
-overflow_cast-result-11 c =
-    let known : Sized c.requires.0 c.requires.1 c.cell_along-x.result.index c.cell_along-y.result.index c.cell_along-x.result.rest c.cell_along-y.result.rest c.weights_at-w.result c.position-low.result = sized c.requires.0 c.requires.1 c.cell_along-x.ensures c.cell_along-y.ensures c.weights_at-w.ensures c.position-low.ensures in
-    size_fits _ (omega (arith, known))
+overflow_cast-result-11 c = size_fits _ (omega (arith, sized c.requires.0 c.requires.1 c.cell_along-x.ensures c.cell_along-y.ensures c.weights_at-w.ensures c.position-low.ensures))
 
 pub overflow_cast-result-12 : goal.overflow_cast-result-12
-overflow_cast-result-12 c =
-    let known : Sized c.requires.0 c.requires.1 c.cell_along-x.result.index c.cell_along-y.result.index c.cell_along-x.result.rest c.cell_along-y.result.rest c.weights_at-w.result c.position-low.result = sized c.requires.0 c.requires.1 c.cell_along-x.ensures c.cell_along-y.ensures c.weights_at-w.ensures c.position-low.ensures in
-    size_fits _ (omega (arith, known))
+overflow_cast-result-12 c = size_fits _ (omega (arith, sized c.requires.0 c.requires.1 c.cell_along-x.ensures c.cell_along-y.ensures c.weights_at-w.ensures c.position-low.ensures))
 
 pub overflow_cast-result-13 : goal.overflow_cast-result-13
-overflow_cast-result-13 c =
-    let known : Sized c.requires.0 c.requires.1 c.cell_along-x.result.index c.cell_along-y.result.index c.cell_along-x.result.rest c.cell_along-y.result.rest c.weights_at-w.result c.position-low.result = sized c.requires.0 c.requires.1 c.cell_along-x.ensures c.cell_along-y.ensures c.weights_at-w.ensures c.position-low.ensures in
-    size_fits _ (omega (arith, known))
+overflow_cast-result-13 c = size_fits _ (omega (arith, sized c.requires.0 c.requires.1 c.cell_along-x.ensures c.cell_along-y.ensures c.weights_at-w.ensures c.position-low.ensures))
 
 pub overflow_add-result : goal.overflow_add-result
-overflow_add-result c =
-    let known : Sized c.requires.0 c.requires.1 c.cell_along-x.result.index c.cell_along-y.result.index c.cell_along-x.result.rest c.cell_along-y.result.rest c.weights_at-w.result c.position-low.result = sized c.requires.0 c.requires.1 c.cell_along-x.ensures c.cell_along-y.ensures c.weights_at-w.ensures c.position-low.ensures in
-    omega (arith, known)
+overflow_add-result c = omega (arith, sized c.requires.0 c.requires.1 c.cell_along-x.ensures c.cell_along-y.ensures c.weights_at-w.ensures c.position-low.ensures)
 
 pub overflow_cast-result-14 : goal.overflow_cast-result-14
-overflow_cast-result-14 c =
-    let known : Sized c.requires.0 c.requires.1 c.cell_along-x.result.index c.cell_along-y.result.index c.cell_along-x.result.rest c.cell_along-y.result.rest c.weights_at-w.result c.position-low.result = sized c.requires.0 c.requires.1 c.cell_along-x.ensures c.cell_along-y.ensures c.weights_at-w.ensures c.position-low.ensures in
-    size_fits _ (omega (arith, known))
+overflow_cast-result-14 c = size_fits _ (omega (arith, sized c.requires.0 c.requires.1 c.cell_along-x.ensures c.cell_along-y.ensures c.weights_at-w.ensures c.position-low.ensures))
 
 pub overflow_cast-result-15 : goal.overflow_cast-result-15
-overflow_cast-result-15 c =
-    let known : Sized c.requires.0 c.requires.1 c.cell_along-x.result.index c.cell_along-y.result.index c.cell_along-x.result.rest c.cell_along-y.result.rest c.weights_at-w.result c.position-low.result = sized c.requires.0 c.requires.1 c.cell_along-x.ensures c.cell_along-y.ensures c.weights_at-w.ensures c.position-low.ensures in
-    size_fits _ (omega (arith, known))
+overflow_cast-result-15 c = size_fits _ (omega (arith, sized c.requires.0 c.requires.1 c.cell_along-x.ensures c.cell_along-y.ensures c.weights_at-w.ensures c.position-low.ensures))
 
 pub overflow_add-result-2 : goal.overflow_add-result-2
-overflow_add-result-2 c =
-    let known : Sized c.requires.0 c.requires.1 c.cell_along-x.result.index c.cell_along-y.result.index c.cell_along-x.result.rest c.cell_along-y.result.rest c.weights_at-w.result c.position-low.result = sized c.requires.0 c.requires.1 c.cell_along-x.ensures c.cell_along-y.ensures c.weights_at-w.ensures c.position-low.ensures in
-    omega (arith, known)
+overflow_add-result-2 c = omega (arith, sized c.requires.0 c.requires.1 c.cell_along-x.ensures c.cell_along-y.ensures c.weights_at-w.ensures c.position-low.ensures)
 
 pub overflow_cast-result-16 : goal.overflow_cast-result-16
-overflow_cast-result-16 c =
-    let known : Sized c.requires.0 c.requires.1 c.cell_along-x.result.index c.cell_along-y.result.index c.cell_along-x.result.rest c.cell_along-y.result.rest c.weights_at-w.result c.position-low.result = sized c.requires.0 c.requires.1 c.cell_along-x.ensures c.cell_along-y.ensures c.weights_at-w.ensures c.position-low.ensures in
-    size_fits _ (omega (arith, known))
+overflow_cast-result-16 c = size_fits _ (omega (arith, sized c.requires.0 c.requires.1 c.cell_along-x.ensures c.cell_along-y.ensures c.weights_at-w.ensures c.position-low.ensures))
 
 pub returns : goal.returns
 returns c =
-    let q = c in let s = c in
     cell_told c.requires.0 c.requires.1 c.cell_along-x.ensures c.cell_along-y.ensures c.weights_at-w.ensures c.position-low.ensures c.requires.2
-    s.fits.lon s.fits.factor
+    c.ranges.lon c.ranges.factor

@@ -8,12 +8,11 @@ use Rattle.judge.proofs.StoredLaws.{stored_told}
 use Rattle.lookup.specs.Lookup.{looked_in}
 use Rattle.explain.specs.Explain.{explained_by, explained}
 use Rattle.explain.proofs.ExplainLaws.{refused_by, explained_judged}
-use borrow.Author.Rules.{rules}
 use Rattle.explain.proofs.explain.Goals as goal
 
 pub returns : goal.returns
 returns c =
-    let s = c in let a = c.args in
+    let a = c.args in
     c.explain_words.ensures
     ∙ (λ i. explained (group_of_words (c.numbers_of-words.ensures i)) a.nodes.now a.point (to_z-of_z w64 a.day c.ranges.day i))
     ∙ explained_judged _ a.nodes.now a.point a.day

@@ -8,7 +8,6 @@ use Rattle.lookup.specs.Lookup.{looked_in}
 use Rattle.lookup.proofs.StageLaws.{looked_group, looked_accepted}
 use Rattle.explain.specs.Explain.{explained_by}
 use Rattle.explain.proofs.ExplainLaws.{by_refusal}
-use borrow.Author.Rules.{rules}
 use Rattle.explain.proofs.explain_words.Goals as goal
 
 pub explain_accepted-requires : goal.explain_accepted-requires
@@ -18,23 +17,21 @@ explain_accepted-requires c =
       record {
         flat = j.ensures.1 v;
         room = record {
-          room = record { few = omega arith; sides_room = omega (arith, j.auto.1.0); ranks_room = omega (arith, j.auto.1.1.0) };
-          frames_room = omega (arith, j.auto.1.1.1.0);
+          room = record { few = omega arith; sides_room = omega (arith, j.auto.sides); ranks_room = omega (arith, j.auto.ranks) };
+          frames_room = omega (arith, j.auto.frames);
         };
       },
     )
 
 pub returns-in-Refused : goal.returns-in-Refused
 returns-in-Refused c =
-    let a = c.args in let j = c.judge_into-verdict in
+    let a = c.args in let g = group_of_words a.words.now in
     c.unexplained.ensures
-    ∙ by_refusal (group_of_words a.words.now) a.nodes.now a.point a.day _
-    (looked_group (group_of_words a.words.now) a.nodes.now a.point a.day _ (sym j.ensures.0 ∙ c.in-Refused.is))
+    ∙ by_refusal g a.nodes.now a.point a.day _ (looked_group g a.nodes.now a.point a.day _ (sym c.judge_into-verdict.ensures.0 ∙ c.in-Refused.is))
 
 pub returns-in-Accepted : goal.returns-in-Accepted
 returns-in-Accepted c =
-    let s = c in let a = c.args in let g = group_of_words a.words.now in
-    let j = c.judge_into-verdict in
+    let a = c.args in let g = group_of_words a.words.now in let day = to_z-of_z w64 a.day c.ranges.day in
     c.explain_accepted.ensures
-    ∙ (λ i. explained_by g a.nodes.now a.point (to_z-of_z w64 a.day c.ranges.day i) (looked_in g a.nodes.now a.point (to_z-of_z w64 a.day c.ranges.day i)))
-    ∙ ap (explained_by g a.nodes.now a.point a.day) (sym (looked_accepted g a.nodes.now a.point a.day (sym j.ensures.0 ∙ c.in-Accepted.is)))
+    ∙ (λ i. explained_by g a.nodes.now a.point (day i) (looked_in g a.nodes.now a.point (day i)))
+    ∙ ap (explained_by g a.nodes.now a.point a.day) (sym (looked_accepted g a.nodes.now a.point a.day (sym c.judge_into-verdict.ensures.0 ∙ c.in-Accepted.is)))
