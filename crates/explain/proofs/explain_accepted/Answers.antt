@@ -16,7 +16,7 @@ found_numbers-numbers-requires c =
     let a = c.args in let g = group_of_words a.words.now in let day = to_z-of_z w64 a.day c.ranges.day in
     let told : c.look_accepted-found.result ≡ looked_in g a.nodes.now a.point a.day = c.look_accepted-found.ensures ∙ ap (looked_in g a.nodes.now a.point) day in (
       subst (λ (t : ℤ). Explainable g a.nodes.now a.point t c.in-Fix.fix.grid) (sym day)
-      (explainable g a.nodes.now a.point a.day c.in-Fix.fix (looked_accepted g a.nodes.now a.point a.day c.requires.0 ∙ sym told ∙ c.in-Fix.is)),
+          (explainable g a.nodes.now a.point a.day c.in-Fix.fix (looked_accepted g a.nodes.now a.point a.day c.requires.0 ∙ sym told ∙ c.in-Fix.is)),
       c.requires.1,
     )
 

@@ -1,5 +1,5 @@
 -- `found_numbers` meets its contract: the flat lists say what the record says.
-use Prim.Native.Nat.{ℕ, ◌-◌, ◌*◌, ◌≤◌}
+use Prim.Native.Nat.{◌-◌, ◌*◌, ◌≤◌}
 use mathlib.Core.Path.{◌≡◌, sym, ap, ◌∙◌, subst}
 use native.Mathlib.Omega.{arith}
 use borrow.Author.Rules.{rules}
@@ -49,7 +49,7 @@ pub lowered-lon-requires : goal.lowered-lon-requires
 lowered-lon-requires c =
     let a = c.args in let g = group_of_words a.words.now in (
       distance_most g a.nodes.now a.point a.day a.c c.requires.0 a.sides.now a.ranks.now a.frames.now c.requires.1.flat
-      c.lat_from_least-y.ensures c.lon_from_least-x.ensures c.used_at-used.ensures,
+          c.lat_from_least-y.ensures c.lon_from_least-x.ensures c.used_at-used.ensures,
       omega arith,
     )
 
@@ -89,7 +89,7 @@ all_numbers-requires c =
       omega (arith, some_parameter g a.nodes.now a.point a.day a.c r, ap (λ (l : Offset). l.np) offset),
       few g a.nodes.now a.point a.day a.c r,
       subst (λ (z : ℤ). nat_abs z ≤ factor_most) (sym factor)
-      (factor_bound g.function a.day g.functions (accepted_head g r.ready.accepted).functions (accepted g r.ready.accepted).function),
+          (factor_bound g.function a.day g.functions (accepted_head g r.ready.accepted).functions (accepted g r.ready.accepted).function),
       ap (λ (l : Offset). corner_some is_beyond l a.nodes.now) is_seen ∙ r.small,
     )
 

@@ -2,7 +2,6 @@
 use Prim.Native.Nat.{◌<◌}
 use mathlib.Core.Path.{sym, ◌∙◌}
 use native.Mathlib.Omega.{arith}
-use borrow.Author.Rules.{rules}
 use Rattle.explain.proofs.RankLaws.{rank_past, rank_itself, rank_held, rank_free}
 use Rattle.explain.proofs.rank_beside.Goals as goal
 
@@ -18,7 +17,7 @@ returns-then-k-c c =
 
 pub returns-then-turn_holds : goal.returns-then-turn_holds
 returns-then-turn_holds c =
-    let s = c in let a = c.args in
+    let a = c.args in
     let l = c.if-grids-k.false in
     let among : a.k < a.grids = omega (arith, l) in (
       rank_held a.sides.now a.ranks.now a.grids a.c a.x a.y a.k among c.if-k-c.false
@@ -28,7 +27,7 @@ returns-then-turn_holds c =
 
 pub returns : goal.returns
 returns c =
-    let s = c in let a = c.args in
+    let a = c.args in
     let l = c.if-grids-k.false in (
       rank_free a.sides.now a.ranks.now a.grids a.c a.x a.y a.k (omega (arith, l)) c.if-k-c.false
           (sym c.turn_holds.ensures ∙ c.if-turn_holds.false),

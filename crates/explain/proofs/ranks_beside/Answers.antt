@@ -1,5 +1,5 @@
 -- `ranks_beside` meets its contract.
-use Prim.Native.Nat.{ℕ, ◌-◌}
+use Prim.Native.Nat.{ℕ}
 use mathlib.Core.Path.{refl, ap, ◌∙◌}
 use native.Mathlib.Omega.{arith}
 use lib.IntN.{pos}
@@ -7,9 +7,7 @@ use mir.Syntax.{w64}
 use mir.ValLaws.{to_z_pos}
 use Rattle.numbers.proofs.OrderLaws.{size_fits}
 use Rattle.group.specs.Numbers.{grids_most}
-use Rattle.abi.proofs.ListLaws.{Filled, filled_none, filled_more, filled_all}
-use Rattle.explain.specs.Flat.{rank_beside}
-use borrow.Author.Rules.{rules}
+use Rattle.abi.proofs.ListLaws.{filled_none, filled_more, filled_all}
 use Rattle.explain.proofs.ranks_beside.Goals as goal
 
 pub loop-k-init : goal.loop-k-init

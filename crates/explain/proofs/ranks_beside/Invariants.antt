@@ -1,15 +1,9 @@
--- `ranks_beside` meets its contract.
-use Prim.Native.Nat.{ℕ, ◌-◌}
-use mathlib.Core.Path.{refl, ap, ◌∙◌}
-use native.Mathlib.Omega.{arith}
+-- `ranks_beside`: the first k places hold the ranks of the first k grids.
+use Prim.Native.Nat.{◌-◌}
 use lib.IntN.{pos}
-use mir.Syntax.{w64}
-use mir.ValLaws.{to_z_pos}
-use Rattle.numbers.proofs.OrderLaws.{size_fits}
 use Rattle.group.specs.Numbers.{grids_most}
-use Rattle.abi.proofs.ListLaws.{Filled, filled_none, filled_more, filled_all}
+use Rattle.abi.proofs.ListLaws.{Filled}
 use Rattle.explain.specs.Flat.{rank_beside}
-use borrow.Author.Rules.{rules}
 use Rattle.explain.proofs.ranks_beside.Given as goal
 
 abbrev pub invariant-loop-k : goal.invariant-loop-k

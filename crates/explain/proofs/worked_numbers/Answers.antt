@@ -7,7 +7,6 @@ use mir.Val.{SFits}
 use Rattle.numbers.proofs.OrderLaws.{size_fits}
 use Rattle.cell.specs.declared.TwoParts.{TwoParts}
 use Rattle.cell.specs.Cell.{weighted_sum}
-use Rattle.cell.proofs.WideLaws.{wide_fits}
 use Rattle.cell.proofs.SumLaws.{low_below}
 use Rattle.explain.proofs.WorkedLaws.{worked_none, weighed, result_sizes, worked_told}
 use Rattle.explain.proofs.worked_numbers.Goals as goal
@@ -26,18 +25,6 @@ result_of-result-requires c =
     let a = c.args in let fz : SFits w64 c.value_two_words-value.result = search rules in
     result_sizes a.l a.nodes.now a.factor a.p c.requires.0.inside c.requires.0.weights c.corners_at-v.ensures
     (omega (arith, c.if-l-p.false)) c.value_two_words-value.ensures fz c.requires.2 c.requires.1 c.ranges.factor
-
-pub overflow_cast-result : goal.overflow_cast-result
-overflow_cast-result c = wide_fits c.corners_at-v.result.v00 (search rules)
-
-pub overflow_cast-result-2 : goal.overflow_cast-result-2
-overflow_cast-result-2 c = wide_fits c.corners_at-v.result.v10 (search rules)
-
-pub overflow_cast-result-3 : goal.overflow_cast-result-3
-overflow_cast-result-3 c = wide_fits c.corners_at-v.result.v01 (search rules)
-
-pub overflow_cast-result-4 : goal.overflow_cast-result-4
-overflow_cast-result-4 c = wide_fits c.corners_at-v.result.v11 (search rules)
 
 pub overflow_cast-result-5 : goal.overflow_cast-result-5
 overflow_cast-result-5 c =
