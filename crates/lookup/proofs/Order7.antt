@@ -16,8 +16,8 @@ use Rattle.day.specs.Day.{shape_factor, function_factor, factor_of}
 use Rattle.day.proofs.DayLaws.{factor_same}
 use Rattle.day.proofs.Order7.{old_ramp}
 use Rattle.ingroup.specs.InGroup.{chosen_in}
-use Rattle.lookup.specs.Lookup.{looked_in, looked}
-use Rattle.lookup.specs.Order7.{RampInvisible, OldRampLooked}
+use Rattle.lookup.specs.Lookup.{looked_in}
+use Rattle.lookup.specs.Order7.{OldRampLooked}
 use Rattle.lookup.proofs.StageLaws.{looked_accepted}
 
 module _ (g h : Group) (k : ℕ) (r : Ramp2) (e : judged g ≡ Accepted) (w : WrittenAsRamp g h k r) where

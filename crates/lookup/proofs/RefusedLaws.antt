@@ -6,14 +6,13 @@ use mathlib.Core.List.{List}
 use mathlib.Core.Logic.{inl, inr, ⊎_elim, ◌↔◌}
 use borrow.Author.Tests.{leb-false, lt-leb, not-true, not-false}
 use lib.IntN.{ℤ, nat_abs}
-use Rattle.numbers.specs.First.{first}
 use Rattle.numbers.specs.Order.{within}
 use Rattle.numbers.proofs.Bools.{true_false, and_left, and_right}
 use Rattle.numbers.proofs.OrderLaws.{within_test}
 use Rattle.group.specs.declared.Group.{Group}
 use Rattle.group.specs.declared.Point.{Point}
 use Rattle.group.specs.declared.Refusal.{Refusal}
-use Rattle.group.specs.declared.Verdict.TheVariants.{Accepted, Refused}
+use Rattle.group.specs.declared.Verdict.TheVariants.{Accepted}
 use Rattle.judge.specs.Judge.{judged}
 use Rattle.ingroup.specs.InGroup.{chosen_in}
 use Rattle.ingroup.proofs.InGroupLaws.{none_holds}

@@ -1,12 +1,9 @@
 -- `first_short` meets its contract, by the loop of FirstLaws.
 use Prim.Native.Nat.{ℕ, ◌-◌}
-use mathlib.Core.Path.{◌≡◌, ap, ◌∙◌, sym}
 use mathlib.Core.Bool.{Bool}
 use mathlib.Core.List.{List}
-use native.Mathlib.Omega.{arith}
-use borrow.Author.Tests.{lt-ltb, le-ltb}
 use lib.Dec.{ltb}
-use Rattle.numbers.proofs.FirstLaws.{Passed, passed_none, passed_more, passed_end, passed_found}
+use Rattle.numbers.proofs.FirstLaws.{Passed}
 use Rattle.flat.specs.Frames.{frame_at, frame_end}
 use Rattle.lookup.proofs.first_short.Given as goal
 

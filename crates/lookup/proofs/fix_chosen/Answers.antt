@@ -11,7 +11,6 @@ use Rattle.flat.specs.declared.Frame.{Frame}
 use Rattle.flat.specs.Frames.{frame_at}
 use Rattle.lookup.specs.Flat.{offset_in}
 use Rattle.lookup.proofs.FixAtLaws.{fix_at_none, fix_at_some}
-use borrow.Author.Rules.{rules}
 use Rattle.lookup.proofs.fix_chosen.Goals as goal
 
 pub returns-then-c-eq0 : goal.returns-then-c-eq0
@@ -26,7 +25,6 @@ pub fix_in-requires : goal.fix_in-requires
 fix_in-requires c =
     let seen : c.offset_in-l.result ≡ offset_in (frame_at c.args.frames.now (c.args.c - 1)) c.args.np c.args.x c.args.y =
     c.offset_in-l.ensures ∙ ap (λ (f : Frame). offset_in f c.args.np c.args.x c.args.y) c.frame_at.ensures in
-    let s = c in
     rw (seen) (
       c.requires.0.inside (omega arith),
       c.requires.0.listed (omega arith),
@@ -37,7 +35,7 @@ pub returns : goal.returns
 returns c =
     let seen : c.offset_in-l.result ≡ offset_in (frame_at c.args.frames.now (c.args.c - 1)) c.args.np c.args.x c.args.y =
     c.offset_in-l.ensures ∙ ap (λ (f : Frame). offset_in f c.args.np c.args.x c.args.y) c.frame_at.ensures in
-    let s = c in let a = c.args in
+    let a = c.args in
     c.fix_in.ensures
     ∙ (λ i. fix_in (seen i) a.nodes.now (to_z-of_z w64 a.factor c.ranges.factor i) a.c)
     ∙ sym (fix_at_some a.c (λ k. offset_in (frame_at a.frames.now k) a.np a.x a.y) a.nodes.now a.factor c.if-c-eq0.false)

@@ -14,7 +14,6 @@ use Rattle.choice.specs.declared.Held.{Held}
 use Rattle.choice.specs.declared.Held.TheVariants.{By}
 use Rattle.lookup.specs.Lookup.{fix_at}
 use Rattle.lookup.specs.Flat.{offset_in, Chosen, fix_held, TurnChosen, HeldChosen}
-use borrow.Author.Rules.{rules}
 use Rattle.lookup.proofs.fix_held.Goals as goal
 
 -- what holds the point, taken apart

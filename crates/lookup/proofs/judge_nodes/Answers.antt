@@ -17,7 +17,6 @@ use Rattle.judge.specs.Judge.{judged}
 use Rattle.judge.proofs.Accepted.{accepted_head, accepted_sized}
 use Rattle.lookup.specs.Lookup.{ends_early, nodes_judged}
 use Rattle.lookup.specs.Flat.{FramesSized}
-use borrow.Author.Rules.{rules}
 use Rattle.lookup.proofs.judge_nodes.Goals as goal
 
 module _ (g : Group) (frames : List ℕ) (f : Framed g g.grids frames) where

@@ -5,7 +5,6 @@ use lib.IntN.{ℤ}
 use lib.ListN.{length}
 use mir.Syntax.{w64}
 use mir.ValLaws.{to_z-of_z}
-use Rattle.group.specs.declared.Group.{Group}
 use Rattle.group.specs.Numbers.{day_fits}
 use Rattle.group.specs.Record.{grid_at}
 use Rattle.abi.specs.Abi.{group_of_words}
@@ -13,7 +12,6 @@ use Rattle.day.specs.Day.{factor_of}
 use Rattle.ingroup.specs.InGroup.{chosen_in}
 use Rattle.lookup.specs.Lookup.{point_fits, offset_of, fix_at, LookupReady}
 use Rattle.lookup.proofs.StageLaws.{day_told, nodes_accepted, looked_6, looked_9, looked_13, looked_on}
-use borrow.Author.Rules.{rules}
 use Rattle.lookup.proofs.look_accepted.Goals as goal
 use Rattle.lookup.proofs.look_accepted.Goals.{Else-not-day_fits, In-Accepted}
 
@@ -51,7 +49,7 @@ pub look_in-requires : goal.look_in-requires
 look_in-requires c =
     let q = goal.at.look_in-requires c in (
       subst (λ (z : ℤ). LookupReady (group_of_words c.args.words.now) (length c.args.nodes.now) c.args.point z) (sym (to_z-of_z w64 c.args.day c.ranges.day))
-      (ready q.In-Accepted (point q.Else-not-day_fits) (day q.Else-not-day_fits)),
+          (ready q.In-Accepted (point q.Else-not-day_fits) (day q.Else-not-day_fits)),
       c.requires.1,
     )
 

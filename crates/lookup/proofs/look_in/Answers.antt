@@ -28,7 +28,7 @@ use Rattle.lookup.proofs.look_in.Goals as goal
 pub chosen_flat-c-requires : goal.chosen_flat-c-requires
 chosen_flat-c-requires c =
     let g : Group = group_of_words c.args.words.now in
-    let s = c in let n = (accepted_head (g) c.requires.0.accepted).grids in let e = c.grid_count.ensures in
+    let n = (accepted_head (g) c.requires.0.accepted).grids in let e = c.grid_count.ensures in
     let r = c.requires.1.room.room in
     let w = turn_room (g) c.args.nodes.now c.args.point c.args.day c.requires.0 c.lon_from_least-x.ensures in
     (record { few = omega (arith, n, e); sides_room = omega (arith, n, e, r.sides_room); ranks_room = omega (arith, n, e, r.ranks_room) }, w.0, w.1)
@@ -36,7 +36,7 @@ chosen_flat-c-requires c =
 pub used_at-at-requires : goal.used_at-at-requires
 used_at-at-requires c =
     let g : Group = group_of_words c.args.words.now in
-    let s = c in let n = (accepted_head (g) c.requires.0.accepted).grids in
+    let n = (accepted_head (g) c.requires.0.accepted).grids in
     let w = turn_room (g) c.args.nodes.now c.args.point c.args.day c.requires.0 c.lon_from_least-x.ensures in
     let m =
     told_most (g) c.args.nodes.now c.args.point c.args.day c.requires.0 c.args.sides.now c.args.ranks.now c.args.frames.now c.requires.1.flat c.lat_from_least-y.ensures c.lon_from_least-x.ensures c.chosen_flat-c.result
@@ -46,7 +46,7 @@ used_at-at-requires c =
 pub factor_on-factor-requires : goal.factor_on-factor-requires
 factor_on-factor-requires c =
     let g : Group = group_of_words c.args.words.now in
-    let s = c in let a = c.requires.0.accepted in let e = c.function_count.ensures in (
+    let a = c.requires.0.accepted in let e = c.function_count.ensures in (
       (search rules),
       omega (arith, (accepted_head (g) a).functions, e),
       subst (FunctionsFit c.args.words.now) (sym e) (rows_fit c.args.words.now a),
@@ -67,7 +67,7 @@ fix_chosen-requires c =
     to_z-of_z w64 c.factor_on-factor.result (record { sfits = c.factor_on-factor.type_inv }) ∙ c.factor_on-factor.ensures
     ∙ (λ i. factor_in (function_rows c.args.words.now) (c.function_count.ensures i) (to_z-of_z w64 c.args.day c.ranges.day i))
     ∙ rows_factor c.args.words.now c.requires.0.accepted c.args.day in
-    let q = c in let s = c in let a = c.requires.0.accepted in (
+    let a = c.requires.0.accepted in (
       rw c.parameter_count.ensures
           (told_chosen (g) c.args.nodes.now c.args.point c.args.day c.requires.0 c.args.sides.now c.args.ranks.now c.args.frames.now c.requires.1.flat c.lat_from_least-y.ensures c.lon_from_least-x.ensures (number) c.used_at-at.result (choice) c.used_at-at.ensures (few)),
       subst (λ (z : ℤ). nat_abs z ≤ factor_most) (sym (factor))
@@ -87,7 +87,7 @@ returns c =
     to_z-of_z w64 c.factor_on-factor.result (record { sfits = c.factor_on-factor.type_inv }) ∙ c.factor_on-factor.ensures
     ∙ (λ i. factor_in (function_rows c.args.words.now) (c.function_count.ensures i) (to_z-of_z w64 c.args.day c.ranges.day i))
     ∙ rows_factor c.args.words.now c.requires.0.accepted c.args.day in
-    let p = c in let q = c in let s = c in let at = c.used_at-at.result in
+    let at = c.used_at-at.result in
     c.fix_chosen.ensures
     ∙ (λ i. fix_at (number) (λ k. offset_in (frame_at c.args.frames.now k) (c.parameter_count.ensures i) at (y)) c.args.nodes.now (to_z w64 (of_z w64 c.factor_on-factor.result)))
     ∙ told_fix (g) c.args.nodes.now c.args.point c.args.day c.requires.0 c.args.sides.now c.args.ranks.now c.args.frames.now c.requires.1.flat c.lat_from_least-y.ensures c.lon_from_least-x.ensures (number) at (choice) c.used_at-at.ensures (factor)

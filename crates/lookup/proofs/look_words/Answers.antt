@@ -6,7 +6,6 @@ use mir.ValLaws.{to_z-of_z}
 use Rattle.abi.specs.Abi.{group_of_words}
 use Rattle.lookup.specs.Lookup.{looked_in}
 use Rattle.lookup.proofs.StageLaws.{looked_group, looked_accepted}
-use borrow.Author.Rules.{rules}
 use Rattle.lookup.proofs.look_words.Goals as goal
 
 pub look_accepted-requires : goal.look_accepted-requires
@@ -29,7 +28,7 @@ returns-in-Refused c =
 
 pub returns-in-Accepted : goal.returns-in-Accepted
 returns-in-Accepted c =
-    let s = c in let a = c.args in
+    let a = c.args in
     c.look_accepted.ensures
     ∙ ap (looked_in (group_of_words a.words.now) a.nodes.now a.point) (to_z-of_z w64 a.day c.ranges.day)
     ∙ sym (looked_accepted (group_of_words a.words.now) a.nodes.now a.point a.day (sym c.judge_into-verdict.ensures.0 ∙ c.in-Accepted.is))

@@ -7,13 +7,12 @@ use Rattle.abi.proofs.ShapeLaws.{machine_shaped}
 use Rattle.judge.proofs.StoredLaws.{stored_told}
 use Rattle.fix.specs.declared.Lookup.TheVariants as L
 use Rattle.lookup.specs.Lookup.{looked_in, looked}
-use borrow.Author.Rules.{rules}
 use Rattle.lookup.proofs.lookup.Goals as goal
 
 pub returns : goal.returns
 unfolding looked
 returns c =
-    let s = c in let a = c.args in
+    let a = c.args in
     c.look_words.ensures
     ∙ (λ i. looked (group_of_words (c.numbers_of-words.ensures i)) a.nodes.now a.point (to_z-of_z w64 a.day c.ranges.day i))
     ∙ stored_told a.group (machine_shaped a.group _ c.well_formed.0) L.Refused (λ g. looked_in g a.nodes.now a.point a.day)
