@@ -1,6 +1,5 @@
 -- `area_fits` meets its contract.
 use Rattle.inforce.specs.Area.{area_fits}
-use borrow.Author.Rules.{rules}
 use Rattle.inforce.proofs.area_fits.Goals as goal
 
 pub returns : goal.returns

@@ -1,5 +1,4 @@
 -- `area_from_least` meets its contract.
-use borrow.Author.Rules.{rules}
 use Rattle.inforce.proofs.area_from_least.Goals as goal
 
 pub returns : goal.returns

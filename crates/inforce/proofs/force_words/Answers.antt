@@ -2,7 +2,6 @@
 use mathlib.Core.Path.{◌∙◌, sym}
 use native.Mathlib.Omega.{arith}
 use Rattle.inforce.proofs.StageLaws.{in_force_refused, in_force_listed}
-use borrow.Author.Rules.{rules}
 use Rattle.inforce.proofs.force_words.Goals as goal
 
 pub list_in-requires : goal.list_in-requires

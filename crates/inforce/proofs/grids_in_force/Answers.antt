@@ -6,7 +6,6 @@ use Rattle.abi.specs.Abi.{group_of_words}
 use Rattle.abi.proofs.ShapeLaws.{machine_shaped}
 use Rattle.inforce.specs.InForce.{in_force_in, accepted_list, refused_by, in_force_of}
 use Rattle.inforce.proofs.StageLaws.{area_stored}
-use borrow.Author.Rules.{rules}
 use Rattle.inforce.proofs.grids_in_force.Goals as goal
 
 pub returns : goal.returns

@@ -6,7 +6,6 @@ use Rattle.abi.specs.Abi.{group_of_words}
 use Rattle.abi.proofs.ShapeLaws.{machine_shaped}
 use Rattle.inforce.specs.Hole.{hole_in, accepted_hole, refused_hole, hole_of}
 use Rattle.inforce.proofs.StageLaws.{area_stored}
-use borrow.Author.Rules.{rules}
 use Rattle.inforce.proofs.hole.Goals as goal
 
 pub returns : goal.returns

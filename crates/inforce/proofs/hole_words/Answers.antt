@@ -2,7 +2,6 @@
 use mathlib.Core.Path.{◌∙◌, sym}
 use native.Mathlib.Omega.{arith}
 use Rattle.inforce.proofs.StageLaws.{hole_refused, hole_answered}
-use borrow.Author.Rules.{rules}
 use Rattle.inforce.proofs.hole_words.Goals as goal
 
 pub hole_in-requires : goal.hole_in-requires

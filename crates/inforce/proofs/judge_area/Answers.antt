@@ -2,7 +2,6 @@
 use mathlib.Core.Path.{◌∙◌, sym}
 use Rattle.group.proofs.RefusalLaws.{no_acceptance}
 use Rattle.inforce.proofs.StageLaws.{area_group, area_10, area_accepted}
-use borrow.Author.Rules.{rules}
 use Rattle.inforce.proofs.judge_area.Goals as goal
 
 pub returns-in-Refused : goal.returns-in-Refused

@@ -1,8 +1,6 @@
 -- `list_flat` meets its contract: the rows of the grids' parts, the ranks and the order are parts of the lists.
-use Prim.Native.Nat.{◌+◌, ◌≤◌}
 use mathlib.Core.Path.{◌∙◌}
 use native.Mathlib.Omega.{arith}
-use lib.ListN.{length}
 use Rattle.flat.specs.Turned.{RowRoom}
 use Rattle.ingroup.proofs.RankLaws.{order_grids}
 use Rattle.inforce.proofs.FlatLaws.{order_ranked, order_of, order_few, order_numbers, flat_sound, flat_list}
@@ -12,8 +10,7 @@ pub turn_rows-count-requires : goal.turn_rows-count-requires
 turn_rows-count-requires c =
     let a = c.args in let p = c.requires.0 in let b = c.order_by_rank-grids.ensures.0 in
     let w = order_of a.sides.now a.ranks.now a.n p _ _ b in
-    let few = order_few a.sides.now a.ranks.now a.n p _ _ b in
-    (
+    let few = order_few a.sides.now a.ranks.now a.n p _ _ b in (
       order_grids a.sides.now _ a.n p.turnable w,
       record { rows_room = omega arith; owners_room = omega arith; shifts_room = omega arith },
     )

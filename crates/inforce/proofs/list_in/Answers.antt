@@ -10,38 +10,32 @@ use Rattle.inforce.proofs.ShownLaws.{shown_whole}
 use Rattle.inforce.proofs.AreaLaws.{area_admitted}
 use Rattle.inforce.proofs.GroupLaws.{group_flat, group_listed, narrow_list}
 use Rattle.inforce.proofs.StageLaws.{ready_judged}
-use borrow.Author.Rules.{rules}
 use Rattle.inforce.proofs.list_in.Goals as goal
 
 pub list_flat-l-requires : goal.list_flat-l-requires
 list_flat-l-requires c =
-    let g : Group = group_of_words c.args.words.now in
-    let s = c in let a = c.args in
-    let j = ready_judged c.requires in (
-      subst (FlatSound a.sides.now a.ranks.now) (sym c.grid_count-n.ensures) (group_flat (g) j.0 a.sides.now a.ranks.now c.requires.sided c.requires.room),
+    let a = c.args in let r = c.requires in let j = ready_judged r in
+    let g : Group = group_of_words a.words.now in (
+      subst (FlatSound a.sides.now a.ranks.now) (sym c.grid_count-n.ensures) (group_flat g j.0 a.sides.now a.ranks.now r.sided r.room),
       subst Admitted (sym c.area_from_least.ensures) (area_admitted a.area j.1),
     )
 
 pub shown_list-requires : goal.shown_list-requires
 shown_list-requires c =
-    let g : Group = group_of_words c.args.words.now in
-    let listing : let s = c in
-    c.list_flat-l.result ≡ listing_of (in_force_in (g) c.args.area) =
-    let s = c in let a = c.args in
+    let a = c.args in let r = c.requires in let j = ready_judged r in
+    let g : Group = group_of_words a.words.now in
+    let listing : c.list_flat-l.result ≡ listing_of (in_force_in g a.area) =
     c.list_flat-l.ensures
     ∙ (λ i. flat_listing a.sides.now a.ranks.now (c.grid_count-n.ensures i) (c.area_from_least.ensures i))
-    ∙ group_listed (g) (ready_judged c.requires).0 a.sides.now a.ranks.now c.requires.sided a.area (ready_judged c.requires).1 in
-    let s = c in
-    rw (listing) (narrow_list (g) (ready_judged c.requires).0 c.args.area (ready_judged c.requires).1)
+    ∙ group_listed g j.0 a.sides.now a.ranks.now r.sided a.area j.1 in
+    rw listing (narrow_list g j.0 a.area j.1)
 
 pub returns : goal.returns
 returns c =
-    let g : Group = group_of_words c.args.words.now in
-    let listing : let s = c in
-    c.list_flat-l.result ≡ listing_of (in_force_in (g) c.args.area) =
-    let s = c in let a = c.args in
+    let a = c.args in let r = c.requires in let j = ready_judged r in
+    let g : Group = group_of_words a.words.now in
+    let listing : c.list_flat-l.result ≡ listing_of (in_force_in g a.area) =
     c.list_flat-l.ensures
     ∙ (λ i. flat_listing a.sides.now a.ranks.now (c.grid_count-n.ensures i) (c.area_from_least.ensures i))
-    ∙ group_listed (g) (ready_judged c.requires).0 a.sides.now a.ranks.now c.requires.sided a.area (ready_judged c.requires).1 in
-    let s = c in
-    c.shown_list.ensures ∙ ap shown_list (listing) ∙ shown_whole (in_force_in (g) c.args.area)
+    ∙ group_listed g j.0 a.sides.now a.ranks.now r.sided a.area j.1 in
+    c.shown_list.ensures ∙ ap shown_list listing ∙ shown_whole (in_force_in g a.area)

@@ -1,5 +1,4 @@
 -- `refused_by` meets its contract.
-use borrow.Author.Rules.{rules}
 use Rattle.inforce.proofs.refused_by.Goals as goal
 
 pub returns : goal.returns

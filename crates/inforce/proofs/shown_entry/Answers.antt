@@ -1,6 +1,5 @@
 -- `shown_entry` meets its contract: the coordinate is in mas.
 use mathlib.Core.Path.{refl}
-use borrow.Author.Rules.{rules}
 use Rattle.inforce.proofs.shown_entry.Goals as goal
 
 pub returns : goal.returns

@@ -3,7 +3,6 @@ use mathlib.Core.Path.{sym, ◌∙◌, ap}
 use mathlib.Core.Bool.{true}
 use Rattle.group.specs.declared.Verdict.TheVariants.{Accepted}
 use Rattle.inforce.specs.Hole.{accepted_hole}
-use borrow.Author.Rules.{rules}
 use Rattle.inforce.proofs.shown_hole.Goals as goal
 
 pub lon_at-requires : goal.lon_at-requires

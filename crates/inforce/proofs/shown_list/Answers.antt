@@ -1,40 +1,20 @@
 -- `shown_list` meets its contract: each turn shows one entry more.
-use Prim.Native.Nat.{◌-◌, ◌≤◌}
 use mathlib.Core.Path.{◌≡◌}
 use native.Mathlib.Omega.{arith}
-use borrow.Author.Rules.{rules}
 use lib.ListN.{get_or}
 use Rattle.coverage.specs.Listing.{no_entry}
 use Rattle.inforce.specs.InForce.{shown_entry}
-use Rattle.inforce.specs.Handed.{shown_first, shown_list}
+use Rattle.inforce.specs.Handed.{shown_list}
 use Rattle.inforce.proofs.ShownLaws.{shown_more}
 use Rattle.inforce.proofs.shown_list.Goals as goal
 
 pub loop-i-init : goal.loop-i-init
 loop-i-init c = (omega arith, rw c.blank_entry-none.ensures)
 
-pub offset_bounds-l-i : goal.offset_bounds-l-i
-offset_bounds-l-i c = omega (arith, c.requires.few)
-
-pub bounds-l-i : goal.bounds-l-i
-bounds-l-i c = omega (arith, c.requires.few)
-
 pub shown_entry-requires : goal.shown_entry-requires
 shown_entry-requires c =
     let p = c.requires in
     (p.lon c.loop-i.i c.loop-i-test.true, p.lat c.loop-i.i c.loop-i-test.true)
-
-pub offset_bounds-entries-i : goal.offset_bounds-entries-i
-offset_bounds-entries-i c = omega (arith, c.requires.few)
-
-pub bounds-entries-i : goal.bounds-entries-i
-bounds-entries-i c = omega (arith, c.requires.few)
-
-pub overflow_add-i : goal.overflow_add-i
-overflow_add-i c = omega (arith, c.requires.few)
-
-pub loop-i-smaller : goal.loop-i-smaller
-loop-i-smaller c = omega arith
 
 pub loop-i-preserved : goal.loop-i-preserved
 loop-i-preserved c =

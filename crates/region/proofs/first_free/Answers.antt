@@ -1,5 +1,4 @@
 -- `region::first_free` meets its contract. The loop's invariant: rectangles hold all of the rows from south up to below y.
-use Prim.Native.Nat.{ℕ, ◌≤◌}
 use Prim.Native.Nat.{ℕ, ◌≤◌, ◌<◌}
 use mathlib.Core.Path.{◌≡◌, sym, subst}
 use mathlib.Core.Bool.{Bool, false}
