@@ -12,5 +12,4 @@ use Rattle.capi.proofs.list_numbers.Goals as goal
 pub returns : goal.returns
 returns c =
     let r = c.args.list in
-    let count = told c.as_stored.type-inv c.as_stored.ensures in
-    list_stored r (replicate list_words (pos 0)) _ _ _ refl (λ i. count i ∷ []) c.store_numbers.ensures c.store_entries.ensures
+    list_stored r (replicate list_words (pos 0)) _ _ _ refl ? c.store_numbers.ensures c.store_entries.ensures
