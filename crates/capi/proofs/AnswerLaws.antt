@@ -36,6 +36,7 @@ use Rattle.lookup.specs.declared.Answer.{Answer as Found}
 use Rattle.lookup.specs.Answer.{answer_record, stored_record}
 use Rattle.lookup.specs.Lookup.{looked}
 use Rattle.lookup.proofs.AnswerLaws.{answer_stored}
+use Rattle.exercise.specs.Exercise.{many_verdict, results_after}
 use Rattle.screen.specs.declared.ScreenAnswer.{ScreenAnswer}
 use Rattle.screen.specs.declared.ScreenRecord.{ScreenRecord}
 use Rattle.screen.specs.Screen.{screen_refusal, shifts_of, answer_of, record_of}
@@ -46,7 +47,7 @@ use Rattle.logs.specs.Writing.{line_written, line_after}
 use Rattle.numbers.specs.Order.{count_of}
 use Rattle.abi.specs.Abi.{group_of_words, numbers_of, count_at, number_at, stored, joined}
 use Rattle.abi.proofs.ListLaws.{sets_append, sets_whole, length_joined}
-use Rattle.capi.specs.Answers.{left, judge_answer, read_of, read_answer, fix_numbers, found_answer, point_of, lookup_answer, area_of, hole_numbers, hole_left, hole_answer, lent_text, written_answer, write_answer, fault_numbers, judgement_answer, log_answer, line_answer, loaded_by, load_answer}
+use Rattle.capi.specs.Answers.{left, judge_answer, read_of, read_answer, fix_numbers, found_answer, point_of, lookup_answer, many_answer, area_of, hole_numbers, hole_left, hole_answer, lent_text, written_answer, write_answer, fault_numbers, judgement_answer, log_answer, line_answer, loaded_by, load_answer}
 use Rattle.capi.specs.InForce.{entries_from, entry_words, list_words, stored_entry, stored_list, list_answer, in_force_answer}
 use Rattle.capi.proofs.SmallLaws.{in_force_stored}
 use Rattle.capi.specs.Screen.{lookup_of, shown_of, shifts_answer, record_floats, record_answer}
@@ -77,6 +78,12 @@ module _ (l : List ℤ) where
   unfolding lookup_answer
   lookup_told nodes lon lat day x y d f a ex ey ed e b =
       ap found_answer (b ∙ answer_stored g nodes (point_of x y) d f e ∙ ap answer_record (e ∙ (λ i. looked g nodes (point_of (ex i) (ey i)) (ed i))))
+
+  pub many_told : (nodes : List ℤ) (points : List Position) (results after : List Found) (v : Verdict) (r : Refusal)
+      → v ≡ many_verdict g (length nodes) (eqb (length points) (length results)) → after ≡ results_after g nodes points results
+      → r ≡ verdict_refusal v → left r.number r.place after ≡ many_answer l nodes points results
+  unfolding many_answer
+  many_told nodes points results after v r a b c = λ i. record { refusal = (c ∙ ap verdict_refusal a) i; lent = b i }
 
   pub in_force_told : (area t : Area) (f : InForce) (r : Refusal) (ns : List ℤ) → t ≡ area → f ≡ in_force_of g t → r ≡ verdict_refusal f.verdict
       → ns ≡ stored_list f → left r.number r.place ns ≡ in_force_answer l area

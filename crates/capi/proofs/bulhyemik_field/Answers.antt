@@ -5,13 +5,11 @@ use mathlib.Core.List.{[], ◌∷◌}
 use lib.ListN.{drop}
 use Rattle.text.specs.Parts.{up_to}
 use Rattle.capi.specs.Answers.{field_part}
-use borrow.Author.Rules.{rules}
 use Rattle.capi.proofs.bulhyemik_field.Goals as goal
 
 pub returns : goal.returns
 unfolding field_part
 returns c =
-    let s = c.args in
     let from = c.part_start-from.ensures in
-    let to = c.find_from-to.ensures ∙ ap (λ (a : ℕ). a + up_to 9 (drop a s.line.now)) from in
+    let to = c.find_from-to.ensures ∙ ap (λ (a : ℕ). a + up_to 9 (drop a c.args.line.now)) from in
     λ i. from i ∷ to i ∷ []

@@ -2,12 +2,10 @@
 use mathlib.Core.Path.{◌∙◌}
 use mir.Facts.{to_z-of_z}
 use Rattle.capi.proofs.AnswerLaws.{same_area, in_force_told}
-use borrow.Author.Rules.{rules}
 use Rattle.capi.proofs.bulhyemik_grids_in_force.Goals as goal
 
 pub returns : goal.returns
 returns c =
-    let s = c in
     let f = c.ranges in
     let area = c.area_of.ensures ∙ same_area (to_z-of_z f.west) (to_z-of_z f.east) (to_z-of_z f.south) (to_z-of_z f.north) in
     in_force_told c.args.group.now _ _ _ _ _ area c.force_words-found.ensures c.verdict_refusal-refusal.ensures c.list_numbers-numbers.ensures

@@ -2,12 +2,10 @@
 use mathlib.Core.Path.{◌∙◌}
 use mir.Facts.{to_z-of_z}
 use Rattle.capi.proofs.AnswerLaws.{same_area, hole_told}
-use borrow.Author.Rules.{rules}
 use Rattle.capi.proofs.bulhyemik_hole.Goals as goal
 
 pub returns : goal.returns
 returns c =
-    let s = c in
     let f = c.ranges in
     let area = c.area_of.ensures ∙ same_area (to_z-of_z f.west) (to_z-of_z f.east) (to_z-of_z f.south) (to_z-of_z f.north) in
     hole_told c.args.group.now _ _ _ _ _ area c.hole_words-hole.ensures c.verdict_refusal-refusal.ensures c.hole_numbers-numbers.ensures

@@ -1,6 +1,5 @@
 -- `bulhyemik_judge_log` meets its contract.
 use Rattle.capi.proofs.AnswerLaws.{log_told}
-use borrow.Author.Rules.{rules}
 use Rattle.capi.proofs.bulhyemik_judge_log.Goals as goal
 
 pub returns : goal.returns

@@ -1,6 +1,5 @@
 -- `bulhyemik_read_header` meets its contract.
 use Rattle.capi.proofs.AnswerLaws.{read_accepted, read_refused}
-use borrow.Author.Rules.{rules}
 use Rattle.capi.proofs.bulhyemik_read_header.Goals as goal
 
 pub returns-in-Accepted : goal.returns-in-Accepted
@@ -10,7 +9,5 @@ returns-in-Accepted c =
 
 pub returns-in-Refused : goal.returns-in-Refused
 returns-in-Refused c =
-    let known = c in
-    let read = c in
-    let a = c.args in
-    read_refused a.text.now a.group.now _ c.read_header-reading.ensures _ c.in-Refused.is
+    let s = c.args in
+    read_refused s.text.now s.group.now _ c.read_header-reading.ensures _ c.in-Refused.is

@@ -1,10 +1,9 @@
 -- `bulhyemik_write_header` meets its contract.
 use Rattle.capi.proofs.AnswerLaws.{write_told}
-use borrow.Author.Rules.{rules}
 use Rattle.capi.proofs.bulhyemik_write_header.Goals as goal
 
 pub returns : goal.returns
 returns c =
     let s = c.args in
     let w = c.write_words-w.ensures in
-    write_told s.group.now s.out.now _ _ _ _ w.0 w.1 c.written_refusal-refusal.ensures c.written_count.ensures
+    write_told s.group.now s.out.now _ _ _ _ w.answer w.bytes c.written_refusal-refusal.ensures c.written_count.ensures
