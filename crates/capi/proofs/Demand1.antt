@@ -18,7 +18,6 @@ use Rattle.header.specs.declared.Written.TheVariants as W
 use Rattle.header.specs.Whole.{header_text}
 use Rattle.header.specs.Header.{read_header, written, written_refusal, written_count, bytes_after}
 use Rattle.header.proofs.TableLaws.{read_told, written_told}
-use Rattle.fix.specs.declared.Fix.{Fix}
 use Rattle.fix.specs.declared.Lookup.{Lookup}
 use Rattle.fix.specs.declared.Lookup.TheVariants as L
 use Rattle.fix.specs.Answers.{lookup_refusal}

@@ -1,15 +1,13 @@
 -- Order 4 holds of what the C functions leave.
 use Prim.Native.Nat.{ℕ, suc}
-use mathlib.Core.Path.{◌≡◌, refl, sym, ◌∙◌, ap}
+use mathlib.Core.Path.{◌≡◌, ap}
 use mathlib.Core.List.{List, [], ◌∷◌}
 use lib.IntN.{ℤ}
 use lib.ListN.{get_or}
-use Rattle.group.specs.declared.Group.{Group}
 use Rattle.abi.specs.Abi.{group_of_words}
 use Rattle.logs.specs.declared.Fault.{Fault}
 use Rattle.logs.specs.Line.{position_of}
-use Rattle.logs.specs.Log.{fault, no_fault}
-use Rattle.logs.specs.Order4.{LogJudged}
+use Rattle.logs.specs.Log.{fault}
 use Rattle.logs.proofs.Order4.{log_judged_lem, line_written_lem, own_lines}
 use Rattle.capi.specs.Answers.{fault_numbers, log_answer, line_answer}
 use Rattle.capi.specs.Order4.{JudgesLines, OwnLinesPass}
