@@ -1,4 +1,4 @@
--- What the walks by hand share: the type of a group's numbers, and a local whose address is taken, as a value that lies in memory, and back.
+-- The type of a group's numbers; and a local whose address is taken, as a value that lies in memory, and back.
 use Prim.Native.Nat.{ℕ}
 use mathlib.Core.Path.{refl}
 use mathlib.Core.List.{List, [], ◌∷◌}

@@ -12,7 +12,7 @@ abbrev pub all_name_bytes : List ℕ → Bool
 all_name_bytes [] = true
 all_name_bytes (x ∷ xs) = name_byte x && all_name_bytes xs
 
--- 1 to nameMost bytes that may stand in a name
+-- 1 to name_most bytes that may stand in a name
 unfoldable pub is_name : List ℕ → Bool
 is_name f = leb 1 (length f) && leb (length f) name_most && all_name_bytes f
 

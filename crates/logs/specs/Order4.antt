@@ -166,7 +166,7 @@ pub record LineWritten (g : Group) (nodes : List ℤ) (p : Position) (out : List
       → drop (written_count (line_written g nodes p (length out))) (line_after g nodes p out)
       ≡ drop (written_count (line_written g nodes p (length out))) out
   pub unchanged : (written_refusal (line_written g nodes p (length out)) ≡ no_refusal → ⊥) → line_after g nodes p out ≡ out
-  -- no line is longer than lineMost, so that such an output is never too short
+  -- no line is longer than line_most, so that such an output is never too short
   pub most : written_count (line_written g nodes p (length out)) ≤ line_most
   pub enough : line_most ≤ length out → written_refusal (line_written g nodes p (length out)) ≡ lookup_refusal (looked g nodes (point_at p) p.day)
 

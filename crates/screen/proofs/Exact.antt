@@ -82,7 +82,7 @@ like true = refl
 like false = refl
 
 -- The shift of a whole result n has n's sign and the exact size |n| / 2^q, for every size up to 2^53. A lookup's results are far below: they
--- are at most resultMost.
+-- are at most result_most.
 pub shift_exact : (n : ℤ) (q : ℕ) → nat_abs n ≤ 2 ^ 53 → q ≤ quantum_most → Times (shift_of q n) (2 ^ q) n
 unfolding shift_of
 shift_exact n q h k =
