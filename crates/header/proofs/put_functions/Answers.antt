@@ -9,22 +9,10 @@ use Rattle.header.proofs.put_functions.Goals as goal
 pub loop-k-init : goal.loop-k-init
 loop-k-init c = writes_none function_text c.args.functions c.args.count c.args.at c.args.out.now
 
-pub offset_bounds-functions-i : goal.offset_bounds-functions-i
-offset_bounds-functions-i c = omega (arith, c.requires.0)
-
-pub bounds-functions-i : goal.bounds-functions-i
-bounds-functions-i c = omega (arith, c.requires.0)
-
 pub put_function-next-requires : goal.put_function-next-requires
 put_function-next-requires c =
     let l = c.loop-k in
     writes_room function_text blank_function c.args.functions c.args.count c.args.at c.args.out.now (omega (arith, c.well_formed.0.1.0.1, c.requires.0)) c.requires.1 l.next l.k l.out l.invariant c.loop-k-test.true
-
-pub overflow_add-k : goal.overflow_add-k
-overflow_add-k c = omega arith
-
-pub loop-k-smaller : goal.loop-k-smaller
-loop-k-smaller c = omega arith
 
 pub loop-k-preserved : goal.loop-k-preserved
 loop-k-preserved c =

@@ -9,22 +9,10 @@ use Rattle.header.proofs.put_grids.Goals as goal
 pub loop-k-init : goal.loop-k-init
 loop-k-init c = writes_none grid_text c.args.grids c.args.count c.args.at c.args.out.now
 
-pub offset_bounds-grids-i : goal.offset_bounds-grids-i
-offset_bounds-grids-i c = omega (arith, c.requires.0.most)
-
-pub bounds-grids-i : goal.bounds-grids-i
-bounds-grids-i c = omega (arith, c.requires.0.most)
-
 pub put_grid-next-requires : goal.put_grid-next-requires
 put_grid-next-requires c =
     let l = c.loop-k in
     (c.requires.0.names l.k c.loop-k-test.true, writes_room grid_text no_grid c.args.grids c.args.count c.args.at c.args.out.now (omega (arith, c.well_formed.0.1.0.1, c.requires.0.most)) c.requires.1 l.next l.k l.out l.invariant c.loop-k-test.true)
-
-pub overflow_add-k : goal.overflow_add-k
-overflow_add-k c = omega arith
-
-pub loop-k-smaller : goal.loop-k-smaller
-loop-k-smaller c = omega arith
 
 pub loop-k-preserved : goal.loop-k-preserved
 loop-k-preserved c =

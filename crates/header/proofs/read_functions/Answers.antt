@@ -14,9 +14,6 @@ loop-k-init c =
     let s = c.args in
     loop_enters function_line functions_most blank_function s.count 2 s.text.now s.at _ c.blank_functions-functions.ensures c.requires.0
 
-pub overflow_add-k : goal.overflow_add-k
-overflow_add-k c = omega (arith, c.loop-k.invariant.bound, c.requires)
-
 pub returns-then-e-text : goal.returns-then-e-text
 returns-then-e-text c =
     let s = c.args in
@@ -25,9 +22,6 @@ returns-then-e-text c =
     loop_stops function_line functions_most blank_function s.count 2 s.text.now s.at _ _ _ _
     (loop_unclosed function_line functions_most blank_function s.count 2 s.text.now s.at _ _ _ l.invariant _ c.find_from-e.ensures c.loop-k-test.true c.if-e-text.true)
     (ap (λ (a : FunctionsRead). a.verdict) q) (ap (λ (a : FunctionsRead). a.functions) q) (ap (λ (a : FunctionsRead). a.next) q)
-
-pub overflow_add-k-in-loop-k : goal.overflow_add-k-in-loop-k
-overflow_add-k-in-loop-k c = omega (arith, c.loop-k.invariant.bound, c.requires)
 
 pub slice_bounds-function_line-end : goal.slice_bounds-function_line-end
 slice_bounds-function_line-end c =
@@ -43,12 +37,6 @@ returns-in-Refused c =
     (loop_refuses function_line functions_most blank_function s.count 2 s.text.now s.at _ _ _ l.invariant _ c.find_from-e.ensures c.loop-k-test.true c.if-e-text.false _
     (function_refused _ _ _ c.function_line-read.ensures c.in-Refused.is))
     (ap (λ (a : FunctionsRead). a.verdict) q) (ap (λ (a : FunctionsRead). a.functions) q) (ap (λ (a : FunctionsRead). a.next) q)
-
-pub offset_bounds-functions-i : goal.offset_bounds-functions-i
-offset_bounds-functions-i c = omega (arith, c.loop-k.invariant.bound, c.requires)
-
-pub bounds-functions-i : goal.bounds-functions-i
-bounds-functions-i c = omega (arith, c.loop-k.invariant.bound, c.requires)
 
 pub overflow_add-next : goal.overflow_add-next
 overflow_add-next c =

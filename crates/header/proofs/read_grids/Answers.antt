@@ -14,9 +14,6 @@ loop-k-init c =
     let s = c.args in
     loop_enters grid_line grids_most blank_grid s.count s.first s.text.now s.at _ c.blank_grids-grids.ensures c.requires.0
 
-pub overflow_add-first : goal.overflow_add-first
-overflow_add-first c = omega (arith, c.loop-k.invariant.bound, c.requires)
-
 pub returns-then-e-text : goal.returns-then-e-text
 returns-then-e-text c =
     let s = c.args in
@@ -25,9 +22,6 @@ returns-then-e-text c =
     loop_stops grid_line grids_most blank_grid s.count s.first s.text.now s.at _ _ _ _
     (loop_unclosed grid_line grids_most blank_grid s.count s.first s.text.now s.at _ _ _ l.invariant _ c.find_from-e.ensures c.loop-k-test.true c.if-e-text.true)
     (ap (λ (a : GridsRead). a.verdict) q) (ap (λ (a : GridsRead). a.grids) q) (ap (λ (a : GridsRead). a.next) q)
-
-pub overflow_add-first-in-loop-k : goal.overflow_add-first-in-loop-k
-overflow_add-first-in-loop-k c = omega (arith, c.loop-k.invariant.bound, c.requires)
 
 pub slice_bounds-grid_line-end : goal.slice_bounds-grid_line-end
 slice_bounds-grid_line-end c =
@@ -43,12 +37,6 @@ returns-in-Refused c =
     (loop_refuses grid_line grids_most blank_grid s.count s.first s.text.now s.at _ _ _ l.invariant _ c.find_from-e.ensures c.loop-k-test.true c.if-e-text.false _
     (grid_refused _ _ _ c.grid_line-read.ensures c.in-Refused.is))
     (ap (λ (a : GridsRead). a.verdict) q) (ap (λ (a : GridsRead). a.grids) q) (ap (λ (a : GridsRead). a.next) q)
-
-pub offset_bounds-grids-i : goal.offset_bounds-grids-i
-offset_bounds-grids-i c = omega (arith, c.loop-k.invariant.bound, c.requires)
-
-pub bounds-grids-i : goal.bounds-grids-i
-bounds-grids-i c = omega (arith, c.loop-k.invariant.bound, c.requires)
 
 pub overflow_add-next : goal.overflow_add-next
 overflow_add-next c =

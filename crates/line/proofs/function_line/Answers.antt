@@ -31,7 +31,7 @@ cut_field-word-requires c = (omega arith, c.cut_fields-count.ensures.cuts 0 (som
 pub returns-then-same_bytes : goal.returns-then-same_bytes
 returns-then-same_bytes c =
     let tested₁ : same (get_or (split 9 c.args.line.now) 0 []) ramp_keyword ≡ c.same_bytes.result = keyword_told ramp_keyword c.args.line.now _ _ c.same_bytes.ensures c.cut_field-word.ensures in
-    let d = c in let a = c.args in
+    let a = c.args in
     c.ramp_line.ensures ∙ sym (ap function_answer (keyed_hit ramp_keyword (shape_fields 4 ramp_of a.n) (no_ramp a.n) a.line.now (tested₁ ∙ c.if-same_bytes.true)))
 
 pub returns-then-same_bytes-2 : goal.returns-then-same_bytes-2
@@ -39,7 +39,7 @@ returns-then-same_bytes-2 c =
     let tested₁ : same (get_or (split 9 c.args.line.now) 0 []) ramp_keyword ≡ c.same_bytes.result = keyword_told ramp_keyword c.args.line.now _ _ c.same_bytes.ensures c.cut_field-word.ensures in
     let missed₁ : function_line c.args.n c.args.line.now ≡ no_ramp c.args.n (split 9 c.args.line.now) = let a = c.args in keyed_miss ramp_keyword (shape_fields 4 ramp_of a.n) (no_ramp a.n) (split 9 a.line.now) (tested₁ ∙ c.if-same_bytes.false) in
     let tested₂ : same (get_or (split 9 c.args.line.now) 0 []) step_keyword ≡ c.same_bytes-2.result = keyword_told step_keyword c.args.line.now _ _ c.same_bytes-2.ensures c.cut_field-word.ensures in
-    let d = c in let a = c.args in
+    let a = c.args in
     c.step_line.ensures
     ∙ sym (ap function_answer (missed₁ ∙ keyed_hit step_keyword (shape_fields 3 step_of a.n) (no_step a.n) a.line.now (tested₂ ∙ c.if-same_bytes-2.true)))
 
@@ -50,7 +50,7 @@ returns-then-same_bytes-3 c =
     let tested₂ : same (get_or (split 9 c.args.line.now) 0 []) step_keyword ≡ c.same_bytes-2.result = keyword_told step_keyword c.args.line.now _ _ c.same_bytes-2.ensures c.cut_field-word.ensures in
     let missed₂ : function_line c.args.n c.args.line.now ≡ no_step c.args.n (split 9 c.args.line.now) = let a = c.args in missed₁ ∙ keyed_miss step_keyword (shape_fields 3 step_of a.n) (no_step a.n) (split 9 a.line.now) (tested₂ ∙ c.if-same_bytes-2.false) in
     let tested₃ : same (get_or (split 9 c.args.line.now) 0 []) ramp2_keyword ≡ c.same_bytes-3.result = keyword_told ramp2_keyword c.args.line.now _ _ c.same_bytes-3.ensures c.cut_field-word.ensures in
-    let d = c in let a = c.args in
+    let a = c.args in
     c.ramp2_line.ensures
     ∙ sym (ap function_answer (missed₂ ∙ keyed_hit ramp2_keyword (shape_fields 4 ramp2_of a.n) (λ fs. bad (refusal 1 a.n)) a.line.now (tested₃ ∙ c.if-same_bytes-3.true)))
 
@@ -61,6 +61,6 @@ returns c =
     let tested₂ : same (get_or (split 9 c.args.line.now) 0 []) step_keyword ≡ c.same_bytes-2.result = keyword_told step_keyword c.args.line.now _ _ c.same_bytes-2.ensures c.cut_field-word.ensures in
     let missed₂ : function_line c.args.n c.args.line.now ≡ no_step c.args.n (split 9 c.args.line.now) = let a = c.args in missed₁ ∙ keyed_miss step_keyword (shape_fields 3 step_of a.n) (no_step a.n) (split 9 a.line.now) (tested₂ ∙ c.if-same_bytes-2.false) in
     let tested₃ : same (get_or (split 9 c.args.line.now) 0 []) ramp2_keyword ≡ c.same_bytes-3.result = keyword_told ramp2_keyword c.args.line.now _ _ c.same_bytes-3.ensures c.cut_field-word.ensures in
-    let d = c in let a = c.args in
+    let a = c.args in
     c.refused_function.ensures
     ∙ sym (ap function_answer (missed₂ ∙ keyed_miss ramp2_keyword (shape_fields 4 ramp2_of a.n) (λ fs. bad (refusal 1 a.n)) (split 9 a.line.now) (tested₃ ∙ c.if-same_bytes-3.false)))

@@ -73,9 +73,6 @@ module _ (f : List ℕ) (n : ℕ) (m : is_name f ≡ true) (z₁ z₂ z₃ z₄ 
       go true e = ap (λ (g : Grid). grid_answer (good g)) (grid_made (name_of f) z₁ z₂ z₃ z₄ z₅ z₆ z₇ z₈ e)
       go false e = refl
 
-pub cut_as-requires : goal.cut_as-requires
-cut_as-requires c = refl
-
 pub returns-then-not-cut_as : goal.returns-then-not-cut_as
 returns-then-not-cut_as c =
     c.refused_grid.ensures

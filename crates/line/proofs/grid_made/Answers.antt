@@ -6,7 +6,6 @@ use Rattle.line.proofs.grid_made.Goals as goal
 
 pub returns : goal.returns
 returns c =
-    let s = c in
     let e = c.count_of-ni.ensures ∙ ap count_of (to_z-of_z c.ranges.e) in
     let f = c.count_of-nj.ensures ∙ ap count_of (to_z-of_z c.ranges.f) in
     let g = c.count_of-rank.ensures ∙ ap count_of (to_z-of_z c.ranges.g) in

@@ -83,9 +83,6 @@ module _ (line : List ℕ) (r : Bool) (e : r ≡ (same (field_of line 0) group_k
           ∙ ap (λ (t : Bool). cond t (good (head_of (name_of (field_of line 1), u) (bits z₁ ∷ bits z₂ ∷ bits z₃ ∷ bits z₄ ∷ []))) (bad (refusal 2 1))) (fits ∙ f)
           ∙ ap good (sym (head_made (bits z₁) (bits z₂) (bits z₃) (bits z₄) (name_of (field_of line 1)) u (fits ∙ f)) ∙ sym made)))
 
-pub cut_as-requires : goal.cut_as-requires
-cut_as-requires c = refl
-
 pub returns-then-not-cut_as : goal.returns-then-not-cut_as
 returns-then-not-cut_as c =
     c.refused_head.ensures

@@ -6,7 +6,6 @@ use Rattle.line.proofs.head_made.Goals as goal
 
 pub returns : goal.returns
 returns c =
-    let s = c in
     let a = c.count_of-quantum.ensures ∙ ap count_of (to_z-of_z c.ranges.a) in
     let b = c.count_of-parameters.ensures ∙ ap count_of (to_z-of_z c.ranges.b) in
     let d = c.count_of-functions.ensures ∙ ap count_of (to_z-of_z c.ranges.c) in

@@ -18,14 +18,14 @@ pub returns-then-count-numbers : goal.returns-then-count-numbers
 returns-then-count-numbers c =
     let n : ℕ = length c.args.numbers.now in
     let fs : List (List ℕ) = drop 1 (split 9 c.args.line.now) in
-    let s = c in let d = length-drop 1 (split 9 c.args.line.now) in let m = some_split 9 c.args.line.now in let p = c.requires.1 in let t = c.if-count-numbers.true in
-    count_other (n) (fs) _ (λ e. omega arith)
+    let d = length-drop 1 (split 9 c.args.line.now) in let m = some_split 9 c.args.line.now in let p = c.requires.1 in let t = c.if-count-numbers.true in
+    count_other n fs _ (λ e. omega arith)
 
 pub returns : goal.returns
 returns c =
     let fs : List (List ℕ) = drop 1 (split 9 c.args.line.now) in
     let n : ℕ = length c.args.numbers.now in
-    let s = c in let d = length-drop 1 (split 9 c.args.line.now) in let p = c.requires.1 in let t = c.if-count-numbers.false in
-    let l : length (fs) ≡ n = omega arith in
+    let d = length-drop 1 (split 9 c.args.line.now) in let p = c.requires.1 in let t = c.if-count-numbers.false in
+    let l : length fs ≡ n = omega arith in
     subst (λ (o : Option (List ℤ)). NumbersRead o c.read_numbers.result c.read_numbers.new.numbers)
-    (ap read_ints (take_all (n) (fs) (omega arith)) ∙ count_same (n) (fs) l) c.read_numbers.ensures
+    (ap read_ints (take_all n fs (omega arith)) ∙ count_same n fs l) c.read_numbers.ensures

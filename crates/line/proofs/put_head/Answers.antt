@@ -1,99 +1,98 @@
 -- `line::put_head` meets its contract.
-use Prim.Native.Nat.{ℕ}
+use Prim.Native.Nat.{ℕ, ◌+◌, ◌≤◌}
 use mathlib.Core.List.{List, [], ◌∷◌, ◌++◌, map}
 use native.Mathlib.Omega.{arith}
-use lib.ListN.{drop}
+use lib.ListN.{length, drop}
 use lib.IntN.{pos}
 use Rattle.text.specs.Decimal.{int_text}
+use Rattle.text.specs.Wrote.{Wrote}
 use Rattle.text.proofs.PutLaws.{Left, left_all, left_none, left_room, left_more, pieces, line_pieces}
 use Rattle.line.specs.Names.{name_text, unit_text}
 use Rattle.line.specs.Lines.{group_keyword, head_ints, head_text}
 use Rattle.line.specs.declared.Head.{Head}
 use Rattle.line.proofs.put_head.Goals as goal
 
--- the pieces of a line from number k on
+-- the pieces of the line from number k on, from the unit on, and from the name on
 abbrev numbers : ℕ → Head → List ℕ
 numbers k h = pieces (map int_text (drop k (head_ints h))) (10 ∷ [])
 
+abbrev from_unit : Head → List ℕ
+from_unit h = pieces (unit_text h.unit ∷ map int_text (head_ints h)) (10 ∷ [])
+
+abbrev from_name : Head → List ℕ
+from_name h = pieces (name_text h.name ∷ unit_text h.unit ∷ map int_text (head_ints h)) (10 ∷ [])
+
+-- what is left of the line behind the word
+left₁ : {at p : ℕ} {out m : List ℕ} (h : Head) → at + length (head_text h ++ (10 ∷ [])) ≤ length out → Wrote at group_keyword out p m
+    → Left at (head_text h ++ (10 ∷ [])) out (from_name h) p m
+left₁ {at} {p} {out} {m} h room w =
+    left_more group_keyword (from_name h)
+    (left_all at (head_text h ++ (10 ∷ [])) out _ (line_pieces group_keyword (name_text h.name ∷ unit_text h.unit ∷ map int_text (head_ints h)) (10 ∷ [])) room) w
+
+-- and behind each piece, by what was left in front of it
+module _ {at p q : ℕ} {text out m n : List ℕ} (h : Head) where
+  left₂ : Left at text out (from_name h) p m → Wrote p (9 ∷ name_text h.name) m q n → Left at text out (from_unit h) q n
+  left₂ l w = left_more (9 ∷ name_text h.name) (from_unit h) l w
+
+  left₃ : Left at text out (from_unit h) p m → Wrote p (9 ∷ unit_text h.unit) m q n → Left at text out (numbers 0 h) q n
+  left₃ l w = left_more (9 ∷ unit_text h.unit) (numbers 0 h) l w
+
+  left₄ : Left at text out (numbers 0 h) p m → Wrote p (9 ∷ int_text (pos h.quantum)) m q n → Left at text out (numbers 1 h) q n
+  left₄ l w = left_more (9 ∷ int_text (pos h.quantum)) (numbers 1 h) l w
+
+  left₅ : Left at text out (numbers 1 h) p m → Wrote p (9 ∷ int_text (pos h.parameters)) m q n → Left at text out (numbers 2 h) q n
+  left₅ l w = left_more (9 ∷ int_text (pos h.parameters)) (numbers 2 h) l w
+
+  left₆ : Left at text out (numbers 2 h) p m → Wrote p (9 ∷ int_text (pos h.functions)) m q n → Left at text out (numbers 3 h) q n
+  left₆ l w = left_more (9 ∷ int_text (pos h.functions)) (numbers 3 h) l w
+
+  left₇ : Left at text out (numbers 3 h) p m → Wrote p (9 ∷ int_text (pos h.grids)) m q n → Left at text out (numbers 4 h) q n
+  left₇ l w = left_more (9 ∷ int_text (pos h.grids)) (numbers 4 h) l w
+
 pub put_name-q-requires : goal.put_name-q-requires
 put_name-q-requires c =
-    let Rest : List ℕ → ℕ → List ℕ → Type 0 = Left c.args.at (head_text c.args.head ++ (10 ∷ [])) c.args.out.now in
-    let left₀ : Rest (group_keyword ++ pieces (name_text c.args.head.name ∷ unit_text c.args.head.unit ∷ map int_text (head_ints c.args.head)) (10 ∷ [])) c.args.at c.args.out.now = left_all c.args.at (head_text c.args.head ++ (10 ∷ [])) c.args.out.now _ (line_pieces group_keyword (name_text c.args.head.name ∷ unit_text c.args.head.unit ∷ map int_text (head_ints c.args.head)) (10 ∷ [])) c.requires.1 in
-    let left₁ : Rest (pieces (name_text c.args.head.name ∷ unit_text c.args.head.unit ∷ map int_text (head_ints c.args.head)) (10 ∷ [])) c.put_bytes-p.result c.put_bytes-p.new.out = left_more group_keyword (pieces (name_text c.args.head.name ∷ unit_text c.args.head.unit ∷ map int_text (head_ints c.args.head)) (10 ∷ [])) left₀ c.put_bytes-p.ensures in
-    (c.requires.0, left_room (9 ∷ name_text c.args.head.name) (pieces (unit_text c.args.head.unit ∷ map int_text (head_ints c.args.head)) (10 ∷ [])) left₁)
+    let h = c.args.head in
+    (c.requires.0, left_room (9 ∷ name_text h.name) (from_unit h) (left₁ h c.requires.1 c.put_bytes-p.ensures))
 
 pub put_unit-r-requires : goal.put_unit-r-requires
 put_unit-r-requires c =
-    let Rest : List ℕ → ℕ → List ℕ → Type 0 = Left c.args.at (head_text c.args.head ++ (10 ∷ [])) c.args.out.now in
-    let left₀ : Rest (group_keyword ++ pieces (name_text c.args.head.name ∷ unit_text c.args.head.unit ∷ map int_text (head_ints c.args.head)) (10 ∷ [])) c.args.at c.args.out.now = left_all c.args.at (head_text c.args.head ++ (10 ∷ [])) c.args.out.now _ (line_pieces group_keyword (name_text c.args.head.name ∷ unit_text c.args.head.unit ∷ map int_text (head_ints c.args.head)) (10 ∷ [])) c.requires.1 in
-    let left₁ : Rest (pieces (name_text c.args.head.name ∷ unit_text c.args.head.unit ∷ map int_text (head_ints c.args.head)) (10 ∷ [])) c.put_bytes-p.result c.put_bytes-p.new.out = left_more group_keyword (pieces (name_text c.args.head.name ∷ unit_text c.args.head.unit ∷ map int_text (head_ints c.args.head)) (10 ∷ [])) left₀ c.put_bytes-p.ensures in
-    let left₂ : Rest (pieces (unit_text c.args.head.unit ∷ map int_text (head_ints c.args.head)) (10 ∷ [])) c.put_name-q.result c.put_name-q.new.out = left_more (9 ∷ name_text c.args.head.name) (pieces (unit_text c.args.head.unit ∷ map int_text (head_ints c.args.head)) (10 ∷ [])) left₁ c.put_name-q.ensures in
-    left_room (9 ∷ unit_text c.args.head.unit) (numbers 0 c.args.head) left₂
+    let h = c.args.head in
+    left_room (9 ∷ unit_text h.unit) (numbers 0 h)
+    (left₂ h (left₁ h c.requires.1 c.put_bytes-p.ensures) c.put_name-q.ensures)
 
 pub put_count-s-requires : goal.put_count-s-requires
 put_count-s-requires c =
-    let Rest : List ℕ → ℕ → List ℕ → Type 0 = Left c.args.at (head_text c.args.head ++ (10 ∷ [])) c.args.out.now in
-    let left₀ : Rest (group_keyword ++ pieces (name_text c.args.head.name ∷ unit_text c.args.head.unit ∷ map int_text (head_ints c.args.head)) (10 ∷ [])) c.args.at c.args.out.now = left_all c.args.at (head_text c.args.head ++ (10 ∷ [])) c.args.out.now _ (line_pieces group_keyword (name_text c.args.head.name ∷ unit_text c.args.head.unit ∷ map int_text (head_ints c.args.head)) (10 ∷ [])) c.requires.1 in
-    let left₁ : Rest (pieces (name_text c.args.head.name ∷ unit_text c.args.head.unit ∷ map int_text (head_ints c.args.head)) (10 ∷ [])) c.put_bytes-p.result c.put_bytes-p.new.out = left_more group_keyword (pieces (name_text c.args.head.name ∷ unit_text c.args.head.unit ∷ map int_text (head_ints c.args.head)) (10 ∷ [])) left₀ c.put_bytes-p.ensures in
-    let left₂ : Rest (pieces (unit_text c.args.head.unit ∷ map int_text (head_ints c.args.head)) (10 ∷ [])) c.put_name-q.result c.put_name-q.new.out = left_more (9 ∷ name_text c.args.head.name) (pieces (unit_text c.args.head.unit ∷ map int_text (head_ints c.args.head)) (10 ∷ [])) left₁ c.put_name-q.ensures in
-    let left₃ : Rest (numbers 0 c.args.head) c.put_unit-r.result c.put_unit-r.new.out = left_more (9 ∷ unit_text c.args.head.unit) (numbers 0 c.args.head) left₂ c.put_unit-r.ensures in
-    left_room (9 ∷ int_text (pos c.args.head.quantum)) (numbers 1 c.args.head) left₃
+    let h = c.args.head in
+    left_room (9 ∷ int_text (pos h.quantum)) (numbers 1 h)
+    (left₃ h (left₂ h (left₁ h c.requires.1 c.put_bytes-p.ensures) c.put_name-q.ensures) c.put_unit-r.ensures)
 
 pub put_count-t-requires : goal.put_count-t-requires
 put_count-t-requires c =
-    let Rest : List ℕ → ℕ → List ℕ → Type 0 = Left c.args.at (head_text c.args.head ++ (10 ∷ [])) c.args.out.now in
-    let left₀ : Rest (group_keyword ++ pieces (name_text c.args.head.name ∷ unit_text c.args.head.unit ∷ map int_text (head_ints c.args.head)) (10 ∷ [])) c.args.at c.args.out.now = left_all c.args.at (head_text c.args.head ++ (10 ∷ [])) c.args.out.now _ (line_pieces group_keyword (name_text c.args.head.name ∷ unit_text c.args.head.unit ∷ map int_text (head_ints c.args.head)) (10 ∷ [])) c.requires.1 in
-    let left₁ : Rest (pieces (name_text c.args.head.name ∷ unit_text c.args.head.unit ∷ map int_text (head_ints c.args.head)) (10 ∷ [])) c.put_bytes-p.result c.put_bytes-p.new.out = left_more group_keyword (pieces (name_text c.args.head.name ∷ unit_text c.args.head.unit ∷ map int_text (head_ints c.args.head)) (10 ∷ [])) left₀ c.put_bytes-p.ensures in
-    let left₂ : Rest (pieces (unit_text c.args.head.unit ∷ map int_text (head_ints c.args.head)) (10 ∷ [])) c.put_name-q.result c.put_name-q.new.out = left_more (9 ∷ name_text c.args.head.name) (pieces (unit_text c.args.head.unit ∷ map int_text (head_ints c.args.head)) (10 ∷ [])) left₁ c.put_name-q.ensures in
-    let left₃ : Rest (numbers 0 c.args.head) c.put_unit-r.result c.put_unit-r.new.out = left_more (9 ∷ unit_text c.args.head.unit) (numbers 0 c.args.head) left₂ c.put_unit-r.ensures in
-    let left₄ : Rest (numbers 1 c.args.head) c.put_count-s.result c.put_count-s.new.out = left_more (9 ∷ int_text (pos c.args.head.quantum)) (numbers 1 c.args.head) left₃ c.put_count-s.ensures in
-    left_room (9 ∷ int_text (pos c.args.head.parameters)) (numbers 2 c.args.head) left₄
+    let h = c.args.head in
+    left_room (9 ∷ int_text (pos h.parameters)) (numbers 2 h)
+    (left₄ h (left₃ h (left₂ h (left₁ h c.requires.1 c.put_bytes-p.ensures) c.put_name-q.ensures) c.put_unit-r.ensures) c.put_count-s.ensures)
 
 pub put_count-u-requires : goal.put_count-u-requires
 put_count-u-requires c =
-    let Rest : List ℕ → ℕ → List ℕ → Type 0 = Left c.args.at (head_text c.args.head ++ (10 ∷ [])) c.args.out.now in
-    let left₀ : Rest (group_keyword ++ pieces (name_text c.args.head.name ∷ unit_text c.args.head.unit ∷ map int_text (head_ints c.args.head)) (10 ∷ [])) c.args.at c.args.out.now = left_all c.args.at (head_text c.args.head ++ (10 ∷ [])) c.args.out.now _ (line_pieces group_keyword (name_text c.args.head.name ∷ unit_text c.args.head.unit ∷ map int_text (head_ints c.args.head)) (10 ∷ [])) c.requires.1 in
-    let left₁ : Rest (pieces (name_text c.args.head.name ∷ unit_text c.args.head.unit ∷ map int_text (head_ints c.args.head)) (10 ∷ [])) c.put_bytes-p.result c.put_bytes-p.new.out = left_more group_keyword (pieces (name_text c.args.head.name ∷ unit_text c.args.head.unit ∷ map int_text (head_ints c.args.head)) (10 ∷ [])) left₀ c.put_bytes-p.ensures in
-    let left₂ : Rest (pieces (unit_text c.args.head.unit ∷ map int_text (head_ints c.args.head)) (10 ∷ [])) c.put_name-q.result c.put_name-q.new.out = left_more (9 ∷ name_text c.args.head.name) (pieces (unit_text c.args.head.unit ∷ map int_text (head_ints c.args.head)) (10 ∷ [])) left₁ c.put_name-q.ensures in
-    let left₃ : Rest (numbers 0 c.args.head) c.put_unit-r.result c.put_unit-r.new.out = left_more (9 ∷ unit_text c.args.head.unit) (numbers 0 c.args.head) left₂ c.put_unit-r.ensures in
-    let left₄ : Rest (numbers 1 c.args.head) c.put_count-s.result c.put_count-s.new.out = left_more (9 ∷ int_text (pos c.args.head.quantum)) (numbers 1 c.args.head) left₃ c.put_count-s.ensures in
-    let left₅ : Rest (numbers 2 c.args.head) c.put_count-t.result c.put_count-t.new.out = left_more (9 ∷ int_text (pos c.args.head.parameters)) (numbers 2 c.args.head) left₄ c.put_count-t.ensures in
-    left_room (9 ∷ int_text (pos c.args.head.functions)) (numbers 3 c.args.head) left₅
+    let h = c.args.head in
+    left_room (9 ∷ int_text (pos h.functions)) (numbers 3 h)
+    (left₅ h (left₄ h (left₃ h (left₂ h (left₁ h c.requires.1 c.put_bytes-p.ensures) c.put_name-q.ensures) c.put_unit-r.ensures) c.put_count-s.ensures) c.put_count-t.ensures)
 
 pub put_count-v-requires : goal.put_count-v-requires
 put_count-v-requires c =
-    let Rest : List ℕ → ℕ → List ℕ → Type 0 = Left c.args.at (head_text c.args.head ++ (10 ∷ [])) c.args.out.now in
-    let left₀ : Rest (group_keyword ++ pieces (name_text c.args.head.name ∷ unit_text c.args.head.unit ∷ map int_text (head_ints c.args.head)) (10 ∷ [])) c.args.at c.args.out.now = left_all c.args.at (head_text c.args.head ++ (10 ∷ [])) c.args.out.now _ (line_pieces group_keyword (name_text c.args.head.name ∷ unit_text c.args.head.unit ∷ map int_text (head_ints c.args.head)) (10 ∷ [])) c.requires.1 in
-    let left₁ : Rest (pieces (name_text c.args.head.name ∷ unit_text c.args.head.unit ∷ map int_text (head_ints c.args.head)) (10 ∷ [])) c.put_bytes-p.result c.put_bytes-p.new.out = left_more group_keyword (pieces (name_text c.args.head.name ∷ unit_text c.args.head.unit ∷ map int_text (head_ints c.args.head)) (10 ∷ [])) left₀ c.put_bytes-p.ensures in
-    let left₂ : Rest (pieces (unit_text c.args.head.unit ∷ map int_text (head_ints c.args.head)) (10 ∷ [])) c.put_name-q.result c.put_name-q.new.out = left_more (9 ∷ name_text c.args.head.name) (pieces (unit_text c.args.head.unit ∷ map int_text (head_ints c.args.head)) (10 ∷ [])) left₁ c.put_name-q.ensures in
-    let left₃ : Rest (numbers 0 c.args.head) c.put_unit-r.result c.put_unit-r.new.out = left_more (9 ∷ unit_text c.args.head.unit) (numbers 0 c.args.head) left₂ c.put_unit-r.ensures in
-    let left₄ : Rest (numbers 1 c.args.head) c.put_count-s.result c.put_count-s.new.out = left_more (9 ∷ int_text (pos c.args.head.quantum)) (numbers 1 c.args.head) left₃ c.put_count-s.ensures in
-    let left₅ : Rest (numbers 2 c.args.head) c.put_count-t.result c.put_count-t.new.out = left_more (9 ∷ int_text (pos c.args.head.parameters)) (numbers 2 c.args.head) left₄ c.put_count-t.ensures in
-    let left₆ : Rest (numbers 3 c.args.head) c.put_count-u.result c.put_count-u.new.out = left_more (9 ∷ int_text (pos c.args.head.functions)) (numbers 3 c.args.head) left₅ c.put_count-u.ensures in
-    left_room (9 ∷ int_text (pos c.args.head.grids)) (numbers 4 c.args.head) left₆
+    let h = c.args.head in
+    left_room (9 ∷ int_text (pos h.grids)) (numbers 4 h)
+    (left₆ h (left₅ h (left₄ h (left₃ h (left₂ h (left₁ h c.requires.1 c.put_bytes-p.ensures) c.put_name-q.ensures) c.put_unit-r.ensures) c.put_count-s.ensures) c.put_count-t.ensures) c.put_count-u.ensures)
 
 pub put_byte-requires : goal.put_byte-requires
 put_byte-requires c =
-    let Rest : List ℕ → ℕ → List ℕ → Type 0 = Left c.args.at (head_text c.args.head ++ (10 ∷ [])) c.args.out.now in
-    let left₀ : Rest (group_keyword ++ pieces (name_text c.args.head.name ∷ unit_text c.args.head.unit ∷ map int_text (head_ints c.args.head)) (10 ∷ [])) c.args.at c.args.out.now = left_all c.args.at (head_text c.args.head ++ (10 ∷ [])) c.args.out.now _ (line_pieces group_keyword (name_text c.args.head.name ∷ unit_text c.args.head.unit ∷ map int_text (head_ints c.args.head)) (10 ∷ [])) c.requires.1 in
-    let left₁ : Rest (pieces (name_text c.args.head.name ∷ unit_text c.args.head.unit ∷ map int_text (head_ints c.args.head)) (10 ∷ [])) c.put_bytes-p.result c.put_bytes-p.new.out = left_more group_keyword (pieces (name_text c.args.head.name ∷ unit_text c.args.head.unit ∷ map int_text (head_ints c.args.head)) (10 ∷ [])) left₀ c.put_bytes-p.ensures in
-    let left₂ : Rest (pieces (unit_text c.args.head.unit ∷ map int_text (head_ints c.args.head)) (10 ∷ [])) c.put_name-q.result c.put_name-q.new.out = left_more (9 ∷ name_text c.args.head.name) (pieces (unit_text c.args.head.unit ∷ map int_text (head_ints c.args.head)) (10 ∷ [])) left₁ c.put_name-q.ensures in
-    let left₃ : Rest (numbers 0 c.args.head) c.put_unit-r.result c.put_unit-r.new.out = left_more (9 ∷ unit_text c.args.head.unit) (numbers 0 c.args.head) left₂ c.put_unit-r.ensures in
-    let left₄ : Rest (numbers 1 c.args.head) c.put_count-s.result c.put_count-s.new.out = left_more (9 ∷ int_text (pos c.args.head.quantum)) (numbers 1 c.args.head) left₃ c.put_count-s.ensures in
-    let left₅ : Rest (numbers 2 c.args.head) c.put_count-t.result c.put_count-t.new.out = left_more (9 ∷ int_text (pos c.args.head.parameters)) (numbers 2 c.args.head) left₄ c.put_count-t.ensures in
-    let left₆ : Rest (numbers 3 c.args.head) c.put_count-u.result c.put_count-u.new.out = left_more (9 ∷ int_text (pos c.args.head.functions)) (numbers 3 c.args.head) left₅ c.put_count-u.ensures in
-    let left₇ : Rest (numbers 4 c.args.head) c.put_count-v.result c.put_count-v.new.out = left_more (9 ∷ int_text (pos c.args.head.grids)) (numbers 4 c.args.head) left₆ c.put_count-v.ensures in
-    let h = left_room (10 ∷ []) [] left₇ in omega arith
+    let h = c.args.head in
+    let room = left_room (10 ∷ []) []
+    (left₇ h (left₆ h (left₅ h (left₄ h (left₃ h (left₂ h (left₁ h c.requires.1 c.put_bytes-p.ensures) c.put_name-q.ensures) c.put_unit-r.ensures) c.put_count-s.ensures) c.put_count-t.ensures) c.put_count-u.ensures) c.put_count-v.ensures) in omega arith
 
 pub returns : goal.returns
 returns c =
-    let Rest : List ℕ → ℕ → List ℕ → Type 0 = Left c.args.at (head_text c.args.head ++ (10 ∷ [])) c.args.out.now in
-    let left₀ : Rest (group_keyword ++ pieces (name_text c.args.head.name ∷ unit_text c.args.head.unit ∷ map int_text (head_ints c.args.head)) (10 ∷ [])) c.args.at c.args.out.now = left_all c.args.at (head_text c.args.head ++ (10 ∷ [])) c.args.out.now _ (line_pieces group_keyword (name_text c.args.head.name ∷ unit_text c.args.head.unit ∷ map int_text (head_ints c.args.head)) (10 ∷ [])) c.requires.1 in
-    let left₁ : Rest (pieces (name_text c.args.head.name ∷ unit_text c.args.head.unit ∷ map int_text (head_ints c.args.head)) (10 ∷ [])) c.put_bytes-p.result c.put_bytes-p.new.out = left_more group_keyword (pieces (name_text c.args.head.name ∷ unit_text c.args.head.unit ∷ map int_text (head_ints c.args.head)) (10 ∷ [])) left₀ c.put_bytes-p.ensures in
-    let left₂ : Rest (pieces (unit_text c.args.head.unit ∷ map int_text (head_ints c.args.head)) (10 ∷ [])) c.put_name-q.result c.put_name-q.new.out = left_more (9 ∷ name_text c.args.head.name) (pieces (unit_text c.args.head.unit ∷ map int_text (head_ints c.args.head)) (10 ∷ [])) left₁ c.put_name-q.ensures in
-    let left₃ : Rest (numbers 0 c.args.head) c.put_unit-r.result c.put_unit-r.new.out = left_more (9 ∷ unit_text c.args.head.unit) (numbers 0 c.args.head) left₂ c.put_unit-r.ensures in
-    let left₄ : Rest (numbers 1 c.args.head) c.put_count-s.result c.put_count-s.new.out = left_more (9 ∷ int_text (pos c.args.head.quantum)) (numbers 1 c.args.head) left₃ c.put_count-s.ensures in
-    let left₅ : Rest (numbers 2 c.args.head) c.put_count-t.result c.put_count-t.new.out = left_more (9 ∷ int_text (pos c.args.head.parameters)) (numbers 2 c.args.head) left₄ c.put_count-t.ensures in
-    let left₆ : Rest (numbers 3 c.args.head) c.put_count-u.result c.put_count-u.new.out = left_more (9 ∷ int_text (pos c.args.head.functions)) (numbers 3 c.args.head) left₅ c.put_count-u.ensures in
-    let left₇ : Rest (numbers 4 c.args.head) c.put_count-v.result c.put_count-v.new.out = left_more (9 ∷ int_text (pos c.args.head.grids)) (numbers 4 c.args.head) left₆ c.put_count-v.ensures in
-    left_none (left_more (10 ∷ []) [] left₇ c.put_byte.ensures)
+    let h = c.args.head in
+    left_none (left_more (10 ∷ []) []
+    (left₇ h (left₆ h (left₅ h (left₄ h (left₃ h (left₂ h (left₁ h c.requires.1 c.put_bytes-p.ensures) c.put_name-q.ensures) c.put_unit-r.ensures) c.put_count-s.ensures) c.put_count-t.ensures) c.put_count-u.ensures) c.put_count-v.ensures)
+    c.put_byte.ensures)

@@ -20,7 +20,7 @@ put_bytes-p-requires c =
     let e : take (length zs) zs ≡ zs = take_all (length zs) zs (omega arith) in
     left_all c.args.at _ c.args.out.now _
     (append_assoc w (led 9 (map int_text zs)) (10 ∷ []) ∙ ap (λ (ys : List ℤ). w ++ (led 9 (map int_text ys) ++ (10 ∷ []))) (sym e)) c.requires in
-    let s = c in left_room c.args.word.now (numbers ++ (10 ∷ [])) (left₀)
+    left_room c.args.word.now (numbers ++ (10 ∷ [])) left₀
 
 pub put_numbers-q-requires : goal.put_numbers-q-requires
 put_numbers-q-requires c =
@@ -31,8 +31,8 @@ put_numbers-q-requires c =
     let e : take (length zs) zs ≡ zs = take_all (length zs) zs (omega arith) in
     left_all c.args.at _ c.args.out.now _
     (append_assoc w (led 9 (map int_text zs)) (10 ∷ []) ∙ ap (λ (ys : List ℤ). w ++ (led 9 (map int_text ys) ++ (10 ∷ []))) (sym e)) c.requires in
-    let left₁ : Rest (numbers ++ (10 ∷ [])) c.put_bytes-p.result c.put_bytes-p.new.out = left_more c.args.word.now (numbers ++ (10 ∷ [])) (left₀) c.put_bytes-p.ensures in
-    let b = c in (omega arith, left_room (numbers) (10 ∷ []) (left₁))
+    let left₁ : Rest (numbers ++ (10 ∷ [])) c.put_bytes-p.result c.put_bytes-p.new.out = left_more c.args.word.now (numbers ++ (10 ∷ [])) left₀ c.put_bytes-p.ensures in
+    (omega arith, left_room numbers (10 ∷ []) left₁)
 
 pub put_byte-requires : goal.put_byte-requires
 put_byte-requires c =
@@ -43,9 +43,9 @@ put_byte-requires c =
     let e : take (length zs) zs ≡ zs = take_all (length zs) zs (omega arith) in
     left_all c.args.at _ c.args.out.now _
     (append_assoc w (led 9 (map int_text zs)) (10 ∷ []) ∙ ap (λ (ys : List ℤ). w ++ (led 9 (map int_text ys) ++ (10 ∷ []))) (sym e)) c.requires in
-    let left₁ : Rest (numbers ++ (10 ∷ [])) c.put_bytes-p.result c.put_bytes-p.new.out = left_more c.args.word.now (numbers ++ (10 ∷ [])) (left₀) c.put_bytes-p.ensures in
-    let left₂ : Rest (10 ∷ []) c.put_numbers-q.result c.put_numbers-q.new.out = left_more (numbers) (10 ∷ []) (left₁) c.put_numbers-q.ensures in
-    let h = left_room (10 ∷ []) [] (left₂) in omega arith
+    let left₁ : Rest (numbers ++ (10 ∷ [])) c.put_bytes-p.result c.put_bytes-p.new.out = left_more c.args.word.now (numbers ++ (10 ∷ [])) left₀ c.put_bytes-p.ensures in
+    let left₂ : Rest (10 ∷ []) c.put_numbers-q.result c.put_numbers-q.new.out = left_more numbers (10 ∷ []) left₁ c.put_numbers-q.ensures in
+    let h = left_room (10 ∷ []) [] left₂ in omega arith
 
 pub returns : goal.returns
 returns c =
@@ -56,6 +56,6 @@ returns c =
     let e : take (length zs) zs ≡ zs = take_all (length zs) zs (omega arith) in
     left_all c.args.at _ c.args.out.now _
     (append_assoc w (led 9 (map int_text zs)) (10 ∷ []) ∙ ap (λ (ys : List ℤ). w ++ (led 9 (map int_text ys) ++ (10 ∷ []))) (sym e)) c.requires in
-    let left₁ : Rest (numbers ++ (10 ∷ [])) c.put_bytes-p.result c.put_bytes-p.new.out = left_more c.args.word.now (numbers ++ (10 ∷ [])) (left₀) c.put_bytes-p.ensures in
-    let left₂ : Rest (10 ∷ []) c.put_numbers-q.result c.put_numbers-q.new.out = left_more (numbers) (10 ∷ []) (left₁) c.put_numbers-q.ensures in
-    left_none (left_more (10 ∷ []) [] (left₂) c.put_byte.ensures)
+    let left₁ : Rest (numbers ++ (10 ∷ [])) c.put_bytes-p.result c.put_bytes-p.new.out = left_more c.args.word.now (numbers ++ (10 ∷ [])) left₀ c.put_bytes-p.ensures in
+    let left₂ : Rest (10 ∷ []) c.put_numbers-q.result c.put_numbers-q.new.out = left_more numbers (10 ∷ []) left₁ c.put_numbers-q.ensures in
+    left_none (left_more (10 ∷ []) [] left₂ c.put_byte.ensures)

@@ -28,30 +28,18 @@ module _ {zs : List ℤ} {n at : ℕ} {out : List ℕ} {next k : ℕ} {bytes : L
 
 pub loop-k-init : goal.loop-k-init
 loop-k-init c =
-    let s = c in let t = text (take c.args.n c.args.numbers.now) in
+    let t = text (take c.args.n c.args.numbers.now) in
     record { bound = omega arith; left = left_all c.args.at t c.args.out.now t refl c.requires.1 }
-
-pub offset_bounds-numbers-k : goal.offset_bounds-numbers-k
-offset_bounds-numbers-k c = omega (arith, c.requires.0)
-
-pub bounds-numbers-k : goal.bounds-numbers-k
-bounds-numbers-k c = omega (arith, c.requires.0)
 
 pub put_number-next-requires : goal.put_number-next-requires
 put_number-next-requires c =
-    let s = c in let l = c.loop-k in
+    let l = c.loop-k in
     int_room (get_or c.args.numbers.now l.k (pos 0)) _ (search rules)
     (left_number c.requires.0 l.invariant c.loop-k-test.true)
 
-pub overflow_add-k : goal.overflow_add-k
-overflow_add-k c = omega arith
-
-pub loop-k-smaller : goal.loop-k-smaller
-loop-k-smaller c = omega arith
-
 pub loop-k-preserved : goal.loop-k-preserved
 loop-k-preserved c =
-    let s = c in let l = c.loop-k in
+    let l = c.loop-k in
     let zs = c.args.numbers.now in let n = c.args.n in
     let p = c.put_number-next in
     let m = int_more (get_or zs l.k (pos 0)) (text (drop (suc l.k) (take n zs))) (search rules)

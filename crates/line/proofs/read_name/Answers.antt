@@ -1,6 +1,6 @@
 -- `line::read_name` meets its contract.
 use Prim.Native.Nat.{ℕ, ◌-◌}
-use mathlib.Core.Path.{◌≡◌, refl, ap, ◌∙◌}
+use mathlib.Core.Path.{◌≡◌, ap, ◌∙◌}
 use mathlib.Core.List.{List, ◌++◌}
 use native.Mathlib.Omega.{arith}
 use lib.ListN.{length, get_or, set, replicate}
@@ -9,15 +9,8 @@ use Rattle.group.specs.Numbers.{name_most}
 use Rattle.line.proofs.NameLaws.{name_step}
 use Rattle.line.proofs.read_name.Goals as goal
 
-pub loop-i-init : goal.loop-i-init
-loop-i-init c = (omega arith, refl)
-
-pub bounds-bytes-i : goal.bounds-bytes-i
-bounds-bytes-i c = omega arith
-
 pub loop-i-preserved : goal.loop-i-preserved
 loop-i-preserved c =
-    let d = c in
     let s = c.args.s.now in (
       omega arith,
       ap (λ (l : List ℕ). set l c.loop-i.i (get_or s c.loop-i.i 0)) c.loop-i.invariant.1 ∙ name_step s c.loop-i.i c.loop-i-test.true c.requires,
@@ -25,7 +18,6 @@ loop-i-preserved c =
 
 pub returns : goal.returns
 returns c =
-    let d = c in
     let s = c.args.s.now in
     let e : c.loop-i.i ≡ length s = omega arith in
     let b : c.loop-i.bytes ≡ s ++ replicate (name_most - length s) 0 =

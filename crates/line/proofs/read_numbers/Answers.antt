@@ -20,17 +20,13 @@ overflow_add-first c =
 pub cut_field-requires : goal.cut_field-requires
 cut_field-requires c =
     let below : c.loop-k.k < length c.args.numbers.now = let e = c.loop-k.invariant.1 in let q = c.loop-k-test.true in omega arith in
-    let s = c in let l = below in let p = c.requires.1 in let q = c.requires.2 in
+    let l = below in let p = c.requires.1 in let q = c.requires.2 in
     (omega arith, c.requires.0 (c.args.first + c.loop-k.k) (omega arith) (omega arith))
-
-pub shape_of-numbers-in_default : goal.shape_of-numbers-in_default
-shape_of-numbers-in_default c = c.loop-k.invariant.1
 
 pub returns-in_default : goal.returns-in_default
 returns-in_default c =
     let below : c.loop-k.k < length c.args.numbers.now = let e = c.loop-k.invariant.1 in let q = c.loop-k-test.true in omega arith in
-    let d = c in let s = c in
-    numbers_read_bad (split 9 c.args.line.now) c.args.first (length c.args.numbers.now) c.requires.2 _ c.loop-k.k (below)
+    numbers_read_bad (split 9 c.args.line.now) c.args.first (length c.args.numbers.now) c.requires.2 _ c.loop-k.k below
     (field_bad c.args.line.now (c.args.first + c.loop-k.k) _ _ c.read_number.ensures c.cut_field.ensures c.in_default.is)
 
 pub loop-k-smaller : goal.loop-k-smaller
@@ -41,17 +37,14 @@ loop-k-smaller c =
 pub loop-k-preserved : goal.loop-k-preserved
 loop-k-preserved c =
     let below : c.loop-k.k < length c.args.numbers.now = let e = c.loop-k.invariant.1 in let q = c.loop-k-test.true in omega arith in
-    let d = c in let s = c in let l = below in (
+    let l = below in (
       omega arith,
       length-set c.loop-k.numbers c.loop-k.k _ ∙ c.loop-k.invariant.1,
       numbers_more (split 9 c.args.line.now) c.args.first c.loop-k.k c.loop-k.numbers _ c.loop-k-test.true c.loop-k.invariant.2
           (field_number c.args.line.now (c.args.first + c.loop-k.k) _ _ c.read_number.ensures c.cut_field.ensures _ c.in-Whole.is (search rules)),
     )
 
-pub shape_of-numbers : goal.shape_of-numbers
-shape_of-numbers c = c.loop-k.invariant.1
-
 pub returns : goal.returns
 returns c =
-    let s = c in let i = c.loop-k.invariant in
+    let i = c.loop-k.invariant in
     numbers_read_good (split 9 c.args.line.now) c.args.first (length c.args.numbers.now) c.requires.2 c.loop-k.numbers c.loop-k.k i.1 (omega (arith, i.1, c.loop-k-test.false)) i.2

@@ -13,7 +13,7 @@ pub returns-then-same_bytes : goal.returns-then-same_bytes
 returns-then-same_bytes c =
     let second : Option U.Unit = cond (same c.args.s.now (unit_text Metre)) (some Metre) none in
     let arc : same c.args.s.now (unit_text ArcSecond) ≡ c.same_bytes.result = sym c.same_bytes.ensures in
-    sym (ap (λ (b : Bool). unit_answer (cond b (some ArcSecond) (second))) (arc ∙ c.if-same_bytes.true))
+    sym (ap (λ (b : Bool). unit_answer (cond b (some ArcSecond) second)) (arc ∙ c.if-same_bytes.true))
 
 pub returns-then-same_bytes-2 : goal.returns-then-same_bytes-2
 returns-then-same_bytes-2 c =
@@ -21,7 +21,7 @@ returns-then-same_bytes-2 c =
     let second : Option U.Unit = cond (same c.args.s.now (unit_text Metre)) (some Metre) none in
     let metre : same c.args.s.now (unit_text Metre) ≡ c.same_bytes-2.result = sym c.same_bytes-2.ensures in
     let e = arc ∙ c.if-same_bytes.false in
-    sym (ap (λ (b : Bool). unit_answer (cond b (some ArcSecond) (second))) e ∙ ap (λ (b : Bool). unit_answer (cond b (some Metre) none)) (metre ∙ c.if-same_bytes-2.true))
+    sym (ap (λ (b : Bool). unit_answer (cond b (some ArcSecond) second)) e ∙ ap (λ (b : Bool). unit_answer (cond b (some Metre) none)) (metre ∙ c.if-same_bytes-2.true))
 
 pub returns : goal.returns
 returns c =
@@ -29,4 +29,4 @@ returns c =
     let second : Option U.Unit = cond (same c.args.s.now (unit_text Metre)) (some Metre) none in
     let metre : same c.args.s.now (unit_text Metre) ≡ c.same_bytes-2.result = sym c.same_bytes-2.ensures in
     let e = arc ∙ c.if-same_bytes.false in
-    sym (ap (λ (b : Bool). unit_answer (cond b (some ArcSecond) (second))) e ∙ ap (λ (b : Bool). unit_answer (cond b (some Metre) none)) (metre ∙ c.if-same_bytes-2.false))
+    sym (ap (λ (b : Bool). unit_answer (cond b (some ArcSecond) second)) e ∙ ap (λ (b : Bool). unit_answer (cond b (some Metre) none)) (metre ∙ c.if-same_bytes-2.false))

@@ -1,17 +1,18 @@
 -- `put_line` meets its contract.
-use Prim.Native.Nat.{ℕ, zero, suc, ◌-◌, ◌≤◌}
+use Prim.Native.Nat.{ℕ, zero, suc, ◌+◌, ◌-◌, ◌≤◌}
 use mathlib.Core.Path.{◌≡◌, refl, sym, ap, subst, ◌∙◌}
 use mathlib.Core.List.{List, [], ◌∷◌, ◌++◌, map}
 use native.Mathlib.Omega.{arith}
 use lib.IntN.{ℤ}
-use lib.ListN.{take}
+use lib.ListN.{length, take}
 use mir.Syntax.{w64}
 use mir.Val.{to_z, of_z, SFits}
 use mir.Facts.{to_z-of_z}
 use Rattle.numbers.proofs.OrderLaws.{size_fits}
 use Rattle.text.specs.Parts.{led}
 use Rattle.text.specs.Decimal.{int_text}
-use Rattle.text.proofs.PutLaws.{Left, left_all, left_none, left_length, left_room, left_more, int_room, int_more, pieces, line_pieces}
+use Rattle.text.specs.Wrote.{Wrote}
+use Rattle.text.proofs.PutLaws.{Left, left_all, left_none, left_room, left_more, int_room, int_more, pieces, line_pieces}
 use Rattle.group.specs.declared.Grid.{Grid}
 use Rattle.group.specs.declared.Group.{Group}
 use Rattle.group.specs.declared.Position.{Position}
@@ -60,236 +61,121 @@ grid_found ns p f w =
     let s = w.some in let a = w.among in let m = (accepted_head (group_of_words ns) w.accepted).grids in
     grid_of_words_lem ns (f.grid - 1) (omega arith)
 
-pub put_bytes-p-requires : goal.put_bytes-p-requires
+-- the pieces of the line from the results on, from the name on, and so on up to the longitude
+abbrev shifts : Group → Fix → List ℕ
+shifts g f = pieces (map int_text (list_of (result_in f) g.parameters)) (10 ∷ [])
+
+abbrev named : Group → Fix → List ℕ
+named g f = 9 ∷ (grid_name g f.grid ++ shifts g f)
+
+abbrev dated : Group → Position → Fix → List ℕ
+dated g p f = 9 ∷ (int_text p.day ++ named g f)
+
+abbrev from_lat : Group → Position → Fix → List ℕ
+from_lat g p f = 9 ∷ (int_text p.lat.0 ++ dated g p f)
+
+abbrev from_lon : Group → Position → Fix → List ℕ
+from_lon g p f = 9 ∷ (int_text p.lon.0 ++ from_lat g p f)
+
+-- the results as they are written, np of them
+abbrev results : Fix → ℕ → List ℕ
+results f np = led 9 (map int_text (take np (passed f)))
+
+-- what is left of the line before anything is written, and behind the word
+left₀ : {out : List ℕ} (g : Group) (p : Position) (f : Fix) → length (line_text g p f) ≤ length out
+    → Left 0 (line_text g p f) out (fix_keyword ++ from_lon g p f) 0 out
 unfolding line_text
+left₀ {out} g p f room =
+    left_all 0 (line_text g p f) out _
+    (line_pieces fix_keyword (int_text p.lon.0 ∷ int_text p.lat.0 ∷ int_text p.day ∷ grid_name g f.grid ∷ map int_text (list_of (result_in f) g.parameters)) (10 ∷ []))
+    (omega arith)
+
+-- and behind each piece, by what was left in front of it; a signed number is written by way of its bits
+module _ {at i j : ℕ} {text out m n : List ℕ} (g : Group) (p : Position) (f : Fix) where
+  left₁ : Left at text out (fix_keyword ++ from_lon g p f) i m → Wrote i fix_keyword m j n → Left at text out (from_lon g p f) j n
+  left₁ l w = left_more fix_keyword (from_lon g p f) l w
+
+  left₂ : SFits w64 p.lon.0 → Left at text out (from_lon g p f) i m → Wrote i (9 ∷ int_text (bits p.lon.0)) m j n → Left at text out (from_lat g p f) j n
+  left₂ fits l w = int_more p.lon.0 (from_lat g p f) fits l w
+
+  left₃ : SFits w64 p.lat.0 → Left at text out (from_lat g p f) i m → Wrote i (9 ∷ int_text (bits p.lat.0)) m j n → Left at text out (dated g p f) j n
+  left₃ fits l w = int_more p.lat.0 (dated g p f) fits l w
+
+  left₄ : SFits w64 p.day → Left at text out (dated g p f) i m → Wrote i (9 ∷ int_text (bits p.day)) m j n → Left at text out (named g f) j n
+  left₄ fits l w = int_more p.day (named g f) fits l w
+
+-- the name is that of the grid as it is read from the numbers
+left₅ : {at i : ℕ} {text out m : List ℕ} (g : Group) (f : Fix) {d : Grid} → grid_at g (f.grid - 1) ≡ d
+    → Left at text out (named g f) i m → Left at text out (9 ∷ (name_text d.name ++ shifts g f)) i m
+left₅ {at} {i} {text} {out} {m} g f e l = subst (λ (d : Grid). Left at text out (9 ∷ (name_text d.name ++ shifts g f)) i m) e l
+
+-- behind the name the results are left, and the line feed
+left₆ : {at i j np : ℕ} {text out m n : List ℕ} {g : Group} {p : Position} {f : Fix} (d : Grid) → FixFound g p f → np ≡ g.parameters
+    → Left at text out (9 ∷ (name_text d.name ++ shifts g f)) i m → Wrote i (9 ∷ name_text d.name) m j n → Left at text out (results f np ++ (10 ∷ [])) j n
+left₆ {at} {i} {j} {np} {text} {out} {m} {n} {g} {p} {f} d found e l w =
+    let are : shifts g f ≡ results f np ++ (10 ∷ []) =
+    ap (λ (zs : List ℤ). pieces (map int_text zs) (10 ∷ [])) (shifts_passed found ∙ ap (λ (k : ℕ). take k (passed f)) (sym e))
+    ∙ sym (line_pieces [] (map int_text (take np (passed f))) (10 ∷ [])) in
+    subst (λ (rest : List ℕ). Left at text out rest j n) are (left_more (9 ∷ name_text d.name) (shifts g f) l w)
+
+pub put_bytes-p-requires : goal.put_bytes-p-requires
 put_bytes-p-requires c =
-    let group : Group = group_of_words c.args.words.now in
-    let shifts : List ℕ = pieces (map int_text (list_of (result_in c.args.f) group.parameters)) (10 ∷ []) in
-    let named : List ℕ = 9 ∷ (grid_name group c.args.f.grid ++ shifts) in
-    let dated : List ℕ = 9 ∷ (int_text c.args.position.day ++ named) in
-    let from-lat : List ℕ = 9 ∷ (int_text c.args.position.lat.0 ++ dated) in
-    let from-lon : List ℕ = 9 ∷ (int_text c.args.position.lon.0 ++ from-lat) in
-    let Rest : List ℕ → ℕ → List ℕ → Type 0 = Left 0 (line_text group c.args.position c.args.f) c.args.out.now in
-    let left₀ : Rest (fix_keyword ++ from-lon) 0 c.args.out.now =
-    left_all 0 (line_text group c.args.position c.args.f) c.args.out.now _
-    (line_pieces fix_keyword (int_text c.args.position.lon.0 ∷ int_text c.args.position.lat.0 ∷ int_text c.args.position.day ∷ grid_name group c.args.f.grid ∷ map int_text (list_of (result_in c.args.f) group.parameters)) (10 ∷ []))
-    (omega (arith, c.requires.1)) in
-    left_room fix_keyword from-lon left₀
+    let g = group_of_words c.args.words.now in let p = c.args.position in let f = c.args.f in
+    left_room fix_keyword (from_lon g p f) (left₀ g p f c.requires.1)
 
 pub put_number-q-requires : goal.put_number-q-requires
-unfolding line_text
 put_number-q-requires c =
-    let group : Group = group_of_words c.args.words.now in
-    let shifts : List ℕ = pieces (map int_text (list_of (result_in c.args.f) group.parameters)) (10 ∷ []) in
-    let named : List ℕ = 9 ∷ (grid_name group c.args.f.grid ++ shifts) in
-    let dated : List ℕ = 9 ∷ (int_text c.args.position.day ++ named) in
-    let from-lat : List ℕ = 9 ∷ (int_text c.args.position.lat.0 ++ dated) in
-    let Rest : List ℕ → ℕ → List ℕ → Type 0 = Left 0 (line_text group c.args.position c.args.f) c.args.out.now in
-    let from-lon : List ℕ = 9 ∷ (int_text c.args.position.lon.0 ++ from-lat) in
-    let left₀ : Rest (fix_keyword ++ from-lon) 0 c.args.out.now =
-    left_all 0 (line_text group c.args.position c.args.f) c.args.out.now _
-    (line_pieces fix_keyword (int_text c.args.position.lon.0 ∷ int_text c.args.position.lat.0 ∷ int_text c.args.position.day ∷ grid_name group c.args.f.grid ∷ map int_text (list_of (result_in c.args.f) group.parameters)) (10 ∷ []))
-    (omega (arith, c.requires.1)) in
-    let left₁ : Rest from-lon c.put_bytes-p.result c.put_bytes-p.new.out = left_more fix_keyword from-lon left₀ c.put_bytes-p.ensures in
-    int_room c.args.position.lon.0 from-lat (search rules) left₁
+    let g = group_of_words c.args.words.now in let p = c.args.position in let f = c.args.f in
+    int_room p.lon.0 (from_lat g p f) (search rules) (left₁ g p f (left₀ g p f c.requires.1) c.put_bytes-p.ensures)
 
 pub put_number-r-requires : goal.put_number-r-requires
-unfolding line_text
 put_number-r-requires c =
-    let group : Group = group_of_words c.args.words.now in
-    let shifts : List ℕ = pieces (map int_text (list_of (result_in c.args.f) group.parameters)) (10 ∷ []) in
-    let named : List ℕ = 9 ∷ (grid_name group c.args.f.grid ++ shifts) in
-    let dated : List ℕ = 9 ∷ (int_text c.args.position.day ++ named) in
-    let Rest : List ℕ → ℕ → List ℕ → Type 0 = Left 0 (line_text group c.args.position c.args.f) c.args.out.now in
-    let from-lat : List ℕ = 9 ∷ (int_text c.args.position.lat.0 ++ dated) in
-    let from-lon : List ℕ = 9 ∷ (int_text c.args.position.lon.0 ++ from-lat) in
-    let left₀ : Rest (fix_keyword ++ from-lon) 0 c.args.out.now =
-    left_all 0 (line_text group c.args.position c.args.f) c.args.out.now _
-    (line_pieces fix_keyword (int_text c.args.position.lon.0 ∷ int_text c.args.position.lat.0 ∷ int_text c.args.position.day ∷ grid_name group c.args.f.grid ∷ map int_text (list_of (result_in c.args.f) group.parameters)) (10 ∷ []))
-    (omega (arith, c.requires.1)) in
-    let left₁ : Rest from-lon c.put_bytes-p.result c.put_bytes-p.new.out = left_more fix_keyword from-lon left₀ c.put_bytes-p.ensures in
-    let left₂ : Rest from-lat c.put_number-q.result c.put_number-q.new.out = int_more c.args.position.lon.0 from-lat (search rules) left₁ c.put_number-q.ensures in
-    int_room c.args.position.lat.0 dated (search rules) left₂
+    let g = group_of_words c.args.words.now in let p = c.args.position in let f = c.args.f in
+    int_room p.lat.0 (dated g p f) (search rules)
+    (left₂ g p f (search rules) (left₁ g p f (left₀ g p f c.requires.1) c.put_bytes-p.ensures) c.put_number-q.ensures)
 
 pub put_number-s-requires : goal.put_number-s-requires
-unfolding line_text
 put_number-s-requires c =
-    let group : Group = group_of_words c.args.words.now in
-    let shifts : List ℕ = pieces (map int_text (list_of (result_in c.args.f) group.parameters)) (10 ∷ []) in
-    let named : List ℕ = 9 ∷ (grid_name group c.args.f.grid ++ shifts) in
-    let Rest : List ℕ → ℕ → List ℕ → Type 0 = Left 0 (line_text group c.args.position c.args.f) c.args.out.now in
-    let dated : List ℕ = 9 ∷ (int_text c.args.position.day ++ named) in
-    let from-lat : List ℕ = 9 ∷ (int_text c.args.position.lat.0 ++ dated) in
-    let from-lon : List ℕ = 9 ∷ (int_text c.args.position.lon.0 ++ from-lat) in
-    let left₀ : Rest (fix_keyword ++ from-lon) 0 c.args.out.now =
-    left_all 0 (line_text group c.args.position c.args.f) c.args.out.now _
-    (line_pieces fix_keyword (int_text c.args.position.lon.0 ∷ int_text c.args.position.lat.0 ∷ int_text c.args.position.day ∷ grid_name group c.args.f.grid ∷ map int_text (list_of (result_in c.args.f) group.parameters)) (10 ∷ []))
-    (omega (arith, c.requires.1)) in
-    let left₁ : Rest from-lon c.put_bytes-p.result c.put_bytes-p.new.out = left_more fix_keyword from-lon left₀ c.put_bytes-p.ensures in
-    let left₂ : Rest from-lat c.put_number-q.result c.put_number-q.new.out = int_more c.args.position.lon.0 from-lat (search rules) left₁ c.put_number-q.ensures in
-    let left₃ : Rest dated c.put_number-r.result c.put_number-r.new.out = int_more c.args.position.lat.0 dated (search rules) left₂ c.put_number-r.ensures in
-    int_room c.args.position.day named (search rules) left₃
+    let g = group_of_words c.args.words.now in let p = c.args.position in let f = c.args.f in
+    int_room p.day (named g f) (search rules)
+    (left₃ g p f (search rules) (left₂ g p f (search rules) (left₁ g p f (left₀ g p f c.requires.1) c.put_bytes-p.ensures) c.put_number-q.ensures) c.put_number-r.ensures)
 
 pub grid_of_words-grid-requires : goal.grid_of_words-grid-requires
 grid_of_words-grid-requires c =
-    let group : Group = group_of_words c.args.words.now in
-    let a = c.requires.0.some in let b = c.requires.0.among in let m = (accepted_head group c.requires.0.accepted).grids in
+    let w = c.requires.0 in
+    let a = w.some in let b = w.among in let m = (accepted_head (group_of_words c.args.words.now) w.accepted).grids in
     omega arith
 
 pub put_name-t-requires : goal.put_name-t-requires
-unfolding line_text
 put_name-t-requires c =
-    let group : Group = group_of_words c.args.words.now in
-    let grid_is : grid_at group (c.args.f.grid - 1) ≡ c.grid_of_words-grid.result = grid_found c.args.words.now c.args.position c.args.f c.requires.0 ∙ sym c.grid_of_words-grid.ensures in
-    let shifts : List ℕ = pieces (map int_text (list_of (result_in c.args.f) group.parameters)) (10 ∷ []) in
-    let Rest : List ℕ → ℕ → List ℕ → Type 0 = Left 0 (line_text group c.args.position c.args.f) c.args.out.now in
-    let named : List ℕ = 9 ∷ (grid_name group c.args.f.grid ++ shifts) in
-    let dated : List ℕ = 9 ∷ (int_text c.args.position.day ++ named) in
-    let from-lat : List ℕ = 9 ∷ (int_text c.args.position.lat.0 ++ dated) in
-    let from-lon : List ℕ = 9 ∷ (int_text c.args.position.lon.0 ++ from-lat) in
-    let left₀ : Rest (fix_keyword ++ from-lon) 0 c.args.out.now =
-    left_all 0 (line_text group c.args.position c.args.f) c.args.out.now _
-    (line_pieces fix_keyword (int_text c.args.position.lon.0 ∷ int_text c.args.position.lat.0 ∷ int_text c.args.position.day ∷ grid_name group c.args.f.grid ∷ map int_text (list_of (result_in c.args.f) group.parameters)) (10 ∷ []))
-    (omega (arith, c.requires.1)) in
-    let left₁ : Rest from-lon c.put_bytes-p.result c.put_bytes-p.new.out = left_more fix_keyword from-lon left₀ c.put_bytes-p.ensures in
-    let left₂ : Rest from-lat c.put_number-q.result c.put_number-q.new.out = int_more c.args.position.lon.0 from-lat (search rules) left₁ c.put_number-q.ensures in
-    let left₃ : Rest dated c.put_number-r.result c.put_number-r.new.out = int_more c.args.position.lat.0 dated (search rules) left₂ c.put_number-r.ensures in
-    let left₄ : Rest named c.put_number-s.result c.put_number-s.new.out = int_more c.args.position.day named (search rules) left₃ c.put_number-s.ensures in
-    let left₅ : Rest (9 ∷ (name_text c.grid_of_words-grid.result.name ++ shifts)) c.put_number-s.result c.put_number-s.new.out =
-    subst (λ (d : Grid). Rest (9 ∷ (name_text d.name ++ shifts)) c.put_number-s.result c.put_number-s.new.out)
-    grid_is left₄ in (
-      subst (λ (d : Grid). d.name.len ≤ name_most) grid_is (name_most_lem group c.args.position c.args.f c.requires.0),
-      left_room (9 ∷ name_text c.grid_of_words-grid.result.name) shifts left₅,
+    let g = group_of_words c.args.words.now in let p = c.args.position in let f = c.args.f in
+    let e = grid_found c.args.words.now p f c.requires.0 ∙ sym c.grid_of_words-grid.ensures in (
+      subst (λ (d : Grid). d.name.len ≤ name_most) e (name_most_lem g p f c.requires.0),
+      left_room (9 ∷ name_text c.grid_of_words-grid.result.name) (shifts g f)
+          (left₅ g f e (left₄ g p f (search rules) (left₃ g p f (search rules) (left₂ g p f (search rules) (left₁ g p f (left₀ g p f c.requires.1) c.put_bytes-p.ensures) c.put_number-q.ensures) c.put_number-r.ensures) c.put_number-s.ensures)),
     )
 
 pub put_numbers-u-requires : goal.put_numbers-u-requires
-unfolding line_text
 put_numbers-u-requires c =
-    let group : Group = group_of_words c.args.words.now in
-    let results : List ℕ = led 9 (map int_text (take c.parameter_count.result (passed c.args.f))) in
-    let Rest : List ℕ → ℕ → List ℕ → Type 0 = Left 0 (line_text group c.args.position c.args.f) c.args.out.now in
-    let shifts : List ℕ = pieces (map int_text (list_of (result_in c.args.f) group.parameters)) (10 ∷ []) in
-    let results_are : shifts ≡ results ++ (10 ∷ []) =
-    ap (λ (zs : List ℤ). pieces (map int_text zs) (10 ∷ [])) (shifts_passed c.requires.0 ∙ ap (λ (n : ℕ). take n (passed c.args.f)) (sym c.parameter_count.ensures))
-    ∙ sym (line_pieces [] (map int_text (take c.parameter_count.result (passed c.args.f))) (10 ∷ [])) in
-    let grid_is : grid_at group (c.args.f.grid - 1) ≡ c.grid_of_words-grid.result = grid_found c.args.words.now c.args.position c.args.f c.requires.0 ∙ sym c.grid_of_words-grid.ensures in
-    let named : List ℕ = 9 ∷ (grid_name group c.args.f.grid ++ shifts) in
-    let dated : List ℕ = 9 ∷ (int_text c.args.position.day ++ named) in
-    let from-lat : List ℕ = 9 ∷ (int_text c.args.position.lat.0 ++ dated) in
-    let from-lon : List ℕ = 9 ∷ (int_text c.args.position.lon.0 ++ from-lat) in
-    let left₀ : Rest (fix_keyword ++ from-lon) 0 c.args.out.now =
-    left_all 0 (line_text group c.args.position c.args.f) c.args.out.now _
-    (line_pieces fix_keyword (int_text c.args.position.lon.0 ∷ int_text c.args.position.lat.0 ∷ int_text c.args.position.day ∷ grid_name group c.args.f.grid ∷ map int_text (list_of (result_in c.args.f) group.parameters)) (10 ∷ []))
-    (omega (arith, c.requires.1)) in
-    let left₁ : Rest from-lon c.put_bytes-p.result c.put_bytes-p.new.out = left_more fix_keyword from-lon left₀ c.put_bytes-p.ensures in
-    let left₂ : Rest from-lat c.put_number-q.result c.put_number-q.new.out = int_more c.args.position.lon.0 from-lat (search rules) left₁ c.put_number-q.ensures in
-    let left₃ : Rest dated c.put_number-r.result c.put_number-r.new.out = int_more c.args.position.lat.0 dated (search rules) left₂ c.put_number-r.ensures in
-    let left₄ : Rest named c.put_number-s.result c.put_number-s.new.out = int_more c.args.position.day named (search rules) left₃ c.put_number-s.ensures in
-    let left₅ : Rest (9 ∷ (name_text c.grid_of_words-grid.result.name ++ shifts)) c.put_number-s.result c.put_number-s.new.out =
-    subst (λ (d : Grid). Rest (9 ∷ (name_text d.name ++ shifts)) c.put_number-s.result c.put_number-s.new.out)
-    grid_is left₄ in
-    let left₆ : Rest shifts c.put_name-t.result c.put_name-t.new.out = left_more (9 ∷ name_text c.grid_of_words-grid.result.name) shifts left₅ c.put_name-t.ensures in
-    let left₇ : Rest (results ++ (10 ∷ [])) c.put_name-t.result c.put_name-t.new.out =
-    subst (λ (rest : List ℕ). Rest rest c.put_name-t.result c.put_name-t.new.out)
-    results_are left₆ in
-    let e = c.parameter_count.ensures in let m = (accepted_head group c.requires.0.accepted).parameters in
-    (omega arith, left_room results (10 ∷ []) left₇)
+    let g = group_of_words c.args.words.now in let p = c.args.position in let f = c.args.f in
+    let e = grid_found c.args.words.now p f c.requires.0 ∙ sym c.grid_of_words-grid.ensures in
+    let k = c.parameter_count.ensures in let most = (accepted_head g c.requires.0.accepted).parameters in (
+      omega arith,
+      left_room (results f c.parameter_count.result) (10 ∷ [])
+          (left₆ c.grid_of_words-grid.result c.requires.0 c.parameter_count.ensures (left₅ g f e (left₄ g p f (search rules) (left₃ g p f (search rules) (left₂ g p f (search rules) (left₁ g p f (left₀ g p f c.requires.1) c.put_bytes-p.ensures) c.put_number-q.ensures) c.put_number-r.ensures) c.put_number-s.ensures)) c.put_name-t.ensures),
+    )
 
 pub put_byte-requires : goal.put_byte-requires
-unfolding line_text
 put_byte-requires c =
-    let group : Group = group_of_words c.args.words.now in
-    let Rest : List ℕ → ℕ → List ℕ → Type 0 = Left 0 (line_text group c.args.position c.args.f) c.args.out.now in
-    let results : List ℕ = led 9 (map int_text (take c.parameter_count.result (passed c.args.f))) in
-    let shifts : List ℕ = pieces (map int_text (list_of (result_in c.args.f) group.parameters)) (10 ∷ []) in
-    let results_are : shifts ≡ results ++ (10 ∷ []) =
-    ap (λ (zs : List ℤ). pieces (map int_text zs) (10 ∷ [])) (shifts_passed c.requires.0 ∙ ap (λ (n : ℕ). take n (passed c.args.f)) (sym c.parameter_count.ensures))
-    ∙ sym (line_pieces [] (map int_text (take c.parameter_count.result (passed c.args.f))) (10 ∷ [])) in
-    let grid_is : grid_at group (c.args.f.grid - 1) ≡ c.grid_of_words-grid.result = grid_found c.args.words.now c.args.position c.args.f c.requires.0 ∙ sym c.grid_of_words-grid.ensures in
-    let named : List ℕ = 9 ∷ (grid_name group c.args.f.grid ++ shifts) in
-    let dated : List ℕ = 9 ∷ (int_text c.args.position.day ++ named) in
-    let from-lat : List ℕ = 9 ∷ (int_text c.args.position.lat.0 ++ dated) in
-    let from-lon : List ℕ = 9 ∷ (int_text c.args.position.lon.0 ++ from-lat) in
-    let left₀ : Rest (fix_keyword ++ from-lon) 0 c.args.out.now =
-    left_all 0 (line_text group c.args.position c.args.f) c.args.out.now _
-    (line_pieces fix_keyword (int_text c.args.position.lon.0 ∷ int_text c.args.position.lat.0 ∷ int_text c.args.position.day ∷ grid_name group c.args.f.grid ∷ map int_text (list_of (result_in c.args.f) group.parameters)) (10 ∷ []))
-    (omega (arith, c.requires.1)) in
-    let left₁ : Rest from-lon c.put_bytes-p.result c.put_bytes-p.new.out = left_more fix_keyword from-lon left₀ c.put_bytes-p.ensures in
-    let left₂ : Rest from-lat c.put_number-q.result c.put_number-q.new.out = int_more c.args.position.lon.0 from-lat (search rules) left₁ c.put_number-q.ensures in
-    let left₃ : Rest dated c.put_number-r.result c.put_number-r.new.out = int_more c.args.position.lat.0 dated (search rules) left₂ c.put_number-r.ensures in
-    let left₄ : Rest named c.put_number-s.result c.put_number-s.new.out = int_more c.args.position.day named (search rules) left₃ c.put_number-s.ensures in
-    let left₅ : Rest (9 ∷ (name_text c.grid_of_words-grid.result.name ++ shifts)) c.put_number-s.result c.put_number-s.new.out =
-    subst (λ (d : Grid). Rest (9 ∷ (name_text d.name ++ shifts)) c.put_number-s.result c.put_number-s.new.out)
-    grid_is left₄ in
-    let left₆ : Rest shifts c.put_name-t.result c.put_name-t.new.out = left_more (9 ∷ name_text c.grid_of_words-grid.result.name) shifts left₅ c.put_name-t.ensures in
-    let left₇ : Rest (results ++ (10 ∷ [])) c.put_name-t.result c.put_name-t.new.out =
-    subst (λ (rest : List ℕ). Rest rest c.put_name-t.result c.put_name-t.new.out)
-    results_are left₆ in
-    let left₈ : Rest (10 ∷ []) c.put_numbers-u.result c.put_numbers-u.new.out = left_more results (10 ∷ []) left₇ c.put_numbers-u.ensures in
-    let h = left_room (10 ∷ []) [] left₈ in omega arith
-
-pub shape_of-out : goal.shape_of-out
-unfolding line_text
-shape_of-out c =
-    let group : Group = group_of_words c.args.words.now in
-    let Rest : List ℕ → ℕ → List ℕ → Type 0 = Left 0 (line_text group c.args.position c.args.f) c.args.out.now in
-    let results : List ℕ = led 9 (map int_text (take c.parameter_count.result (passed c.args.f))) in
-    let shifts : List ℕ = pieces (map int_text (list_of (result_in c.args.f) group.parameters)) (10 ∷ []) in
-    let results_are : shifts ≡ results ++ (10 ∷ []) =
-    ap (λ (zs : List ℤ). pieces (map int_text zs) (10 ∷ [])) (shifts_passed c.requires.0 ∙ ap (λ (n : ℕ). take n (passed c.args.f)) (sym c.parameter_count.ensures))
-    ∙ sym (line_pieces [] (map int_text (take c.parameter_count.result (passed c.args.f))) (10 ∷ [])) in
-    let grid_is : grid_at group (c.args.f.grid - 1) ≡ c.grid_of_words-grid.result = grid_found c.args.words.now c.args.position c.args.f c.requires.0 ∙ sym c.grid_of_words-grid.ensures in
-    let named : List ℕ = 9 ∷ (grid_name group c.args.f.grid ++ shifts) in
-    let dated : List ℕ = 9 ∷ (int_text c.args.position.day ++ named) in
-    let from-lat : List ℕ = 9 ∷ (int_text c.args.position.lat.0 ++ dated) in
-    let from-lon : List ℕ = 9 ∷ (int_text c.args.position.lon.0 ++ from-lat) in
-    let left₀ : Rest (fix_keyword ++ from-lon) 0 c.args.out.now =
-    left_all 0 (line_text group c.args.position c.args.f) c.args.out.now _
-    (line_pieces fix_keyword (int_text c.args.position.lon.0 ∷ int_text c.args.position.lat.0 ∷ int_text c.args.position.day ∷ grid_name group c.args.f.grid ∷ map int_text (list_of (result_in c.args.f) group.parameters)) (10 ∷ []))
-    (omega (arith, c.requires.1)) in
-    let left₁ : Rest from-lon c.put_bytes-p.result c.put_bytes-p.new.out = left_more fix_keyword from-lon left₀ c.put_bytes-p.ensures in
-    let left₂ : Rest from-lat c.put_number-q.result c.put_number-q.new.out = int_more c.args.position.lon.0 from-lat (search rules) left₁ c.put_number-q.ensures in
-    let left₃ : Rest dated c.put_number-r.result c.put_number-r.new.out = int_more c.args.position.lat.0 dated (search rules) left₂ c.put_number-r.ensures in
-    let left₄ : Rest named c.put_number-s.result c.put_number-s.new.out = int_more c.args.position.day named (search rules) left₃ c.put_number-s.ensures in
-    let left₅ : Rest (9 ∷ (name_text c.grid_of_words-grid.result.name ++ shifts)) c.put_number-s.result c.put_number-s.new.out =
-    subst (λ (d : Grid). Rest (9 ∷ (name_text d.name ++ shifts)) c.put_number-s.result c.put_number-s.new.out)
-    grid_is left₄ in
-    let left₆ : Rest shifts c.put_name-t.result c.put_name-t.new.out = left_more (9 ∷ name_text c.grid_of_words-grid.result.name) shifts left₅ c.put_name-t.ensures in
-    let left₇ : Rest (results ++ (10 ∷ [])) c.put_name-t.result c.put_name-t.new.out =
-    subst (λ (rest : List ℕ). Rest rest c.put_name-t.result c.put_name-t.new.out)
-    results_are left₆ in
-    let left₈ : Rest (10 ∷ []) c.put_numbers-u.result c.put_numbers-u.new.out = left_more results (10 ∷ []) left₇ c.put_numbers-u.ensures in
-    left_length (left_more (10 ∷ []) [] left₈ c.put_byte.ensures)
+    let g = group_of_words c.args.words.now in let p = c.args.position in let f = c.args.f in
+    let e = grid_found c.args.words.now p f c.requires.0 ∙ sym c.grid_of_words-grid.ensures in
+    let room = left_room (10 ∷ []) []
+    (left_more (results f c.parameter_count.result) (10 ∷ []) (left₆ c.grid_of_words-grid.result c.requires.0 c.parameter_count.ensures (left₅ g f e (left₄ g p f (search rules) (left₃ g p f (search rules) (left₂ g p f (search rules) (left₁ g p f (left₀ g p f c.requires.1) c.put_bytes-p.ensures) c.put_number-q.ensures) c.put_number-r.ensures) c.put_number-s.ensures)) c.put_name-t.ensures) c.put_numbers-u.ensures) in omega arith
 
 pub returns : goal.returns
-unfolding line_text
 returns c =
-    let group : Group = group_of_words c.args.words.now in
-    let Rest : List ℕ → ℕ → List ℕ → Type 0 = Left 0 (line_text group c.args.position c.args.f) c.args.out.now in
-    let results : List ℕ = led 9 (map int_text (take c.parameter_count.result (passed c.args.f))) in
-    let shifts : List ℕ = pieces (map int_text (list_of (result_in c.args.f) group.parameters)) (10 ∷ []) in
-    let results_are : shifts ≡ results ++ (10 ∷ []) =
-    ap (λ (zs : List ℤ). pieces (map int_text zs) (10 ∷ [])) (shifts_passed c.requires.0 ∙ ap (λ (n : ℕ). take n (passed c.args.f)) (sym c.parameter_count.ensures))
-    ∙ sym (line_pieces [] (map int_text (take c.parameter_count.result (passed c.args.f))) (10 ∷ [])) in
-    let grid_is : grid_at group (c.args.f.grid - 1) ≡ c.grid_of_words-grid.result = grid_found c.args.words.now c.args.position c.args.f c.requires.0 ∙ sym c.grid_of_words-grid.ensures in
-    let named : List ℕ = 9 ∷ (grid_name group c.args.f.grid ++ shifts) in
-    let dated : List ℕ = 9 ∷ (int_text c.args.position.day ++ named) in
-    let from-lat : List ℕ = 9 ∷ (int_text c.args.position.lat.0 ++ dated) in
-    let from-lon : List ℕ = 9 ∷ (int_text c.args.position.lon.0 ++ from-lat) in
-    let left₀ : Rest (fix_keyword ++ from-lon) 0 c.args.out.now =
-    left_all 0 (line_text group c.args.position c.args.f) c.args.out.now _
-    (line_pieces fix_keyword (int_text c.args.position.lon.0 ∷ int_text c.args.position.lat.0 ∷ int_text c.args.position.day ∷ grid_name group c.args.f.grid ∷ map int_text (list_of (result_in c.args.f) group.parameters)) (10 ∷ []))
-    (omega (arith, c.requires.1)) in
-    let left₁ : Rest from-lon c.put_bytes-p.result c.put_bytes-p.new.out = left_more fix_keyword from-lon left₀ c.put_bytes-p.ensures in
-    let left₂ : Rest from-lat c.put_number-q.result c.put_number-q.new.out = int_more c.args.position.lon.0 from-lat (search rules) left₁ c.put_number-q.ensures in
-    let left₃ : Rest dated c.put_number-r.result c.put_number-r.new.out = int_more c.args.position.lat.0 dated (search rules) left₂ c.put_number-r.ensures in
-    let left₄ : Rest named c.put_number-s.result c.put_number-s.new.out = int_more c.args.position.day named (search rules) left₃ c.put_number-s.ensures in
-    let left₅ : Rest (9 ∷ (name_text c.grid_of_words-grid.result.name ++ shifts)) c.put_number-s.result c.put_number-s.new.out =
-    subst (λ (d : Grid). Rest (9 ∷ (name_text d.name ++ shifts)) c.put_number-s.result c.put_number-s.new.out)
-    grid_is left₄ in
-    let left₆ : Rest shifts c.put_name-t.result c.put_name-t.new.out = left_more (9 ∷ name_text c.grid_of_words-grid.result.name) shifts left₅ c.put_name-t.ensures in
-    let left₇ : Rest (results ++ (10 ∷ [])) c.put_name-t.result c.put_name-t.new.out =
-    subst (λ (rest : List ℕ). Rest rest c.put_name-t.result c.put_name-t.new.out)
-    results_are left₆ in
-    let left₈ : Rest (10 ∷ []) c.put_numbers-u.result c.put_numbers-u.new.out = left_more results (10 ∷ []) left₇ c.put_numbers-u.ensures in
-    left_none (left_more (10 ∷ []) [] left₈ c.put_byte.ensures)
+    let g = group_of_words c.args.words.now in let p = c.args.position in let f = c.args.f in
+    let e = grid_found c.args.words.now p f c.requires.0 ∙ sym c.grid_of_words-grid.ensures in
+    left_none (left_more (10 ∷ []) []
+    (left_more (results f c.parameter_count.result) (10 ∷ []) (left₆ c.grid_of_words-grid.result c.requires.0 c.parameter_count.ensures (left₅ g f e (left₄ g p f (search rules) (left₃ g p f (search rules) (left₂ g p f (search rules) (left₁ g p f (left₀ g p f c.requires.1) c.put_bytes-p.ensures) c.put_number-q.ensures) c.put_number-r.ensures) c.put_number-s.ensures)) c.put_name-t.ensures) c.put_numbers-u.ensures)
+    c.put_byte.ensures)

@@ -9,9 +9,6 @@ use Rattle.text.proofs.CutLaws.{none_cut, one_more, last_cut, next_cut}
 use Rattle.text.proofs.cut_fields.Goals.{then-n-lt-CUTS, else-n-lt-CUTS}
 use Rattle.text.proofs.cut_fields.Goals as goal
 
-pub bounds-cuts-0 : goal.bounds-cuts-0
-bounds-cuts-0 c = omega arith
-
 pub loop-n-init : goal.loop-n-init
 loop-n-init c = none_cut c.args.line.now c.args.cuts.now c.requires
 
@@ -27,12 +24,6 @@ overflow_add-n c =
     let s = c.args.line.now in
     omega (arith, w.within, w.below, up_to_le 9 (drop c.loop-n.i s), length-drop c.loop-n.i s)
 
-pub offset_bounds-cuts-n : goal.offset_bounds-cuts-n
-offset_bounds-cuts-n c = omega arith
-
-pub bounds-cuts-n : goal.bounds-cuts-n
-bounds-cuts-n c = c.if-n-lt-CUTS.true
-
 pub returns-then-line-e : goal.returns-then-line-e
 returns-then-line-e c =
     let stored : c.if-n-lt-CUTS.cuts ≡ set c.loop-n.cuts (c.loop-n.n + 1) (c.find_from-e.result + 1) =
@@ -45,10 +36,7 @@ returns-then-line-e c =
     let s = c.args.line.now in
     let e = c.find_from-e in
     let n = last_cut s c.loop-n.cuts c.loop-n.n c.loop-n.i e.result c.loop-n.invariant e.ensures c.if-line-e.true in
-    record { value = n; cuts = λ k h m. rw (stored) (one_more s c.loop-n.cuts c.loop-n.n c.loop-n.i e.result c.loop-n.invariant e.ensures k (omega arith) m) }
-
-pub loop-n-smaller : goal.loop-n-smaller
-loop-n-smaller c = omega (arith, c.loop-n.invariant.within)
+    record { value = n; cuts = λ k h m. rw stored (one_more s c.loop-n.cuts c.loop-n.n c.loop-n.i e.result c.loop-n.invariant e.ensures k (omega arith) m) }
 
 pub loop-n-preserved : goal.loop-n-preserved
 loop-n-preserved c =
@@ -61,4 +49,4 @@ loop-n-preserved c =
     ] in
     let s = c.args.line.now in
     let e = c.find_from-e in
-    rw (stored) (next_cut s c.loop-n.cuts c.loop-n.n c.loop-n.i e.result c.loop-n.invariant e.ensures (omega arith))
+    rw stored (next_cut s c.loop-n.cuts c.loop-n.n c.loop-n.i e.result c.loop-n.invariant e.ensures (omega arith))

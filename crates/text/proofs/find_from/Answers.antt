@@ -3,23 +3,17 @@ use native.Mathlib.Omega.{arith}
 use Rattle.text.proofs.PartLaws.{up_to_here, up_to_more, up_to_end}
 use Rattle.text.proofs.find_from.Goals as goal
 
-pub loop-i-init : goal.loop-i-init
-loop-i-init c = c.past_blocks-i.ensures
-
 pub returns-then-s-i : goal.returns-then-s-i
 returns-then-s-i c =
-    let l = c in
     let a = c.args in
     omega (arith, up_to_here a.c a.s.now c.loop-i.i c.loop-i-test.true c.if-s-i.true)
 
 pub loop-i-preserved : goal.loop-i-preserved
 loop-i-preserved c =
-    let l = c in
     let a = c.args in
     omega (arith, up_to_more a.c a.s.now c.loop-i.i c.loop-i-test.true c.if-s-i.false)
 
 pub returns : goal.returns
 returns c =
-    let l = c in
     let a = c.args in
     omega (arith, up_to_end a.c a.s.now c.loop-i.i c.loop-i-test.false)

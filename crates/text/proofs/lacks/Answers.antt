@@ -22,18 +22,8 @@ more c s a i none f t k h l e =
 pub loop-k-init : goal.loop-k-init
 loop-k-init c = (omega arith, omega arith, λ t k h l. absurd (omega arith))
 
-pub bounds-s-k : goal.bounds-s-k
-bounds-s-k c = omega arith
-
-pub overflow_add-k : goal.overflow_add-k
-overflow_add-k c = omega arith
-
-pub loop-k-smaller : goal.loop-k-smaller
-loop-k-smaller c = omega arith
-
 pub loop-k-preserved : goal.loop-k-preserved
 loop-k-preserved c =
-    let l = c in
     let a = c.args in
     (omega arith, omega arith, more a.c a.s.now a.a c.loop-k.k c.loop-k.none c.loop-k.invariant.2)
 

@@ -14,7 +14,6 @@ loop-i-init c = (refl, omega arith, sym (put_nil c.args.at c.args.out.now))
 
 pub loop-i-preserved : goal.loop-i-preserved
 loop-i-preserved c =
-    let d = c in
     let a = c.args in (
       simp length-set c.loop-i.invariant.0,
       omega arith,
@@ -24,6 +23,5 @@ loop-i-preserved c =
 
 pub returns : goal.returns
 returns c =
-    let d = c in
     let a = c.args in
     record { place = omega arith; holds = c.loop-i.invariant.2 ∙ ap (λ (l : List ℕ). put a.at l a.out.now) (take_all c.loop-i.i a.s.now c.loop-i-test.false) }

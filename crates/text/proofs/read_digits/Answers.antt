@@ -13,17 +13,14 @@ loop-i-init c = (omega arith, c.requires, refl)
 
 pub returns-then-b-lt48 : goal.returns-then-b-lt48
 returns-then-b-lt48 c =
-    let d = c in
     sym (digits_low c.args.s.now c.loop-i.i c.loop-i.m c.loop-i-test.true c.if-b-lt48.true) ∙ c.loop-i.invariant.2
 
 pub returns-then-b-gt57 : goal.returns-then-b-gt57
 returns-then-b-gt57 c =
-    let d = c in
     sym (digits_high c.args.s.now c.loop-i.i c.loop-i.m c.loop-i-test.true c.if-b-lt48.false c.if-b-gt57.true) ∙ c.loop-i.invariant.2
 
 pub loop-i-preserved : goal.loop-i-preserved
 loop-i-preserved c =
-    let d = c in
     let s = c.args.s.now in (
       omega arith,
       omega arith,
@@ -34,5 +31,4 @@ loop-i-preserved c =
 
 pub returns : goal.returns
 returns c =
-    let d = c in
     sym (digits_end c.args.s.now c.loop-i.i c.loop-i.m c.loop-i-test.false c.loop-i.invariant.0) ∙ c.loop-i.invariant.2
