@@ -11,7 +11,7 @@ use Rattle.cell.proofs.blend_two_words.Goals as goal
 pub returns : goal.returns
 unfolding blended
 returns c =
-    let s = c in let a = c.args in let f = c.ranges in
+    let a = c.args in let f = c.ranges in
     let e = c.nearest_pair-q.ensures ∙ ap (λ (n : ℕ). nearest n a.w.total) c.sum_of_products-sum.ensures in
     let m = blend_half_word c.requires f.a f.b f.c f.d in
     let r = pair_low c.nearest_pair-q.result (omega arith) ∙ e in

@@ -1,6 +1,6 @@
 -- `value_one_word` meets its contract: the blend of the raised corners is the raised value, and the sum fits.
 use borrow.Author.Rules.{rules}
-use Prim.Native.Nat.{ℕ, ◌*◌, ◌^◌, ◌≤◌, ◌<◌}
+use Prim.Native.Nat.{ℕ, ◌*◌, ◌≤◌}
 use mathlib.Core.Path.{◌≡◌, refl, sym, ◌∙◌, subst}
 use native.Mathlib.Nat.{mul-le-mul_left}
 use native.Mathlib.Omega.{arith}
@@ -10,10 +10,11 @@ use mir.Val.{SFits, to_z, of_z}
 use mir.ValLaws.{to_z-of_z}
 use Rattle.numbers.proofs.Diff.{Diff, diff_of, diff_join, nat_abs_diff}
 use Rattle.numbers.proofs.Machine.{passed}
-use Rattle.cell.specs.Unsigned.{near_most, summed, blended}
+use Rattle.cell.specs.Unsigned.{near_most, blended}
 use Rattle.cell.proofs.NearLaws.{NearSizes, near_sizes}
 use Rattle.cell.proofs.ValueLaws.{value_shifted, sum_most, blend_most}
 use Rattle.cell.proofs.value_one_word.Goals as goal
+use Rattle.cell.proofs.value_one_word.Goals.{After-raised_near-4}
 
 -- what a call of `raised_near` is asked, and what it tells
 asked : (v : ℤ) → SFits w32 v → nat_abs v ≤ near_most → nat_abs (to_z w32 (of_z w32 v)) ≤ near_most
@@ -41,36 +42,38 @@ pub raised_near-requires-4 : goal.raised_near-requires-4
 raised_near-requires-4 c =
     asked c.args.v.v11 (search rules) (near_sizes c.args.v c.requires.2).at11
 
+module _ (c : After-raised_near-4) where
+  r00 : Diff c.args.v.v00 c.raised_near.result near_most
+  r00 = told (search rules) c.raised_near.ensures
+
+  r10 : Diff c.args.v.v10 c.raised_near-2.result near_most
+  r10 = told (search rules) c.raised_near-2.ensures
+
+  r01 : Diff c.args.v.v01 c.raised_near-3.result near_most
+  r01 = told (search rules) c.raised_near-3.ensures
+
+  r11 : Diff c.args.v.v11 c.raised_near-4.result near_most
+  r11 = told (search rules) c.raised_near-4.ensures
+
+  abbrev near : NearSizes c.args.v
+  near = near_sizes c.args.v c.requires.2
+
+  small : blended c.args.w c.raised_near.result c.raised_near-2.result c.raised_near-3.result c.raised_near-4.result ≤ 2 * near_most
+  small = blend_most c.requires.0 (2 * near_most) (raised_most c.args.v.v00 near.at00 r00) (raised_most c.args.v.v10 near.at10 r10) (raised_most c.args.v.v01 near.at01 r01) (raised_most c.args.v.v11 near.at11 r11)
+
 pub blend_one_word-q-requires : goal.blend_one_word-q-requires
 blend_one_word-q-requires c =
-    let near : NearSizes c.args.v = near_sizes c.args.v c.requires.2 in
-    let r00 : Diff c.args.v.v00 c.raised_near.result near_most = told (search rules) c.raised_near.ensures in
-    let r10 : Diff c.args.v.v10 c.raised_near-2.result near_most = told (search rules) c.raised_near-2.ensures in
-    let r01 : Diff c.args.v.v01 c.raised_near-3.result near_most = told (search rules) c.raised_near-3.ensures in
-    let r11 : Diff c.args.v.v11 c.raised_near-4.result near_most = told (search rules) c.raised_near-4.ensures in
-    let sum : summed c.args.w c.raised_near.result c.raised_near-2.result c.raised_near-3.result c.raised_near-4.result < 2 ^ 64 =
-    let s = sum_most c.requires.0 (2 * near_most) (raised_most c.args.v.v00 near.at00 r00) (raised_most c.args.v.v10 near.at10 r10) (raised_most c.args.v.v01 near.at01 r01) (raised_most c.args.v.v11 near.at11 r11) in
+    let q = (goal.at.blend_one_word-q-requires c).After-raised_near-4 in
+    let s = sum_most c.requires.0 (2 * near_most) (raised_most c.args.v.v00 (near q).at00 (r00 q)) (raised_most c.args.v.v10 (near q).at10 (r10 q)) (raised_most c.args.v.v01 (near q).at01 (r01 q)) (raised_most c.args.v.v11 (near q).at11 (r11 q)) in
     let m = mul-le-mul_left (2 * near_most) c.requires.1 in
-    omega arith in
-    sum
+    omega arith
 
 pub lowered-requires : goal.lowered-requires
-lowered-requires c =
-    let near : NearSizes c.args.v = near_sizes c.args.v c.requires.2 in
-    let r00 : Diff c.args.v.v00 c.raised_near.result near_most = told (search rules) c.raised_near.ensures in
-    let r10 : Diff c.args.v.v10 c.raised_near-2.result near_most = told (search rules) c.raised_near-2.ensures in
-    let r01 : Diff c.args.v.v01 c.raised_near-3.result near_most = told (search rules) c.raised_near-3.ensures in
-    let r11 : Diff c.args.v.v11 c.raised_near-4.result near_most = told (search rules) c.raised_near-4.ensures in
-    let small : blended c.args.w c.raised_near.result c.raised_near-2.result c.raised_near-3.result c.raised_near-4.result ≤ 2 * near_most = blend_most c.requires.0 (2 * near_most) (raised_most c.args.v.v00 near.at00 r00) (raised_most c.args.v.v10 near.at10 r10) (raised_most c.args.v.v01 near.at01 r01) (raised_most c.args.v.v11 near.at11 r11) in
-    let m = small in let e = c.blend_one_word-q.ensures in omega arith
+lowered-requires c = let m = small (goal.at.lowered-requires c).After-raised_near-4 in let e = c.blend_one_word-q.ensures in omega arith
 
 pub returns : goal.returns
 returns c =
-    let r00 : Diff c.args.v.v00 c.raised_near.result near_most = told (search rules) c.raised_near.ensures in
-    let r10 : Diff c.args.v.v10 c.raised_near-2.result near_most = told (search rules) c.raised_near-2.ensures in
-    let r01 : Diff c.args.v.v01 c.raised_near-3.result near_most = told (search rules) c.raised_near-3.ensures in
-    let r11 : Diff c.args.v.v11 c.raised_near-4.result near_most = told (search rules) c.raised_near-4.ensures in
-    let r = c.lowered.result in
+    let q = (goal.at.returns c).After-raised_near-4 in let r = c.lowered.result in
     to_z-of_z w64 r (record { sfits = c.lowered.type_inv })
     ∙ diff_join (diff_of r c.blend_one_word-q.result near_most c.lowered.ensures) c.blend_one_word-q.ensures
-    (value_shifted c.requires.0 {v = c.args.v} near_most refl (r00) (r10) (r01) (r11))
+    (value_shifted c.requires.0 {v = c.args.v} near_most refl (r00 q) (r10 q) (r01 q) (r11 q))

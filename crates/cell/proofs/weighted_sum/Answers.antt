@@ -17,14 +17,14 @@ added-raised-requires c =
     let below : pair_value c.sum_of_products-sum.result + pair_value c.product.result < 2 ^ 94 =
     raised_below c.requires c.sum_of_products-sum.ensures c.product.ensures
     c.shifted-a.type_inv c.shifted-b.type_inv c.shifted-c.type_inv c.shifted-d.type_inv in
-    lt_trans (below) (lit< tt)
+    lt_trans below (lit< tt)
 
 pub parted-requires : goal.parted-requires
 parted-requires c =
     let below : pair_value c.sum_of_products-sum.result + pair_value c.product.result < 2 ^ 94 =
     raised_below c.requires c.sum_of_products-sum.ensures c.product.ensures
     c.shifted-a.type_inv c.shifted-b.type_inv c.shifted-c.type_inv c.shifted-d.type_inv in (
-      subst (λ (n : ℕ). n < 2 ^ 94) (sym c.added-raised.ensures) (below),
+      subst (λ (n : ℕ). n < 2 ^ 94) (sym c.added-raised.ensures) below,
       omega (arith, c.requires.most),
     )
 
@@ -38,6 +38,6 @@ returns c =
     (corner_shifted (search rules) c.shifted-d.ensures) in
     let r = c.parted.result in let n = pair_value c.added-raised.result in
     parted_is (weighted_sum c.args.w c.args.v) n c.args.w.total r
-    (subst (λ (k : ℕ). Diff (weighted_sum c.args.w c.args.v) k (c.args.w.total * 2 ^ 32)) (sym c.added-raised.ensures) (raised))
+    (subst (λ (k : ℕ). Diff (weighted_sum c.args.w c.args.v) k (c.args.w.total * 2 ^ 32)) (sym c.added-raised.ensures) raised)
     (diff_of r.high (n / 2 ^ 32) c.args.w.total c.parted.ensures.0)
     c.parted.ensures.1

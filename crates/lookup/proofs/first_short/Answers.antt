@@ -21,11 +21,10 @@ node_end-requires c =
 
 pub returns-then-count-node_end : goal.returns-then-count-node_end
 returns-then-count-node_end c =
-    let ends : let s = c in
-    c.node_end.result ≡ frame_end c.args.np (frame_at c.args.frames.now c.loop-i.i) = let s = c in c.node_end.ensures ∙ ap (frame_end c.args.np) c.frame_at-f.ensures in
-    let s = c in let l = c.loop-i in
+    let ends : c.node_end.result ≡ frame_end c.args.np (frame_at c.args.frames.now c.loop-i.i) = c.node_end.ensures ∙ ap (frame_end c.args.np) c.frame_at-f.ensures in
+    let l = c.loop-i in
     passed_found (late c.args.frames.now c.args.np c.args.count) c.args.n l.i l.invariant c.loop-i-test.true
-    (ap (ltb c.args.count) (sym (ends)) ∙ lt-ltb _ _ c.if-count-node_end.true)
+    (ap (ltb c.args.count) (sym ends) ∙ lt-ltb _ _ c.if-count-node_end.true)
 
 pub overflow_add-i : goal.overflow_add-i
 overflow_add-i c = omega arith
@@ -35,11 +34,10 @@ loop-i-smaller c = omega arith
 
 pub loop-i-preserved : goal.loop-i-preserved
 loop-i-preserved c =
-    let ends : let s = c in
-    c.node_end.result ≡ frame_end c.args.np (frame_at c.args.frames.now c.loop-i.i) = let s = c in c.node_end.ensures ∙ ap (frame_end c.args.np) c.frame_at-f.ensures in
-    let s = c in let l = c.loop-i in
+    let ends : c.node_end.result ≡ frame_end c.args.np (frame_at c.args.frames.now c.loop-i.i) = c.node_end.ensures ∙ ap (frame_end c.args.np) c.frame_at-f.ensures in
+    let l = c.loop-i in
     passed_more (late c.args.frames.now c.args.np c.args.count) c.args.n l.i l.invariant c.loop-i-test.true
-    (ap (ltb c.args.count) (sym (ends)) ∙ le-ltb _ _ c.if-count-node_end.false)
+    (ap (ltb c.args.count) (sym ends) ∙ le-ltb _ _ c.if-count-node_end.false)
 
 pub returns : goal.returns
 returns c = passed_end _ _ _ c.loop-i.invariant c.loop-i-test.false
