@@ -13,17 +13,12 @@ use lib.Seq.{sets}
 use Rattle.group.specs.declared.Group.{Group}
 use Rattle.group.specs.declared.Position.{Position}
 use Rattle.group.specs.declared.Refusal.{Refusal}
-use Rattle.group.specs.declared.Verdict.{Verdict}
-use Rattle.group.specs.declared.Verdict.TheVariants as verdict
 use Rattle.group.specs.Numbers.{grids_most}
 use Rattle.header.specs.declared.Reading.{Reading}
-use Rattle.header.specs.declared.Written.{Written}
 use Rattle.header.specs.Header.{read_header, written, written_refusal, written_count, bytes_after}
 use Rattle.header.proofs.TableLaws.{read_told}
 use Rattle.nodes.specs.declared.Loaded.{Loaded}
 use Rattle.nodes.specs.Load.{loaded, loaded_refusal, nodes_after}
-use Rattle.fix.specs.declared.Lookup.{Lookup}
-use Rattle.fix.specs.declared.Lookup.TheVariants.{Fix, Refused}
 use Rattle.inforce.specs.declared.Area.{Area}
 use Rattle.inforce.specs.declared.InForce.{InForce}
 use Rattle.inforce.specs.declared.Uncovered.{Uncovered}
@@ -40,7 +35,6 @@ use Rattle.exercise.specs.Exercise.{many_verdict, results_after}
 use Rattle.screen.specs.declared.ScreenAnswer.{ScreenAnswer}
 use Rattle.screen.specs.declared.ScreenRecord.{ScreenRecord}
 use Rattle.screen.specs.Screen.{screen_refusal, shifts_of, answer_of, record_of}
-use Rattle.logs.specs.declared.Judgement.{Judgement}
 use Rattle.logs.specs.Line.{position_of}
 use Rattle.logs.specs.Log.{log_judged, judgement_refusal, judgement_fault}
 use Rattle.logs.specs.Writing.{line_written, line_after}
@@ -51,6 +45,9 @@ use Rattle.capi.specs.Answers.{left, judge_answer, read_of, read_answer, fix_num
 use Rattle.capi.specs.InForce.{entries_from, entry_words, list_words, stored_entry, stored_list, list_answer, in_force_answer}
 use Rattle.capi.proofs.SmallLaws.{in_force_stored}
 use Rattle.capi.specs.Screen.{lookup_of, shown_of, shifts_answer, record_floats, record_answer}
+use Rattle.std.specs.Prelude.{Result, Ok, Err, ⊤}
+use Rattle.fix.specs.declared.Fix.{Fix}
+use Rattle.logs.specs.declared.Fault.{Fault}
 
 -- a choice whose test is known
 module _ {A : Type 0} where
@@ -68,18 +65,18 @@ module _ (l : List ℤ) where
   abbrev g : Group
   g = group_of_words l
 
-  pub judge_told : (v : Verdict) (r : Refusal) → v ≡ judged g → r ≡ verdict_refusal v → r ≡ judge_answer l
+  pub judge_told : (v : Result ⊤ Refusal) (r : Refusal) → v ≡ judged g → r ≡ verdict_refusal v → r ≡ judge_answer l
   unfolding judge_answer
   judge_told v r a b = b ∙ ap verdict_refusal a
 
-  pub lookup_told : (nodes : List ℤ) (lon lat day x y d : ℤ) (f : Lookup) (a : Found)
+  pub lookup_told : (nodes : List ℤ) (lon lat day x y d : ℤ) (f : Result Fix Refusal) (a : Found)
       → x ≡ lon → y ≡ lat → d ≡ day → f ≡ looked g nodes (point_of x y) d → a ≡ stored_record f
       → left a.number a.place (fix_numbers a) ≡ lookup_answer l nodes lon lat day
   unfolding lookup_answer
   lookup_told nodes lon lat day x y d f a ex ey ed e b =
       ap found_answer (b ∙ answer_stored g nodes (point_of x y) d f e ∙ ap answer_record (e ∙ (λ i. looked g nodes (point_of (ex i) (ey i)) (ed i))))
 
-  pub many_told : (nodes : List ℤ) (points : List Position) (results after : List Found) (v : Verdict) (r : Refusal)
+  pub many_told : (nodes : List ℤ) (points : List Position) (results after : List Found) (v : Result ⊤ Refusal) (r : Refusal)
       → v ≡ many_verdict g (length nodes) (eqb (length points) (length results)) → after ≡ results_after g nodes points results
       → r ≡ verdict_refusal v → left r.number r.place after ≡ many_answer l nodes points results
   unfolding many_answer
@@ -95,12 +92,12 @@ module _ (l : List ℤ) where
   unfolding hole_answer
   hole_told area t h r ns e a b c = (λ i. record { refusal = b i; lent = c i }) ∙ ap hole_left (a ∙ ap (hole_of g) e)
 
-  pub log_told : (nodes : List ℤ) (log : List ℕ) (j : Judgement) (r : Refusal) (ns : List ℕ) → j ≡ log_judged g nodes log → r ≡ judgement_refusal j
+  pub log_told : (nodes : List ℤ) (log : List ℕ) (j : Result Fault Refusal) (r : Refusal) (ns : List ℕ) → j ≡ log_judged g nodes log → r ≡ judgement_refusal j
       → ns ≡ fault_numbers (judgement_fault j) → left r.number r.place ns ≡ log_answer l nodes log
   unfolding log_answer
   log_told nodes log j r ns a b c = (λ i. record { refusal = b i; lent = c i }) ∙ ap judgement_answer a
 
-  pub line_told : (nodes position : List ℤ) (out after : List ℕ) (p : Position) (w : Written) (r : Refusal) (n : ℕ) → p ≡ position_of position
+  pub line_told : (nodes position : List ℤ) (out after : List ℕ) (p : Position) (w : Result ℕ Refusal) (r : Refusal) (n : ℕ) → p ≡ position_of position
       → w ≡ line_written g nodes p (length out) → after ≡ line_after g nodes p out → r ≡ written_refusal w → n ≡ written_count w
       → left r.number r.place (lent_text n after) ≡ line_answer l nodes position out
   unfolding line_answer
@@ -109,7 +106,7 @@ module _ (l : List ℤ) where
       ∙ (λ i. written_answer (a i) (line_after g nodes p out))
       ∙ ap (λ (q : Position). written_answer (line_written g nodes q (length out)) (line_after g nodes q out)) e
 
-  pub write_told : (out after : List ℕ) (w : Written) (r : Refusal) (n : ℕ)
+  pub write_told : (out after : List ℕ) (w : Result ℕ Refusal) (r : Refusal) (n : ℕ)
       → w ≡ written g (length out) → after ≡ bytes_after g out → r ≡ written_refusal w → n ≡ written_count w
       → left r.number r.place (lent_text n after) ≡ write_answer l out
   unfolding write_answer
@@ -118,19 +115,19 @@ module _ (l : List ℤ) where
       ∙ (λ i. written_answer (a i) (bytes_after g out))
 
 module _ (text : List ℕ) (lent : List ℤ) (r : Reading) (e : r ≡ read_header text) where
-  by_verdict : (v : Verdict) → r.verdict ≡ v
+  by_verdict : (v : Result ⊤ Refusal) → r.verdict ≡ v
       → record { refusal = verdict_refusal v; lent = lent_after (verdict_refusal v) (numbers_of r.group) lent } ≡ read_answer text lent
   unfolding read_answer
   by_verdict v p = (λ i. read_of (record { verdict = sym p i; group = r.group }) lent) ∙ ap (λ (x : Reading). read_of x lent) e
 
-  pub read_accepted : (ns : List ℤ) → r.verdict ≡ verdict.Accepted → ns ≡ numbers_of r.group → left 0 0 ns ≡ read_answer text lent
-  read_accepted ns v n = ap (left 0 0) (n ∙ sym (lent_new no_refusal (numbers_of r.group) lent refl)) ∙ by_verdict verdict.Accepted v
+  pub read_accepted : (ns : List ℤ) → r.verdict ≡ Ok tt → ns ≡ numbers_of r.group → left 0 0 ns ≡ read_answer text lent
+  read_accepted ns v n = ap (left 0 0) (n ∙ sym (lent_new no_refusal (numbers_of r.group) lent refl)) ∙ by_verdict (Ok tt) v
 
-  pub read_refused : (f : Refusal) → r.verdict ≡ verdict.Refused f → left f.number f.place lent ≡ read_answer text lent
+  pub read_refused : (f : Refusal) → r.verdict ≡ Err f → left f.number f.place lent ≡ read_answer text lent
   read_refused f v =
       let t = read_told text in let w = sym (ap (λ (x : Reading). x.verdict) e) ∙ v in
-      ap (left f.number f.place) (sym (lent_kept f (numbers_of r.group) lent (λ z. no_acceptance f (sym w ∙ t.zero (ap (λ (x : Verdict). (verdict_refusal x).number) w ∙ z)))))
-      ∙ by_verdict (verdict.Refused f) v
+      ap (left f.number f.place) (sym (lent_kept f (numbers_of r.group) lent (λ z. no_acceptance f (sym w ∙ t.zero (ap (λ (x : Result ⊤ Refusal). (verdict_refusal x).number) w ∙ z)))))
+      ∙ by_verdict (Err f) v
 
 pub load_told : (quantum : ℤ) (flag : Float) (floats : List Float) (nodes after : List ℤ) (q : ℕ) (l : Loaded) (r : Refusal)
     → q ≡ count_of quantum → l ≡ loaded q flag floats (length nodes) → after ≡ nodes_after q flag floats nodes → r ≡ loaded_refusal l
@@ -141,16 +138,16 @@ load_told quantum flag floats nodes after q l r a b c d =
 
 module _ (number place : ℕ) (fix : List ℤ) where
   pub lookup_fix : (g : ℕ) (a b c : ℤ) → number ≡ 0 → g ≡ count_at fix 0 → a ≡ number_at fix 1 → b ≡ number_at fix 2 → c ≡ number_at fix 3
-      → Fix (record { grid = g; first = a; second = b; third = c }) ≡ lookup_of number place fix
+      → Ok (record { grid = g; first = a; second = b; third = c }) ≡ lookup_of number place fix
   unfolding lookup_of
   lookup_fix g a b c e p q r s =
-      (λ i. Fix (record { grid = p i; first = q i; second = r i; third = s i })) ∙ sym (chosen (eqb number 0) _ _ (eq-eqb number 0 e))
+      (λ i. Ok (record { grid = p i; first = q i; second = r i; third = s i })) ∙ sym (chosen (eqb number 0) _ _ (eq-eqb number 0 e))
 
-  pub lookup_refused : (number ≡ 0 → ⊥) → Refused (refusal number place) ≡ lookup_of number place fix
+  pub lookup_refused : (number ≡ 0 → ⊥) → Err (refusal number place) ≡ lookup_of number place fix
   unfolding lookup_of
   lookup_refused e = sym (passed_over (eqb number 0) _ _ (ne_eqb number 0 e))
 
-module _ (quantum parameters : ℤ) (number place : ℕ) (fix : List ℤ) (q np : ℕ) (f : Lookup) (eq : q ≡ count_of quantum) (en : np ≡ count_of parameters)
+module _ (quantum parameters : ℤ) (number place : ℕ) (fix : List ℤ) (q np : ℕ) (f : Result Fix Refusal) (eq : q ≡ count_of quantum) (en : np ≡ count_of parameters)
     (ef : f ≡ lookup_of number place fix) where
   pub shown_told : (s : ScreenAnswer) → s ≡ answer_of f q np → s ≡ shown_of quantum parameters number place fix
   unfolding shown_of

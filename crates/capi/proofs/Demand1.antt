@@ -9,17 +9,12 @@ use lib.ListN.{length, replicate}
 use Rattle.text.specs.Put.{put}
 use Rattle.group.specs.declared.Position.{Position}
 use Rattle.group.specs.declared.Refusal.{Refusal}
-use Rattle.group.specs.declared.Verdict.{Verdict}
 use Rattle.group.specs.Refusals.{verdict_refusal}
 use Rattle.group.proofs.RefusalLaws.{chain_verdict, lent_kept}
 use Rattle.judge.proofs.TableLaws.{judged_told}
-use Rattle.header.specs.declared.Written.{Written}
-use Rattle.header.specs.declared.Written.TheVariants as W
 use Rattle.header.specs.Whole.{header_text}
 use Rattle.header.specs.Header.{read_header, written, written_refusal, written_count, bytes_after}
 use Rattle.header.proofs.TableLaws.{read_told, written_told}
-use Rattle.fix.specs.declared.Lookup.{Lookup}
-use Rattle.fix.specs.declared.Lookup.TheVariants as L
 use Rattle.fix.specs.Answers.{lookup_refusal}
 use Rattle.lookup.specs.declared.Answer.{Answer as Found}
 use Rattle.lookup.specs.Answer.{answer_record}
@@ -42,8 +37,6 @@ use Rattle.screen.specs.declared.ScreenAnswer.{ScreenAnswer}
 use Rattle.screen.specs.declared.ScreenAnswer.TheVariants as S
 use Rattle.screen.specs.Screen.{plus_zero, screen_refusal, shifts_of, record_of}
 use Rattle.screen.proofs.TableLaws.{answer_told}
-use Rattle.logs.specs.declared.Judgement.{Judgement}
-use Rattle.logs.specs.declared.Judgement.TheVariants as J
 use Rattle.logs.specs.Line.{position_of}
 use Rattle.logs.specs.Log.{log_judged, judgement_refusal, judgement_fault}
 use Rattle.logs.specs.Writing.{line_written}
@@ -54,6 +47,9 @@ use Rattle.capi.specs.Answers.{point_of, lent_text, judge_answer, read_answer, w
 use Rattle.capi.specs.InForce.{list_words, list_numbers, in_force_answer}
 use Rattle.capi.specs.Screen.{lookup_of, shown_of, record_floats}
 use Rattle.capi.specs.Demand1.{Judges, Reads, Writes, JudgesLog, WritesLine, Looks, LooksMany, Lists, FindsHole, Loads, Shows}
+use Rattle.std.specs.Prelude.{Result, Ok, Err, ⊤}
+use Rattle.fix.specs.declared.Fix.{Fix}
+use Rattle.logs.specs.declared.Fault.{Fault}
 
 pub judges : (group : List ℤ) → Judges group
 unfolding judge_answer
@@ -64,9 +60,9 @@ unfolding read_answer
 reads text group =
     record { told = read_told text; kept = lent_kept (verdict_refusal (read_header text).verdict) (numbers_of (read_header text).group) group }
 
-uncounted : (w : Written) → ((written_refusal w).number ≡ 0 → ⊥) → written_count w ≡ 0
-uncounted (W.Count c) n = absurd (n refl)
-uncounted (W.Refused r) n = refl
+uncounted : (w : Result ℕ Refusal) → ((written_refusal w).number ≡ 0 → ⊥) → written_count w ≡ 0
+uncounted (Ok c) n = absurd (n refl)
+uncounted (Err r) n = refl
 
 pub writes : (group : List ℤ) (out : List ℕ) → Writes group out
 unfolding write_answer bytes_after
@@ -81,9 +77,9 @@ pub judges_log : (group nodes : List ℤ) (log : List ℕ) → JudgesLog group n
 unfolding log_answer
 judges_log group nodes log = record { told = log_told (group_of_words group) nodes log; zeros = zeros (log_judged (group_of_words group) nodes log) }
   where
-    zeros : (j : Judgement) → ((judgement_refusal j).number ≡ 0 → ⊥) → fault_numbers (judgement_fault j) ≡ replicate 2 0
-    zeros (J.Judged f) n = absurd (n refl)
-    zeros (J.Refused r) n = refl
+    zeros : (j : Result Fault Refusal) → ((judgement_refusal j).number ≡ 0 → ⊥) → fault_numbers (judgement_fault j) ≡ replicate 2 0
+    zeros (Ok f) n = absurd (n refl)
+    zeros (Err r) n = refl
 
 pub writes_line : (group nodes position : List ℤ) (out : List ℕ) → WritesLine group nodes position out
 unfolding line_answer
@@ -104,9 +100,9 @@ looks group nodes lon lat day =
       zeros = zeros found;
     }
   where
-    zeros : (x : Lookup) → ((lookup_refusal x).number ≡ 0 → ⊥) → fix_numbers (answer_record x) ≡ replicate 4 (pos 0)
-    zeros (L.Fix f) n = absurd (n refl)
-    zeros (L.Refused r) n = refl
+    zeros : (x : Result Fix Refusal) → ((lookup_refusal x).number ≡ 0 → ⊥) → fix_numbers (answer_record x) ≡ replicate 4 (pos 0)
+    zeros (Ok f) n = absurd (n refl)
+    zeros (Err r) n = refl
 
 pub looks_many : (group nodes : List ℤ) (points : List Position) (results : List Found) → LooksMany group nodes points results
 unfolding many_answer results_after
@@ -146,7 +142,7 @@ finds_hole group area =
       told = found_told (group_of_words group) area;
       zeros =
           chain_verdict refused_hole HoleZeros (area_judged (group_of_words group) area) (accepted_hole (hole_in (group_of_words group) area))
-          (λ r e n. refl) (λ n. absurd (n (ap (λ (v : Verdict). (verdict_refusal v).number) (found_accepted (hole_in (group_of_words group) area)))));
+          (λ r e n. refl) (λ n. absurd (n (ap (λ (v : Result ⊤ Refusal). (verdict_refusal v).number) (found_accepted (hole_in (group_of_words group) area)))));
       alike = ap verdict_refusal (refuses_alike (group_of_words group) area).alike;
     }
 

@@ -5,8 +5,6 @@ use mathlib.Core.List.{List}
 use lib.IntN.{ℤ}
 use lib.ListN.{length}
 use Rattle.group.specs.declared.Group.{Group}
-use Rattle.group.specs.declared.Verdict.{Verdict}
-use Rattle.group.specs.declared.Verdict.TheVariants.{Accepted}
 use Rattle.group.specs.Refusals.{verdict_refusal}
 use Rattle.group.proofs.RefusalLaws.{lent_new}
 use Rattle.header.specs.Header.{read_header, written, bytes_after}
@@ -18,16 +16,18 @@ use Rattle.judge.proofs.KeptLaws.{accepted_kept}
 use Rattle.capi.specs.Answers.{read_answer, written_answer, write_answer}
 use Rattle.capi.specs.Demand2.{WrittenBack, ReadBack}
 use Rattle.capi.proofs.Demand1.{reads}
+use Rattle.std.specs.Prelude.{Result, Ok, ⊤}
+use Rattle.group.specs.declared.Refusal.{Refusal}
 
 module _ (text : List ℕ) (group : List ℤ) (z : (read_answer text group).refusal.number ≡ 0) where
   abbrev g : Group
   g = (read_header text).group
 
-  accepted : (read_header text).verdict ≡ Accepted
+  accepted : (read_header text).verdict ≡ Ok tt
   accepted = (reads text group).told.zero z
 
   none : (verdict_refusal (read_header text).verdict).number ≡ 0
-  none = ap (λ (v : Verdict). (verdict_refusal v).number) accepted
+  none = ap (λ (v : Result ⊤ Refusal). (verdict_refusal v).number) accepted
 
   filled : (read_answer text group).lent ≡ numbers_of g
   unfolding read_answer

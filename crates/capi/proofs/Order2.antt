@@ -5,8 +5,6 @@ use mathlib.Core.List.{List}
 use native.Mathlib.Omega.{arith}
 use lib.IntN.{ℤ, pos, nat_abs}
 use Rattle.group.specs.declared.Group.{Group}
-use Rattle.group.specs.declared.Verdict.{Verdict}
-use Rattle.group.specs.declared.Verdict.TheVariants.{Accepted, Refused}
 use Rattle.group.specs.Refusals.{refusal}
 use Rattle.group.proofs.RefusalLaws.{no_acceptance}
 use Rattle.judge.specs.Judge.{judged}
@@ -20,6 +18,8 @@ use Rattle.inforce.proofs.Order2.{order_2, refuses_alike}
 use Rattle.abi.specs.Abi.{number_at, group_of_words}
 use Rattle.capi.specs.Answers.{hole_numbers, hole_answer}
 use Rattle.capi.specs.Order2.{HoleWords, NamesHole}
+use Rattle.std.specs.Prelude.{Result, Ok, Err, ⊤}
+use Rattle.group.specs.declared.Refusal.{Refusal}
 
 -- the first number says whether there is a hole
 is_one : (b : Bool) → cond b (pos 1) (pos 0) ≡ pos 1 → b ≡ true
@@ -46,10 +46,10 @@ names_hole group area z = go (judged g) refl (area_fits area) refl
     g : Group
     g = group_of_words group
 
-    accepted : (hole_of g area).verdict ≡ Accepted
+    accepted : (hole_of g area).verdict ≡ Ok tt
     accepted = (found_told g area).zero z
 
-    go : (v : Verdict) → judged g ≡ v → (t : Bool) → area_fits area ≡ t → HoleWords g area (hole_numbers (hole_of g area))
-    go (Refused r) e t f = absurd (no_acceptance r (sym ((refuses_alike g area).judges.group r e) ∙ accepted))
-    go Accepted e false f = absurd (no_acceptance (refusal 10 0) (sym ((refuses_alike g area).judges.area e f) ∙ accepted))
-    go Accepted e true f = words g area (hole_of g area) (order_2 g area e f)
+    go : (v : Result ⊤ Refusal) → judged g ≡ v → (t : Bool) → area_fits area ≡ t → HoleWords g area (hole_numbers (hole_of g area))
+    go (Err r) e t f = absurd (no_acceptance r (sym ((refuses_alike g area).judges.group r e) ∙ accepted))
+    go (Ok tt) e false f = absurd (no_acceptance (refusal 10 0) (sym ((refuses_alike g area).judges.area e f) ∙ accepted))
+    go (Ok tt) e true f = words g area (hole_of g area) (order_2 g area e f)

@@ -16,8 +16,6 @@ use Rattle.group.specs.declared.Refusal.{Refusal}
 use Rattle.judge.proofs.LimitLaws.{parameters_between}
 use Rattle.judge.proofs.Accepted.{accepted}
 use Rattle.fix.specs.declared.Fix.{Fix}
-use Rattle.fix.specs.declared.Lookup.{Lookup}
-use Rattle.fix.specs.declared.Lookup.TheVariants as L
 use Rattle.fix.specs.Answers.{lookup_refusal, result_in, results_of}
 use Rattle.lookup.specs.Lookup.{point_fits, looked}
 use Rattle.lookup.proofs.FoundLaws.{found}
@@ -31,6 +29,7 @@ use Rattle.lookup.specs.Answer.{answer_record}
 use Rattle.capi.specs.Answers.{fix_numbers, found_answer, point_of, lookup_answer}
 use Rattle.capi.specs.Screen.{lookup_of, shown_of}
 use Rattle.capi.specs.Shown.{LookupShown, LeftShown}
+use Rattle.std.specs.Prelude.{Result, Ok}
 
 -- ---- the library's calls
 
@@ -41,7 +40,7 @@ point_sizes p e =
     (le_trans (within_size lon_most p.lon.0 (and_left x y e)) (lit≤ tt), le_trans (within_size lat_most p.lat.0 (and_right x y e)) (lit≤ tt))
 
 module _ (g : Group) (nodes : List ℤ) (p : Point) (t : ℤ) (q : ℕ) where
-  fix_shown : (f : Fix) → looked g nodes p t ≡ L.Fix f → q ≤ 20 → ShowsResults (result_in f) q g.parameters (answer_of (L.Fix f) q g.parameters)
+  fix_shown : (f : Fix) → looked g nodes p t ≡ Ok f → q ≤ 20 → ShowsResults (result_in f) q g.parameters (answer_of (Ok f) q g.parameters)
   fix_shown f e k =
       let n = parameters_between g (accepted g (found g nodes p t f e).ready.accepted).head in
       shown_exactly f q g.parameters k n.0 n.1 (λ i l. le_trans (answered g nodes p t f e i l).small (lit≤ tt))
@@ -49,7 +48,7 @@ module _ (g : Group) (nodes : List ℤ) (p : Point) (t : ℤ) (q : ℕ) where
   pub lookup_shown : (lookup_refusal (looked g nodes p t)).number ≡ 0 → q ≤ 20 → LookupShown g nodes p t q
   lookup_shown z k =
       let u = (zero_fix g nodes p t).0 z in
-      let r = subst (λ (a : Lookup). ShowsResults (results_of a) q g.parameters (answer_of a q g.parameters)) (sym u.1) (fix_shown u.0 u.1 k) in
+      let r = subst (λ (a : Result Fix Refusal). ShowsResults (results_of a) q g.parameters (answer_of a q g.parameters)) (sym u.1) (fix_shown u.0 u.1 k) in
       record {
         results = r;
         point = record_shown p (looked g nodes p t) q g.parameters (ap (λ (s : Refusal). s.number) r.accepted);
@@ -59,18 +58,18 @@ module _ (g : Group) (nodes : List ℤ) (p : Point) (t : ℤ) (q : ℕ) where
 -- ---- the C functions
 
 -- the results of a fix among its four numbers
-among : (f : Fix) (p : ℕ) → result_in f p ≡ number_at (fix_numbers (answer_record (L.Fix f))) (suc p)
+among : (f : Fix) (p : ℕ) → result_in f p ≡ number_at (fix_numbers (answer_record (Ok f))) (suc p)
 among f zero = refl
 among f (suc zero) = refl
 among f (suc (suc zero)) = refl
 among f (suc (suc (suc p))) = refl
 
-of_fix : (f : Fix) (q np : ℕ) → ShowsResults (result_in f) q np (answer_of (L.Fix f) q np) → LeftShown (found_answer (answer_record (L.Fix f))) q np
+of_fix : (f : Fix) (q np : ℕ) → ShowsResults (result_in f) q np (answer_of (Ok f) q np) → LeftShown (found_answer (answer_record (Ok f))) q np
 unfolding shown_of lookup_of
 of_fix f q np r =
     record {
       accepted = r.accepted;
-      exact = λ p l. subst (Times (shift_at (answer_of (L.Fix f) q np) p) (2 ^ q)) (among f p) (r.exact p l);
+      exact = λ p l. subst (Times (shift_at (answer_of (Ok f) q np) p) (2 ^ q)) (among f p) (r.exact p l);
       missing = r.missing;
     }
 
@@ -80,5 +79,5 @@ unfolding lookup_answer
 left_shown group nodes lon lat day q z k =
     let g = group_of_words group in
     let u = (zero_fix g nodes (point_of lon lat) day).0 z in
-    subst (λ (a : Lookup). LeftShown (found_answer (answer_record a)) q g.parameters) (sym u.1)
+    subst (λ (a : Result Fix Refusal). LeftShown (found_answer (answer_record a)) q g.parameters) (sym u.1)
     (of_fix u.0 q g.parameters (fix_shown g nodes (point_of lon lat) day q u.0 u.1 k))

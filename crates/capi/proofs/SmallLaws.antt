@@ -9,8 +9,6 @@ use lib.Dec.{leb}
 use lib.IntN.{ℤ}
 use lib.ListN.{get_or, replicate}
 use Rattle.group.specs.declared.Group.{Group}
-use Rattle.group.specs.declared.Verdict.{Verdict}
-use Rattle.group.specs.declared.Verdict.TheVariants as verdict
 use Rattle.group.specs.Numbers.{grids_most}
 use Rattle.judge.proofs.Accepted.{accepted_head}
 use Rattle.inforce.specs.declared.Area.{Area}
@@ -24,6 +22,8 @@ use Rattle.inforce.proofs.Demand3.{none_at, demand_3}
 use Rattle.abi.specs.Abi.{joined}
 use Rattle.abi.proofs.NumberLaws.{as_it_is}
 use Rattle.capi.specs.InForce.{entry_numbers, stored_entry, list_numbers, stored_list}
+use Rattle.std.specs.Prelude.{Result, Ok, Err, ⊤}
+use Rattle.group.specs.declared.Refusal.{Refusal}
 
 record Small (r : InForce) : Type 0 where
   few : r.count ≤ grids_most
@@ -46,9 +46,9 @@ listed_small g a r s h = record { few = omega (arith, h.most); each = λ k. go k
 list_small : (g : Group) (a : Area) → Small (in_force_of g a)
 list_small g a = go (area_judged g a) refl
   where
-    go : (v : Verdict) → area_judged g a ≡ v → Small (in_force_of g a)
-    go (verdict.Refused r) e = refused_small (in_force_of g a) (ap (λ (x : InForce). x.count) (in_force_refused g a r e)) (ap (λ (x : InForce). x.entries) (in_force_refused g a r e))
-    go verdict.Accepted e = let j = accepted_area g a e in listed_small g a (in_force_of g a) (accepted_head g j.0).grids (demand_3 g a j.0 j.1)
+    go : (v : Result ⊤ Refusal) → area_judged g a ≡ v → Small (in_force_of g a)
+    go (Err r) e = refused_small (in_force_of g a) (ap (λ (x : InForce). x.count) (in_force_refused g a r e)) (ap (λ (x : InForce). x.entries) (in_force_refused g a r e))
+    go (Ok tt) e = let j = accepted_area g a e in listed_small g a (in_force_of g a) (accepted_head g j.0).grids (demand_3 g a j.0 j.1)
 
 joined_same : {A : Type 0} (f h : ℕ → List A) (n : ℕ) → ((k : ℕ) → f k ≡ h k) → joined f n ≡ joined h n
 unfolding joined

@@ -1,12 +1,11 @@
 -- What each call of the C interface leaves: the refusal's number and place, 0 and 0 where it is accepted, and the lent memory.
-use Rattle.std.specs.Prelude.{ℕ, cond, List, [], ◌∷◌, ℤ, pos, Float, eqb, length}
+use Rattle.std.specs.Prelude.{ℕ, cond, List, [], ◌∷◌, ℤ, pos, Float, eqb, length, Result}
 use Rattle.group.specs.declared.Point.{Point}
 use Rattle.group.specs.declared.Position.{Position}
 use Rattle.group.specs.declared.Refusal.{Refusal}
 use Rattle.group.specs.Refusals.{refusal, verdict_refusal, lent_after}
 use Rattle.text.specs.Parts.{start_of, end_of}
 use Rattle.header.specs.declared.Reading.{Reading}
-use Rattle.header.specs.declared.Written.{Written}
 use Rattle.header.specs.Header.{read_header, written, written_refusal, written_count, bytes_after}
 use Rattle.nodes.specs.Load.{loaded, loaded_refusal, nodes_after}
 use Rattle.judge.specs.Judge.{judged}
@@ -18,7 +17,6 @@ use Rattle.lookup.specs.Answer.{answer_record}
 use Rattle.lookup.specs.Lookup.{looked}
 use Rattle.exercise.specs.Exercise.{many_verdict, results_after}
 use Rattle.logs.specs.declared.Fault.{Fault}
-use Rattle.logs.specs.declared.Judgement.{Judgement}
 use Rattle.logs.specs.Line.{position_of}
 use Rattle.logs.specs.Log.{log_judged, judgement_refusal, judgement_fault}
 use Rattle.logs.specs.Writing.{line_written, line_after}
@@ -102,7 +100,7 @@ pub record Text : Type 0 where
 abbrev pub lent_text : ℕ → List ℕ → Text
 lent_text count bytes = record { count = count; bytes = bytes }
 
-abbrev pub written_answer : Written → List ℕ → Answer Text
+abbrev pub written_answer : Result ℕ Refusal → List ℕ → Answer Text
 written_answer w bytes = record { refusal = written_refusal w; lent = lent_text (written_count w) bytes }
 
 unfoldable pub write_answer : List ℤ → List ℕ → Answer Text
@@ -113,7 +111,7 @@ write_answer group out = written_answer (written (group_of_words group) (length 
 abbrev pub fault_numbers : Fault → List ℕ
 fault_numbers f = f.line ∷ f.kind ∷ []
 
-abbrev pub judgement_answer : Judgement → Answer (List ℕ)
+abbrev pub judgement_answer : Result Fault Refusal → Answer (List ℕ)
 judgement_answer j = record { refusal = judgement_refusal j; lent = fault_numbers (judgement_fault j) }
 
 unfoldable pub log_answer : (group nodes : List ℤ) → List ℕ → Answer (List ℕ)

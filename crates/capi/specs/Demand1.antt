@@ -1,14 +1,11 @@
 -- Demand 1 of what every call of the C interface returns and leaves: 0 exactly where the call is accepted, else a number of the table; and
 -- after a refusal memory lent for output is as it was, and every number handed back beside it is 0.
-use Rattle.std.specs.Prelude.{ℕ, ◌≡◌, List, eqb, ℤ, pos, Float, length, replicate}
+use Rattle.std.specs.Prelude.{ℕ, ◌≡◌, List, eqb, ℤ, pos, Float, length, replicate, Ok}
 use Rattle.group.specs.declared.Position.{Position}
-use Rattle.group.specs.declared.Verdict.TheVariants.{Accepted}
 use Rattle.group.specs.Refusals.{Told}
 use Rattle.judge.specs.Judge.{judged}
-use Rattle.header.specs.declared.Written.TheVariants.{Count}
 use Rattle.header.specs.Header.{read_header, written}
 use Rattle.fix.specs.declared.Fix.{Fix}
-use Rattle.fix.specs.declared.Lookup.TheVariants as L
 use Rattle.lookup.specs.declared.Answer.{Answer as Found}
 use Rattle.lookup.specs.Lookup.{looked}
 use Rattle.exercise.specs.Exercise.{many_verdict}
@@ -20,7 +17,6 @@ use Rattle.nodes.specs.Load.{loaded}
 use Rattle.screen.specs.declared.ScreenAnswer.TheVariants as S
 use Rattle.screen.specs.Screen.{plus_zero}
 use Rattle.logs.specs.declared.Fault.{Fault}
-use Rattle.logs.specs.declared.Judgement.TheVariants.{Judged}
 use Rattle.logs.specs.Line.{position_of}
 use Rattle.logs.specs.Log.{log_judged}
 use Rattle.logs.specs.Writing.{line_written}
@@ -36,46 +32,46 @@ abbrev pub LeftBeside : {B : Type 0} → B → Answer B → Type 0
 LeftBeside lent a = (a.refusal.number ≡ 0 → ⊥) → a.lent ≡ lent
 
 pub record Judges (group : List ℤ) : Type 0 where
-  pub told : Told (judged (group_of_words group) ≡ Accepted) (judge_answer group)
+  pub told : Told (judged (group_of_words group) ≡ Ok tt) (judge_answer group)
 
 pub record Reads (text : List ℕ) (group : List ℤ) : Type 0 where
-  pub told : Told ((read_header text).verdict ≡ Accepted) (read_answer text group).refusal
+  pub told : Told ((read_header text).verdict ≡ Ok tt) (read_answer text group).refusal
   -- the group is as it was
   pub kept : LeftBeside group (read_answer text group)
 
 pub record Writes (group : List ℤ) (out : List ℕ) : Type 0 where
-  pub told : Told ((n : ℕ) × (written (group_of_words group) (length out) ≡ Count n)) (write_answer group out).refusal
+  pub told : Told ((n : ℕ) × (written (group_of_words group) (length out) ≡ Ok n)) (write_answer group out).refusal
   -- the count is 0 and the bytes are as they were
   pub kept : LeftBeside (lent_text 0 out) (write_answer group out)
 
 pub record JudgesLog (group nodes : List ℤ) (log : List ℕ) : Type 0 where
-  pub told : Told ((f : Fault) × (log_judged (group_of_words group) nodes log ≡ Judged f)) (log_answer group nodes log).refusal
+  pub told : Told ((f : Fault) × (log_judged (group_of_words group) nodes log ≡ Ok f)) (log_answer group nodes log).refusal
   pub zeros : LeftBeside (replicate 2 0) (log_answer group nodes log)
 
 pub record WritesLine (group nodes position : List ℤ) (out : List ℕ) : Type 0 where
   pub told :
-      Told ((n : ℕ) × (line_written (group_of_words group) nodes (position_of position) (length out) ≡ Count n))
+      Told ((n : ℕ) × (line_written (group_of_words group) nodes (position_of position) (length out) ≡ Ok n))
       (line_answer group nodes position out).refusal
   -- the count is 0 and the bytes are as they were
   pub kept : LeftBeside (lent_text 0 out) (line_answer group nodes position out)
 
 pub record Looks (group nodes : List ℤ) (lon lat day : ℤ) : Type 0 where
-  pub told : Told ((f : Fix) × (looked (group_of_words group) nodes (point_of lon lat) day ≡ L.Fix f)) (lookup_answer group nodes lon lat day).refusal
+  pub told : Told ((f : Fix) × (looked (group_of_words group) nodes (point_of lon lat) day ≡ Ok f)) (lookup_answer group nodes lon lat day).refusal
   pub zeros : LeftBeside (replicate 4 (pos 0)) (lookup_answer group nodes lon lat day)
 
 pub record LooksMany (group nodes : List ℤ) (points : List Position) (results : List Found) : Type 0 where
   pub told :
-      Told (many_verdict (group_of_words group) (length nodes) (eqb (length points) (length results)) ≡ Accepted)
+      Told (many_verdict (group_of_words group) (length nodes) (eqb (length points) (length results)) ≡ Ok tt)
       (many_answer group nodes points results).refusal
   -- the results are as they were
   pub kept : LeftBeside results (many_answer group nodes points results)
 
 pub record Lists (group : List ℤ) (area : Area) : Type 0 where
-  pub told : Told ((in_force_of (group_of_words group) area).verdict ≡ Accepted) (in_force_answer group area).refusal
+  pub told : Told ((in_force_of (group_of_words group) area).verdict ≡ Ok tt) (in_force_answer group area).refusal
   pub zeros : LeftBeside (replicate list_words (pos 0)) (in_force_answer group area)
 
 pub record FindsHole (group : List ℤ) (area : Area) : Type 0 where
-  pub told : Told ((hole_of (group_of_words group) area).verdict ≡ Accepted) (hole_answer group area).refusal
+  pub told : Told ((hole_of (group_of_words group) area).verdict ≡ Ok tt) (hole_answer group area).refusal
   pub zeros : LeftBeside (replicate 3 (pos 0)) (hole_answer group area)
   -- the same refusal as of the grids in force
   pub alike : (hole_answer group area).refusal ≡ (in_force_answer group area).refusal

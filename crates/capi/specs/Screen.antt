@@ -1,21 +1,21 @@
 -- A lookup's answer as the C interface passes it to the screen, and the floats that are handed back.
-use Rattle.std.specs.Prelude.{ℕ, cond, List, [], ◌∷◌, eqb, Float, ℤ}
+use Rattle.std.specs.Prelude.{ℕ, cond, List, [], ◌∷◌, eqb, Float, ℤ, Result, Ok, Err}
 use Rattle.group.specs.Refusals.{refusal}
-use Rattle.fix.specs.declared.Lookup.{Lookup}
-use Rattle.fix.specs.declared.Lookup.TheVariants as L
 use Rattle.screen.specs.declared.ScreenAnswer.{ScreenAnswer}
 use Rattle.screen.specs.declared.ScreenRecord.{ScreenRecord}
 use Rattle.screen.specs.Screen.{screen_refusal, shifts_of, answer_of, record_of}
 use Rattle.numbers.specs.Order.{count_of}
 use Rattle.abi.specs.Abi.{number_at, count_at}
 use Rattle.capi.specs.Answers.{Answer, point_of}
+use Rattle.group.specs.declared.Refusal.{Refusal}
+use Rattle.fix.specs.declared.Fix.{Fix}
 
 -- the number that the lookup returned, the place that it left and the four numbers that it filled
-unfoldable pub lookup_of : ℕ → ℕ → List ℤ → Lookup
+unfoldable pub lookup_of : ℕ → ℕ → List ℤ → Result Fix Refusal
 lookup_of number place fix =
     cond (eqb number 0)
-    (L.Fix (record { grid = count_at fix 0; first = number_at fix 1; second = number_at fix 2; third = number_at fix 3 }))
-    (L.Refused (refusal number place))
+    (Ok (record { grid = count_at fix 0; first = number_at fix 1; second = number_at fix 2; third = number_at fix 3 }))
+    (Err (refusal number place))
 
 -- what the screen answers for them; Q or NP below zero is outside its limit
 unfoldable pub shown_of : ℤ → ℤ → ℕ → ℕ → List ℤ → ScreenAnswer

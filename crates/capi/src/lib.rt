@@ -18,11 +18,9 @@ ghost use Rattle.capi.specs.Screen.{lookup_of, shown_of, shifts_answer, record_a
 
 use abi::GROUP_WORDS;
 use extent::{LatSpan, LonSpan};
-use fix::{Fix, Lookup};
-use group::{GRIDS_MOST, Latitude, Longitude, Point, Position, Refusal, Verdict};
-use header::Written;
+use fix::Fix;
+use group::{GRIDS_MOST, Latitude, Longitude, Point, Position, Refusal};
 use inforce::{Area, GridInForce, InForce, Uncovered};
-use logs::Judgement;
 use lookup::Answer;
 use nodes::Loaded;
 use screen::ScreenAnswer;
@@ -56,12 +54,12 @@ fn no_refusal() -> Refusal
 }
 
 // The refusal of a verdict.
-fn verdict_refusal(v: Verdict) -> Refusal
+fn verdict_refusal(v: Result<(), Refusal>) -> Refusal
     ensures { result ≡ verdict_refusal v }
 {
     match v {
-        Verdict::Accepted => no_refusal(),
-        Verdict::Refused(refusal) => refusal,
+        Ok(()) => no_refusal(),
+        Err(refusal) => refusal,
     }
 }
 
@@ -88,12 +86,12 @@ pub extern "C" fn bulhyemik_read_header(
     let verdict = reading.verdict;
     let found = reading.group;
     match verdict {
-        Verdict::Accepted => {
+        Ok(()) => {
             *group = abi::numbers_of(found);
             *place = 0;
             0
         }
-        Verdict::Refused(refusal) => {
+        Err(refusal) => {
             *place = refusal.place;
             refusal.number
         }
@@ -101,22 +99,22 @@ pub extern "C" fn bulhyemik_read_header(
 }
 
 // The refusal of a writing.
-fn written_refusal(w: Written) -> Refusal
+fn written_refusal(w: Result<usize, Refusal>) -> Refusal
     ensures { result ≡ written_refusal w }
 {
     match w {
-        Written::Count(_) => no_refusal(),
-        Written::Refused(refusal) => refusal,
+        Ok(_) => no_refusal(),
+        Err(refusal) => refusal,
     }
 }
 
 // The count of bytes of a writing.
-fn written_count(w: Written) -> u64
+fn written_count(w: Result<usize, Refusal>) -> u64
     ensures { result ≡ written_count w }
 {
     match w {
-        Written::Count(n) => n as u64,
-        Written::Refused(_) => 0,
+        Ok(n) => n as u64,
+        Err(_) => 0,
     }
 }
 
@@ -138,22 +136,22 @@ pub extern "C" fn bulhyemik_write_header(
 }
 
 // The refusal of a judgement.
-fn judgement_refusal(j: Judgement) -> Refusal
+fn judgement_refusal(j: Result<Fault, Refusal>) -> Refusal
     ensures { result ≡ judgement_refusal j }
 {
     match j {
-        Judgement::Judged(_) => no_refusal(),
-        Judgement::Refused(refusal) => refusal,
+        Ok(_) => no_refusal(),
+        Err(refusal) => refusal,
     }
 }
 
 // The line and the kind of a judgement.
-fn fault_numbers(j: Judgement) -> [u64; 2]
+fn fault_numbers(j: Result<Fault, Refusal>) -> [u64; 2]
     ensures { result ≡ fault_numbers (judgement_fault j) }
 {
     match j {
-        Judgement::Judged(fault) => [fault.line, fault.kind],
-        Judgement::Refused(_) => [0, 0],
+        Ok(fault) => [fault.line, fault.kind],
+        Err(_) => [0, 0],
     }
 }
 
@@ -377,18 +375,18 @@ pub extern "C" fn bulhyemik_load_nodes(
 }
 
 // A lookup's answer of the number that it returned, the place that it left and the numbers that it filled.
-fn lookup_of(number: u64, at: u64, fix: &[i64; 4]) -> Lookup
+fn lookup_of(number: u64, at: u64, fix: &[i64; 4]) -> Result<Fix, Refusal>
     ensures { result ≡ lookup_of number at fix.now }
 {
     if number == 0 {
-        return Lookup::Fix(Fix {
+        return Ok(Fix {
             grid: numbers::count_of(fix[0]),
             first: fix[1],
             second: fix[2],
             third: fix[3],
         });
     }
-    Lookup::Refused(Refusal {
+    Err(Refusal {
         number: number,
         place: at,
     })

@@ -14,8 +14,6 @@ use Rattle.numbers.specs.First.{some}
 use Rattle.group.specs.declared.Group.{Group}
 use Rattle.group.specs.declared.Position.{Position}
 use Rattle.group.specs.declared.Refusal.{Refusal}
-use Rattle.group.specs.declared.Verdict.{Verdict}
-use Rattle.group.specs.declared.Verdict.TheVariants.{Accepted, Refused}
 use Rattle.group.specs.Refusals.{no_refusal, verdict_refusal, refuse_first, Told, lent_after}
 use Rattle.group.proofs.RefusalLaws.{no_acceptance, verdicts, told_accepted, told_if, told_verdict, passed_if, passed_verdict, lent_new, lent_kept}
 use Rattle.abi.specs.Abi.{group_of_words, numbers_of, MachineGroup}
@@ -29,24 +27,25 @@ use Rattle.exercise.specs.Exercise.{many_judged, many_verdict, answer_at, result
 use Rattle.exercise.specs.Tables.{Tabled, CallReady, counted}
 use Rattle.exercise.proofs.FilledLaws.{filled}
 use Rattle.exercise.proofs.StageLaws.{many_group}
+use Rattle.std.specs.Prelude.{Result, Ok, Err, ⊤}
 
 module _ (g : Group) (nodes : ℕ) (agree : Bool) where
   -- its number is 0 exactly where it is accepted, else a number of the table
-  pub many_told : Told (many_verdict g nodes agree ≡ Accepted) (verdict_refusal (many_verdict g nodes agree))
+  pub many_told : Told (many_verdict g nodes agree ≡ Ok tt) (verdict_refusal (many_verdict g nodes agree))
   unfolding many_verdict many_judged nodes_judged refuse_first
   many_told = told_verdict verdicts (judged g) (judged_told g) (told_if verdicts (not agree) 12 0 refl (told_if verdicts _ 13 _ refl (told_accepted refl)))
 
   -- an accepted call
-  module _ (e : many_verdict g nodes agree ≡ Accepted) where
-    past_group : (judged g ≡ Accepted) × (many_judged g nodes agree ≡ Accepted)
+  module _ (e : many_verdict g nodes agree ≡ Ok tt) where
+    past_group : (judged g ≡ Ok tt) × (many_judged g nodes agree ≡ Ok tt)
     unfolding many_verdict
-    past_group = passed_verdict Refused Accepted no_acceptance (judged g) (many_judged g nodes agree) e
+    past_group = passed_verdict Err (Ok tt) no_acceptance (judged g) (many_judged g nodes agree) e
 
-    past_lengths : (not agree ≡ false) × (nodes_judged g nodes ≡ Accepted)
+    past_lengths : (not agree ≡ false) × (nodes_judged g nodes ≡ Ok tt)
     unfolding many_judged
-    past_lengths = passed_if Refused Accepted no_acceptance (not agree) 12 0 (nodes_judged g nodes) past_group.1
+    past_lengths = passed_if Err (Ok tt) no_acceptance (not agree) 12 0 (nodes_judged g nodes) past_group.1
 
-    pub call_judged : judged g ≡ Accepted
+    pub call_judged : judged g ≡ Ok tt
     call_judged = past_group.0
 
     pub call_agree : agree ≡ true
@@ -60,22 +59,22 @@ module _ (g : Group) (nodes : ℕ) (agree : Bool) where
 
 -- ---- how many points are answered
 
-pub counted_some : (v : Verdict) (n i : ℕ) → i < counted v n → v ≡ Accepted
-counted_some Accepted n i h = refl
-counted_some (Refused r) n i h = absurd (not-suc-le-zero h)
+pub counted_some : (v : Result ⊤ Refusal) (n i : ℕ) → i < counted v n → v ≡ Ok tt
+counted_some (Ok tt) n i h = refl
+counted_some (Err r) n i h = absurd (not-suc-le-zero h)
 
-pub counted_most : (v : Verdict) (n : ℕ) → counted v n ≤ n
-counted_most Accepted n = omega arith
-counted_most (Refused r) n = omega arith
+pub counted_most : (v : Result ⊤ Refusal) (n : ℕ) → counted v n ≤ n
+counted_most (Ok tt) n = omega arith
+counted_most (Err r) n = omega arith
 
 -- what a call leaves that answers all points, or none after a refusal
 module _ {A : Type 0} (new old : List A) (n : ℕ) where
-  pub filled_lent : (v : Verdict) → Told (v ≡ Accepted) (verdict_refusal v) → length new ≡ n → (v ≡ Accepted → n ≡ length old)
+  pub filled_lent : (v : Result ⊤ Refusal) → Told (v ≡ Ok tt) (verdict_refusal v) → length new ≡ n → (v ≡ Ok tt → n ≡ length old)
       → filled new old (counted v n) ≡ lent_after (verdict_refusal v) new old
-  filled_lent Accepted t l h =
+  filled_lent (Ok tt) t l h =
       (λ i. take (sym l i) new ++ drop (h refl i) old)
       ∙ (λ i. take-length new i ++ drop-length old i) ∙ append-nil new ∙ sym (lent_new no_refusal new old refl)
-  filled_lent (Refused r) t l h = sym (lent_kept r new old (λ z. no_acceptance r (t.zero z)))
+  filled_lent (Err r) t l h = sym (lent_kept r new old (λ z. no_acceptance r (t.zero z)))
 
 pub results_all : (g : Group) (nodes : List ℤ) (points : List Position) (results : List Answer)
     → let v = many_verdict g (length nodes) (eqb (length points) (length results)) in
@@ -91,7 +90,7 @@ results_all g nodes points results =
 module _ (g : Group) (h : MachineGroup g) where
   pub many_stored : (nodes : ℕ) (agree : Bool) → many_verdict (group_of_words (numbers_of g)) nodes agree ≡ many_verdict g nodes agree
   unfolding many_verdict
-  many_stored nodes agree = stored_told g h Refused (λ x. many_judged x nodes agree)
+  many_stored nodes agree = stored_told g h Err (λ x. many_judged x nodes agree)
 
   -- so is what is left of every list
   lent_stored : {A : Type 0} (new : Group → List A) (old : List A) (nodes : ℕ) (agree : Bool)
@@ -99,14 +98,14 @@ module _ (g : Group) (h : MachineGroup g) where
       ≡ lent_after (verdict_refusal (many_verdict g nodes agree)) (new g) old
   lent_stored {A} new old nodes agree = go (judged g) refl
     where
-      go : (v : Verdict) → judged g ≡ v
+      go : (v : Result ⊤ Refusal) → judged g ≡ v
           → lent_after (verdict_refusal (many_verdict (group_of_words (numbers_of g)) nodes agree)) (new (group_of_words (numbers_of g))) old
           ≡ lent_after (verdict_refusal (many_verdict g nodes agree)) (new g) old
-      go Accepted e = ap (λ (x : Group). lent_after (verdict_refusal (many_verdict x nodes agree)) (new x) old) (stored_back g h e)
-      go (Refused r) e =
+      go (Ok tt) e = ap (λ (x : Group). lent_after (verdict_refusal (many_verdict x nodes agree)) (new x) old) (stored_back g h e)
+      go (Err r) e =
           kept (group_of_words (numbers_of g)) r (stored_judged g h ∙ e) ∙ sym (kept g r e)
         where
-          kept : (x : Group) (r : Refusal) → judged x ≡ Refused r → lent_after (verdict_refusal (many_verdict x nodes agree)) (new x) old ≡ old
+          kept : (x : Group) (r : Refusal) → judged x ≡ Err r → lent_after (verdict_refusal (many_verdict x nodes agree)) (new x) old ≡ old
           kept x r e =
               lent_kept (verdict_refusal (many_verdict x nodes agree)) (new x) old
               (λ z. no_acceptance r (sym (many_group x nodes agree r e) ∙ (many_told x nodes agree).zero z))

@@ -10,8 +10,6 @@ use lib.ListN.{length}
 use lib.Seq.{sets}
 use Rattle.numbers.proofs.Bools.{and_parts}
 use Rattle.group.specs.declared.Group.{Group}
-use Rattle.group.specs.declared.Verdict.{Verdict}
-use Rattle.group.specs.declared.Verdict.TheVariants.{Accepted, Refused}
 use Rattle.group.specs.Refusals.{no_refusal, verdict_refusal, Told, lent_after}
 use Rattle.group.proofs.RefusalLaws.{no_acceptance, lent_new, lent_kept}
 use Rattle.abi.specs.Abi.{joined}
@@ -19,6 +17,8 @@ use Rattle.abi.proofs.ListLaws.{length_joined, sets_whole}
 use Rattle.exercise.specs.Exercise.{many_verdict, answer_words, answer_numbers, answer_at, columns_agree, position_at, columns_after}
 use Rattle.exercise.specs.Tables.{counted}
 use Rattle.exercise.proofs.CallLaws.{many_told, call_agree}
+use Rattle.std.specs.Prelude.{Result, Ok, Err, ⊤}
+use Rattle.group.specs.declared.Refusal.{Refusal}
 
 pub columns_lengths : (lons lats days results : ℕ) → columns_agree lons lats days results ≡ true → (lats ≡ lons) × (days ≡ lons) × (results ≡ lons * answer_words)
 unfolding columns_agree
@@ -28,12 +28,12 @@ columns_lengths lons lats days results e =
     (eqb-true lats lons b.0, eqb-true days lons b.1, eqb-true results (lons * answer_words) a.1)
 
 -- a list that is overwritten, piece by piece, by all pieces or by none
-stored_lent : (f : ℕ → List ℤ) (m n : ℕ) (old : List ℤ) (v : Verdict) → Told (v ≡ Accepted) (verdict_refusal v) → ((k : ℕ) → length (f k) ≡ m)
-    → (v ≡ Accepted → length old ≡ n * m) → sets old 0 (joined f (counted v n)) ≡ lent_after (verdict_refusal v) (joined f n) old
+stored_lent : (f : ℕ → List ℤ) (m n : ℕ) (old : List ℤ) (v : Result ⊤ Refusal) → Told (v ≡ Ok tt) (verdict_refusal v) → ((k : ℕ) → length (f k) ≡ m)
+    → (v ≡ Ok tt → length old ≡ n * m) → sets old 0 (joined f (counted v n)) ≡ lent_after (verdict_refusal v) (joined f n) old
 unfolding joined
-stored_lent f m n old Accepted t l h =
+stored_lent f m n old (Ok tt) t l h =
     sets_whole old (joined f n) (h refl ∙ sym (length_joined f m n (λ k b. l k))) ∙ sym (lent_new no_refusal (joined f n) old refl)
-stored_lent f m n old (Refused r) t l h = sym (lent_kept r (joined f n) old (λ z. no_acceptance r (t.zero z)))
+stored_lent f m n old (Err r) t l h = sym (lent_kept r (joined f n) old (λ z. no_acceptance r (t.zero z)))
 
 pub columns_all : (g : Group) (nodes lons lats days results : List ℤ)
     → let v = many_verdict g (length nodes) (columns_agree (length lons) (length lats) (length days) (length results)) in

@@ -15,15 +15,11 @@ use Rattle.group.specs.declared.Group.{Group}
 use Rattle.group.specs.declared.Point.{Point}
 use Rattle.group.specs.declared.Position.{Position}
 use Rattle.group.specs.declared.Refusal.{Refusal}
-use Rattle.group.specs.declared.Verdict.{Verdict}
-use Rattle.group.specs.declared.Verdict.TheVariants.{Accepted, Refused}
 use Rattle.group.specs.Numbers.{value_most, mark}
 use Rattle.group.specs.Refusals.{no_refusal, verdict_refusal, lent_after}
 use Rattle.group.proofs.RefusalLaws.{no_acceptance, first_past, lent_new, lent_kept}
 use Rattle.abi.proofs.ListLaws.{get_or_joined, length_joined, length_list_of}
 use Rattle.judge.specs.Judge.{judged}
-use Rattle.fix.specs.declared.Lookup.{Lookup}
-use Rattle.fix.specs.declared.Lookup.TheVariants as L
 use Rattle.fix.specs.Answers.{lookup_refusal}
 use Rattle.lookup.specs.declared.Answer.{Answer}
 use Rattle.lookup.specs.Answer.{answer_record}
@@ -36,6 +32,8 @@ use Rattle.exercise.specs.Order1.{records_verdict, RefusesMany, RefusesPoint, to
 use Rattle.exercise.proofs.StageLaws.{many_accepted, many_nodes}
 use Rattle.exercise.proofs.CallLaws.{many_told, call_judged, call_agree, call_ends}
 use Rattle.exercise.proofs.ColumnLaws.{columns_lengths}
+use Rattle.std.specs.Prelude.{Result, Ok, Err, ⊤}
+use Rattle.fix.specs.declared.Fix.{Fix}
 
 -- ---- lists of answers
 
@@ -69,10 +67,10 @@ module _ (g : Group) (nodes : List ℤ) (agree : Bool) (Other : Type 0) (yea : a
   stands : RefusesMany g nodes Other (verdict_refusal (many_verdict g (length nodes) agree))
   unfolding RefusesMany many_verdict many_judged nodes_judged
   stands =
-      judge_stage Refused verdict_refusal (λ r. refl) (TableRow 12 Other then From13) g (many_judged g (length nodes) agree)
+      judge_stage Err verdict_refusal (λ r. refl) (TableRow 12 Other then From13) g (many_judged g (length nodes) agree)
       (λ a.
-      row_stage Refused verdict_refusal (λ r. refl) Other From13 (not agree) 12 (nodes_judged g (length nodes)) (λ e. yea (not-true agree e)) (λ e. nay (not-false agree e))
-      (λ b. short_stage Refused verdict_refusal (λ r. refl) NothingRefused g nodes Accepted (λ c. refl)))
+      row_stage Err verdict_refusal (λ r. refl) Other From13 (not agree) 12 (nodes_judged g (length nodes)) (λ e. yea (not-true agree e)) (λ e. nay (not-false agree e))
+      (λ b. short_stage Err verdict_refusal (λ r. refl) NothingRefused g nodes (Ok tt) (λ c. refl)))
 
   in_one_way : Single (RefusesMany g nodes Other)
   unfolding RefusesMany
@@ -83,17 +81,17 @@ module _ (g : Group) (nodes : List ℤ) (agree : Bool) (Other : Type 0) (yea : a
 
 -- what it leaves
 module _ (g : Group) (nodes : List ℤ) (agree : Bool) where
-  lent_as_it_was : {A : Type 0} (new old : List A) → (many_verdict g (length nodes) agree ≡ Accepted → ⊥)
+  lent_as_it_was : {A : Type 0} (new old : List A) → (many_verdict g (length nodes) agree ≡ Ok tt → ⊥)
       → lent_after (verdict_refusal (many_verdict g (length nodes) agree)) new old ≡ old
   lent_as_it_was new old n = lent_kept (verdict_refusal (many_verdict g (length nodes) agree)) new old (λ z. n ((many_told g (length nodes) agree).zero z))
 
-  lent_anew : {A : Type 0} (new old : List A) → many_verdict g (length nodes) agree ≡ Accepted
+  lent_anew : {A : Type 0} (new old : List A) → many_verdict g (length nodes) agree ≡ Ok tt
       → lent_after (verdict_refusal (many_verdict g (length nodes) agree)) new old ≡ new
-  lent_anew new old e = lent_new (verdict_refusal (many_verdict g (length nodes) agree)) new old (ap (λ (v : Verdict). (verdict_refusal v).number) e)
+  lent_anew new old e = lent_new (verdict_refusal (many_verdict g (length nodes) agree)) new old (ap (λ (v : Result ⊤ Refusal). (verdict_refusal v).number) e)
 
 -- ---- a point of an accepted call: the group and the node list refuse none
 
-module _ (g : Group) (nodes : List ℤ) (e : judged g ≡ Accepted) (ends : some (ends_early g (length nodes)) g.grids ≡ false) (p : Point) (t : ℤ) where
+module _ (g : Group) (nodes : List ℤ) (e : judged g ≡ Ok tt) (ends : some (ends_early g (length nodes)) g.grids ≡ false) (p : Point) (t : ℤ) where
   abbrev Row6 : Refusal → Type 0
   Row6 = TableRow 6 (PointOutside p)
 
@@ -126,14 +124,14 @@ module _ (g : Group) (nodes : List ℤ) (e : judged g ≡ Accepted) (ends : some
 
 -- the same of the answer that is written, and what stands beside a refusal
 module _ (g : Group) (nodes : List ℤ) where
-  answer_exactly : judged g ≡ Accepted → some (ends_early g (length nodes)) g.grids ≡ false → (p : Position) (r : Refusal)
+  answer_exactly : judged g ≡ Ok tt → some (ends_early g (length nodes)) g.grids ≡ false → (p : Position) (r : Refusal)
       → (told (answer_at g nodes p) ≡ r) ↔ RefusesPoint g nodes (point_at p) p.day r
   unfolding answer_at
   answer_exactly e ends p r = point_exactly g nodes e ends (point_at p) p.day r
 
-  record_zeros : (f : Lookup) → (told (answer_record f) ≡ no_refusal → ⊥) → Empty (answer_record f)
-  record_zeros (L.Fix f) n = absurd (n refl)
-  record_zeros (L.Refused r) n = (refl, refl, refl, refl)
+  record_zeros : (f : Result Fix Refusal) → (told (answer_record f) ≡ no_refusal → ⊥) → Empty (answer_record f)
+  record_zeros (Ok f) n = absurd (n refl)
+  record_zeros (Err r) n = (refl, refl, refl, refl)
 
   answer_zeros : (p : Position) → (told (answer_at g nodes p) ≡ no_refusal → ⊥) → Empty (answer_at g nodes p)
   unfolding answer_at
@@ -152,7 +150,7 @@ module _ (g : Group) (nodes : List ℤ) where
   agree : (points : List Position) (results : List Answer) → eqb (length points) (length results) ≡ true → (SameLength points results → ⊥) → ⊥
   agree points results e n = n (eqb-true (length points) (length results) e)
 
-  results_new : (points : List Position) (results : List Answer) → records_verdict g nodes points results ≡ Accepted
+  results_new : (points : List Position) (results : List Answer) → records_verdict g nodes points results ≡ Ok tt
       → results_after g nodes points results ≡ map (answer_at g nodes) points
   unfolding results_after
   results_new points results e =
@@ -164,7 +162,7 @@ module _ (g : Group) (nodes : List ℤ) where
       ap (many_verdict g (length nodes)) (eq-eqb (length part) (length lent) k ∙ sym (eq-eqb (length points) (length results) h))
 
   -- what a part of an accepted call leaves
-  module _ (points : List Position) (results : List Answer) (e : records_verdict g nodes points results ≡ Accepted) where
+  module _ (points : List Position) (results : List Answer) (e : records_verdict g nodes points results ≡ Ok tt) where
     alike : SameLength points results
     alike = eqb-true (length points) (length results) (call_agree g (length nodes) (eqb (length points) (length results)) e)
 
@@ -207,7 +205,7 @@ many_points g nodes points results =
       zeros = λ e k a h. subst (λ (z : Answer). (told z ≡ no_refusal → ⊥) → Empty z) (sym (at_place e k origin a h)) (answer_zeros g nodes (get_or points k origin));
     }
   where
-    at_place : records_verdict g nodes points results ≡ Accepted → (k : ℕ) (p : Position) (a : Answer) → k < length points
+    at_place : records_verdict g nodes points results ≡ Ok tt → (k : ℕ) (p : Position) (a : Answer) → k < length points
         → get_or (results_after g nodes points results) k a ≡ answer_at g nodes (get_or points k p)
     at_place e k p a h = ap (λ (l : List Answer). get_or l k a) (results_new g nodes points results e) ∙ map_at (answer_at g nodes) points k p a h
 
@@ -215,7 +213,7 @@ pub no_points : (g : Group) (nodes : List ℤ) → NoPoints g nodes
 unfolding many_judged nodes_judged
 no_points g nodes e n =
     many_accepted g (length nodes) true e ∙ many_nodes g (length nodes) true refl
-    ∙ first_past Refused (ends_early g (length nodes)) g.grids 13 1 Accepted (none (some (ends_early g (length nodes)) g.grids) refl)
+    ∙ first_past Err (ends_early g (length nodes)) g.grids 13 1 (Ok tt) (none (some (ends_early g (length nodes)) g.grids) refl)
   where
     none : (b : Bool) → some (ends_early g (length nodes)) g.grids ≡ b → some (ends_early g (length nodes)) g.grids ≡ false
     none true h = absurd (n _ (first_ends g nodes h))

@@ -7,7 +7,6 @@ use lib.ListN.{length, set, take, drop, length-append, length-drop, length-set}
 use lib.Seq.{sets, length-take-le, take_at, drop_at, drop-drop, take-set-le, drop-set-add, get_or-take, get_or-set_same}
 use Rattle.numbers.specs.Lists.{at}
 use Rattle.group.specs.declared.Group.{Group}
-use Rattle.group.specs.declared.Verdict.TheVariants.{Accepted}
 use Rattle.group.specs.Numbers.{grids_most, rank_most}
 use Rattle.abi.proofs.ListLaws.{sets_whole}
 use Rattle.flat.specs.Lists.{Framed, Flat}
@@ -16,6 +15,7 @@ use Rattle.flat.proofs.OrderSteps.{by_rank≤}
 use Rattle.judge.specs.Judge.{judged}
 use Rattle.judge.proofs.Accepted.{accepted_head}
 use Rattle.exercise.specs.Tables.{rows_most, owners_from, shifts_from, frames_from, count_index, table_words, rows_in, owners_in, shifts_in, frames_in, Tabled}
+use Rattle.std.specs.Prelude.{Ok}
 
 -- a part of a list
 part_length : (l : List ℕ) (from n : ℕ) → from + n ≤ length l → length (take n (drop from l)) ≡ n
@@ -34,7 +34,7 @@ module _ (tables : List ℕ) (long : length tables ≡ table_words) where
   pub frames_length : length (frames_in tables) ≡ grids_most * 7
   frames_length = part_length tables frames_from (count_index - frames_from) (omega arith)
 
-pub few_rows : (g : Group) (tables : List ℕ) → judged g ≡ Accepted → Tabled g tables → at tables count_index ≤ rows_most
+pub few_rows : (g : Group) (tables : List ℕ) → judged g ≡ Ok tt → Tabled g tables → at tables count_index ≤ rows_most
 few_rows g tables e t =
     let m = by_rank≤ (at t.ranks) g.grids rank_most in
     omega (arith, t.rows.few, (accepted_head g e).grids)

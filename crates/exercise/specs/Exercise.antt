@@ -1,25 +1,24 @@
 -- Document 02's order 1, a whole exercise at once: the verdict of one call for many points, each point's answer, and what the lent list of
 -- results holds afterwards. The same over columns of plain numbers.
-use Rattle.std.specs.Prelude.{ℕ, ◌*◌, Bool, not, ◌&&◌, List, [], ◌∷◌, map, eqb, ℤ, pos, length}
+use Rattle.std.specs.Prelude.{ℕ, ◌*◌, Bool, not, ◌&&◌, List, [], ◌∷◌, map, eqb, ℤ, pos, length, Result, Err, ⊤}
 use Rattle.group.specs.declared.Group.{Group}
 use Rattle.group.specs.declared.Point.{Point}
 use Rattle.group.specs.declared.Position.{Position}
-use Rattle.group.specs.declared.Verdict.{Verdict}
-use Rattle.group.specs.declared.Verdict.TheVariants.{Refused}
 use Rattle.group.specs.Refusals.{verdict_refusal, refuse_if, unless_refused, lent_after}
 use Rattle.abi.specs.Abi.{number_at, joined}
 use Rattle.judge.specs.Judge.{judged}
 use Rattle.lookup.specs.declared.Answer.{Answer}
 use Rattle.lookup.specs.Answer.{answer_record}
 use Rattle.lookup.specs.Lookup.{nodes_judged, looked}
+use Rattle.group.specs.declared.Refusal.{Refusal}
 
 -- in an accepted group: 12 unless the lengths agree, then 13 of a list of so many nodes
-unfoldable pub many_judged : Group → (nodes : ℕ) → Bool → Verdict
-many_judged g nodes agree = refuse_if Refused (not agree) 12 0 (nodes_judged g nodes)
+unfoldable pub many_judged : Group → (nodes : ℕ) → Bool → Result ⊤ Refusal
+many_judged g nodes agree = refuse_if Err (not agree) 12 0 (nodes_judged g nodes)
 
 -- the whole call: 2 to 5 first
-unfoldable pub many_verdict : Group → (nodes : ℕ) → Bool → Verdict
-many_verdict g nodes agree = unless_refused Refused (judged g) (many_judged g nodes agree)
+unfoldable pub many_verdict : Group → (nodes : ℕ) → Bool → Result ⊤ Refusal
+many_verdict g nodes agree = unless_refused Err (judged g) (many_judged g nodes agree)
 
 abbrev pub point_at : Position → Point
 point_at p = record { lon = p.lon; lat = p.lat }

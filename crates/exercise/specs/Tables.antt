@@ -1,11 +1,9 @@
 -- What the code of a call for many points works on, made once: the tables of an accepted group, and the factor of the day last looked up.
-use Rattle.std.specs.Prelude.{ℕ, ◌+◌, ◌-◌, ◌*◌, ◌≤◌, ◌≡◌, cond, false, List, [], ◌∷◌, ℤ, pos, length, take, drop}
+use Rattle.std.specs.Prelude.{ℕ, ◌+◌, ◌-◌, ◌*◌, ◌≤◌, ◌≡◌, cond, false, List, [], ◌∷◌, ℤ, pos, length, take, drop, Result, Ok, Err, ⊤}
 use Rattle.numbers.specs.Circle.{turns}
 use Rattle.numbers.specs.First.{some}
 use Rattle.numbers.specs.Lists.{at}
 use Rattle.group.specs.declared.Group.{Group}
-use Rattle.group.specs.declared.Verdict.{Verdict}
-use Rattle.group.specs.declared.Verdict.TheVariants.{Accepted, Refused}
 use Rattle.group.specs.Numbers.{grids_most, day_most, day_fits}
 use Rattle.abi.specs.Abi.{stored}
 use Rattle.flat.specs.Lists.{Flat}
@@ -15,6 +13,7 @@ use Rattle.day.specs.Day.{factor_of}
 use Rattle.lookup.specs.declared.Answer.{Answer}
 use Rattle.lookup.specs.Lookup.{ends_early}
 use Rattle.exercise.specs.declared.Scale.{Scale}
+use Rattle.group.specs.declared.Refusal.{Refusal}
 
 -- the most rows that a group's grids have
 abbrev pub rows_most : ℕ
@@ -58,12 +57,12 @@ pub record Tabled (g : Group) (tables : List ℕ) : Type 0 where
   pub rows : RankedRows sides ranks (rows_in tables) (owners_in tables) (shifts_in tables) g.grids (at tables count_index)
 
 -- they do where nothing is refused
-abbrev pub TablesReady : Verdict → Group → List ℕ → Type 0
-TablesReady v g tables = v ≡ Accepted → Tabled g tables
+abbrev pub TablesReady : Result ⊤ Refusal → Group → List ℕ → Type 0
+TablesReady v g tables = v ≡ Ok tt → Tabled g tables
 
 -- what the lookup of each point may rely on
 pub record CallReady (g : Group) (nodes : ℕ) (tables : List ℕ) : Type 0 where
-  pub accepted : judged g ≡ Accepted
+  pub accepted : judged g ≡ Ok tt
   pub ends : some (ends_early g nodes) g.grids ≡ false
   pub tabled : Tabled g tables
 
@@ -76,9 +75,9 @@ abbrev pub no_scale : Scale
 no_scale = record { day = pos (day_most + 1); factor = pos 0 }
 
 -- how many points are answered
-abbrev pub counted : Verdict → ℕ → ℕ
-counted Accepted points = points
-counted (Refused r) points = 0
+abbrev pub counted : Result ⊤ Refusal → ℕ → ℕ
+counted (Ok tt) points = points
+counted (Err r) points = 0
 
 -- the numbers of an answer as the code stores them
 abbrev pub stored_numbers : Answer → List ℤ

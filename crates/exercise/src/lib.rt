@@ -1,7 +1,7 @@
 // A whole exercise at once: one call looks many points up, each on its own day, in one group.
 #![tactic(auto)]
 
-ghost use Rattle.std.specs.Prelude.{◌≡◌, ◌+◌, ◌*◌, ◌≤◌, eqb, length};
+ghost use Rattle.std.specs.Prelude.{◌≡◌, ◌+◌, ◌*◌, ◌≤◌, eqb, length, Ok};
 ghost use Rattle.std.proofs.lemmas.List.Edits.{sets};
 ghost use Rattle.abi.specs.Abi.{group_of_words};
 ghost use Rattle.judge.specs.Judge.{judged};
@@ -11,9 +11,9 @@ ghost use Rattle.exercise.specs.Exercise.{many_verdict, many_judged, answer_at, 
 ghost use Rattle.exercise.specs.Tables.{table_words, frames_in, Tabled, TablesReady, CallReady, scale_for, no_scale, counted, stored_numbers};
 
 use abi::GROUP_WORDS;
-use fix::Lookup;
+use fix::Fix;
 use flat::ROWS;
-use group::{GRIDS_MOST, Group, Latitude, Longitude, Point, Position, Refusal, Verdict};
+use group::{GRIDS_MOST, Group, Latitude, Longitude, Point, Position, Refusal};
 use lookup::Answer;
 
 // Where the parts of the tables begin, and how many numbers they have: the rows by rank, their owners and shifts, the frames of all grids
@@ -53,7 +53,7 @@ pub fn no_scale() -> Scale
 
 // The scale of a day: that of the point before if it has the same day, else worked out anew.
 pub fn scale_on(words: &[i64; GROUP_WORDS], before: Scale, day: i64) -> Scale
-    requires { (judged (group_of_words words.now) ≡ Verdict.Accepted) × (before ≡ scale_for (group_of_words words.now) before.day) }
+    requires { (judged (group_of_words words.now) ≡ Ok tt) × (before ≡ scale_for (group_of_words words.now) before.day) }
     ensures { result ≡ scale_for (group_of_words words.now) day }
 {
     if day == before.day {
@@ -86,7 +86,7 @@ fn copy_front(numbers: &[u64], list: &mut [u64])
 
 // Fills the tables of a group, whose frames stand in them, from its other lists.
 fn fill_tables(words: &[i64; GROUP_WORDS], sides: &[u64], ranks: &[u64], tables: &mut [u64])
-    requires { (judged (group_of_words words.now) ≡ Verdict.Accepted) × (length tables.old ≡ table_words)
+    requires { (judged (group_of_words words.now) ≡ Ok tt) × (length tables.old ≡ table_words)
         × Laid (group_of_words words.now) sides.now ranks.now (frames_in tables.old) }
     ensures { Tabled (group_of_words words.now) tables.new }
 {
@@ -116,14 +116,14 @@ fn judge_rest(
     nodes: usize,
     agree: bool,
     tables: &mut [u64],
-) -> Verdict
-    requires { (judged (group_of_words words.now) ≡ Verdict.Accepted) × (length tables.old ≡ table_words)
+) -> Result<(), Refusal>
+    requires { (judged (group_of_words words.now) ≡ Ok tt) × (length tables.old ≡ table_words)
         × Laid (group_of_words words.now) sides.now ranks.now (frames_in tables.old) }
     ensures { (result ≡ many_judged (group_of_words words.now) nodes agree)
         × TablesReady result (group_of_words words.now) tables.new }
 {
     if !agree {
-        return Verdict::Refused(Refusal {
+        return Err(Refusal {
             number: 12,
             place: 0,
         });
@@ -132,10 +132,10 @@ fn judge_rest(
     let to = COUNT_AT;
     let verdict = lookup::judge_nodes(words, &tables[from..to], nodes);
     match verdict {
-        Verdict::Refused(r) => Verdict::Refused(r),
-        Verdict::Accepted => {
+        Err(r) => Err(r),
+        Ok(()) => {
             fill_tables(words, sides, ranks, tables);
-            Verdict::Accepted
+            Ok(())
         }
     }
 }
@@ -146,7 +146,7 @@ fn judge_tables(
     nodes: usize,
     agree: bool,
     tables: &mut [u64],
-) -> Verdict
+) -> Result<(), Refusal>
     requires { length tables.old ≡ table_words }
     ensures { (result ≡ many_verdict (group_of_words words.now) nodes agree)
         × TablesReady result (group_of_words words.now) tables.new }
@@ -157,8 +157,8 @@ fn judge_tables(
     let to = COUNT_AT;
     let verdict = judge::judge_into(words, &mut sides, &mut ranks, &mut tables[from..to]);
     match verdict {
-        Verdict::Refused(r) => Verdict::Refused(r),
-        Verdict::Accepted => judge_rest(words, &sides, &ranks, nodes, agree, tables),
+        Err(r) => Err(r),
+        Ok(()) => judge_rest(words, &sides, &ranks, nodes, agree, tables),
     }
 }
 
@@ -168,7 +168,7 @@ pub fn judge_call(
     nodes: usize,
     agree: bool,
     tables: &mut [u64; TABLE_WORDS],
-) -> Verdict
+) -> Result<(), Refusal>
     ensures { (result ≡ many_verdict (group_of_words words.now) nodes agree)
         × TablesReady result (group_of_words words.now) tables.new }
 {
@@ -176,12 +176,12 @@ pub fn judge_call(
 }
 
 // How many points a call answers: all, or none after a refusal.
-fn counted(verdict: Verdict, points: usize) -> usize
+fn counted(verdict: Result<(), Refusal>, points: usize) -> usize
     ensures { result ≡ counted verdict points }
 {
     match verdict {
-        Verdict::Accepted => points,
-        Verdict::Refused(_) => 0,
+        Ok(()) => points,
+        Err(_) => 0,
     }
 }
 
@@ -192,18 +192,18 @@ fn look_ready(
     nodes: &[i32],
     scale: Scale,
     point: Point,
-) -> Lookup
+) -> Result<Fix, Refusal>
     requires { CallReady (group_of_words words.now) (length nodes.now) tables.now × (scale ≡ scale_for (group_of_words words.now) scale.day) }
     ensures { result ≡ looked (group_of_words words.now) nodes.now point scale.day }
 {
     if !lookup::point_fits(point) {
-        return Lookup::Refused(Refusal {
+        return Err(Refusal {
             number: 6,
             place: 0,
         });
     }
     if !lookup::day_fits(scale.day) {
-        return Lookup::Refused(Refusal {
+        return Err(Refusal {
             number: 9,
             place: 0,
         });
@@ -252,7 +252,7 @@ pub fn many_words(
     nodes: &[i32],
     points: &[Position],
     results: &mut [Answer],
-) -> Verdict
+) -> Result<(), Refusal>
     ensures { (result ≡ many_verdict (group_of_words words.now) (length nodes.now)
         (eqb (length points.now) (length results.old)))
         × (results.new ≡ results_after (group_of_words words.now) nodes.now points.now results.old) }
@@ -284,7 +284,7 @@ pub fn lookup_many(
     nodes: &[i32],
     points: &[Position],
     results: &mut [Answer],
-) -> Verdict
+) -> Result<(), Refusal>
     ensures { (result ≡ many_verdict group (length nodes.now) (eqb (length points.now) (length results.old)))
         × (results.new ≡ results_after group nodes.now points.now results.old) }
 {
@@ -324,7 +324,7 @@ pub fn columns_words(
     lats: &[i64],
     days: &[i64],
     results: &mut [i64],
-) -> Verdict
+) -> Result<(), Refusal>
     ensures { (result ≡ many_verdict (group_of_words words.now) (length nodes.now)
         (columns_agree (length lons.now) (length lats.now) (length days.now) (length results.old)))
         × (results.new ≡ columns_after (group_of_words words.now) nodes.now
@@ -361,7 +361,7 @@ pub fn lookup_columns(
     lats: &[i64],
     days: &[i64],
     results: &mut [i64],
-) -> Verdict
+) -> Result<(), Refusal>
     ensures { (result ≡ many_verdict group (length nodes.now)
         (columns_agree (length lons.now) (length lats.now) (length days.now) (length results.old)))
         × (results.new ≡ columns_after group nodes.now lons.now lats.now days.now results.old) }

@@ -8,38 +8,35 @@ use lib.ListN.{replicate}
 use Rattle.group.specs.declared.Group.{Group}
 use Rattle.group.specs.declared.Point.{Point}
 use Rattle.group.specs.declared.Refusal.{Refusal}
-use Rattle.group.specs.declared.Verdict.{Verdict}
-use Rattle.group.specs.declared.Verdict.TheVariants.{Accepted, Refused}
 use Rattle.group.specs.Refusals.{unless_refused}
 use Rattle.group.specs.Record.{grid_at}
 use Rattle.judge.specs.Judge.{judged}
 use Rattle.cell.specs.Cell.{is_beyond}
 use Rattle.fix.specs.declared.Fix.{Fix}
-use Rattle.fix.specs.declared.Lookup.{Lookup}
-use Rattle.fix.specs.declared.Lookup.TheVariants as L
 use Rattle.fix.specs.Fix.{corner_some}
 use Rattle.lookup.specs.Lookup.{offset_of, looked_in, looked}
 use Rattle.lookup.proofs.FoundLaws.{found}
 use Rattle.explain.specs.declared.Explanation.{Explanation}
 use Rattle.explain.specs.Explain.{pieces_of, pieces_numbers, explanation_words, explained_by, explained}
 use Rattle.explain.specs.Flat.{Explainable}
+use Rattle.std.specs.Prelude.{Result, Ok, Err, ⊤}
 
 -- a refusal, with zeros beside it
 abbrev pub refused_by : Refusal → Explanation
-refused_by r = record { verdict = Refused r; numbers = replicate explanation_words (pos 0) }
+refused_by r = record { verdict = Err r; numbers = replicate explanation_words (pos 0) }
 
 module _ (g : Group) (nodes : List ℤ) (p : Point) (t : ℤ) where
-  pub by_refusal : {l : Lookup} (r : Refusal) → l ≡ L.Refused r → refused_by r ≡ explained_by g nodes p t l
+  pub by_refusal : {l : Result Fix Refusal} (r : Refusal) → l ≡ Err r → refused_by r ≡ explained_by g nodes p t l
   unfolding explained_by
   by_refusal r e = rw e refl
 
-  pub by_fix : {l : Lookup} (f : Fix) {numbers : List ℤ} → l ≡ L.Fix f → numbers ≡ pieces_numbers (pieces_of g nodes p t f.grid)
-      → ◌≡◌ {A = Explanation} (record { verdict = Accepted; numbers = numbers }) (explained_by g nodes p t l)
+  pub by_fix : {l : Result Fix Refusal} (f : Fix) {numbers : List ℤ} → l ≡ Ok f → numbers ≡ pieces_numbers (pieces_of g nodes p t f.grid)
+      → ◌≡◌ {A = Explanation} (record { verdict = Ok tt; numbers = numbers }) (explained_by g nodes p t l)
   unfolding explained_by
-  by_fix f e n = rw e (λ i. record { verdict = Accepted; numbers = n i })
+  by_fix f e n = rw e (λ i. record { verdict = Ok tt; numbers = n i })
 
   -- an accepted lookup can be explained
-  pub explainable : (f : Fix) → looked g nodes p t ≡ L.Fix f → Explainable g nodes p t f.grid
+  pub explainable : (f : Fix) → looked g nodes p t ≡ Ok f → Explainable g nodes p t f.grid
   explainable f e =
       let h = found g nodes p t f e in let n = h.number in let before : f.grid - 1 ≡ h.k = omega arith in
       record {
@@ -54,6 +51,6 @@ module _ (g : Group) (nodes : List ℤ) (p : Point) (t : ℤ) where
   unfolding looked explained_by
   explained_judged = go (judged g)
     where
-      go : (v : Verdict) → explained_by g nodes p t (unless_refused L.Refused v (looked_in g nodes p t)) ≡ unless_refused refused_by v (explained_by g nodes p t (looked_in g nodes p t))
-      go Accepted = refl
-      go (Refused r) = refl
+      go : (v : Result ⊤ Refusal) → explained_by g nodes p t (unless_refused Err v (looked_in g nodes p t)) ≡ unless_refused refused_by v (explained_by g nodes p t (looked_in g nodes p t))
+      go (Ok tt) = refl
+      go (Err r) = refl

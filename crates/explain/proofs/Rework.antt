@@ -14,7 +14,6 @@ use Rattle.numbers.proofs.Bools.{and_left, and_right}
 use Rattle.group.specs.declared.Group.{Group}
 use Rattle.group.specs.declared.Point.{Point}
 use Rattle.group.specs.declared.Refusal.{Refusal}
-use Rattle.group.specs.declared.Verdict.TheVariants.{Accepted, Refused}
 use Rattle.group.specs.Record.{grid_at}
 use Rattle.group.proofs.RefusalLaws.{no_acceptance}
 use Rattle.extent.specs.Extent.{holds}
@@ -26,8 +25,6 @@ use Rattle.cell.proofs.SumLaws.{parts_whole, low_below}
 use Rattle.day.specs.Day.{factor_of, result_of}
 use Rattle.fix.specs.declared.Offset.{Offset}
 use Rattle.fix.specs.declared.Fix.{Fix}
-use Rattle.fix.specs.declared.Lookup.{Lookup}
-use Rattle.fix.specs.declared.Lookup.TheVariants as L
 use Rattle.fix.specs.Answers.{result_in}
 use Rattle.fix.specs.Fix.{cell_of, position, node_at, corners_at, corners_of, value_in, result_at}
 use Rattle.fix.specs.Inside.{InsideGrid}
@@ -40,12 +37,13 @@ use Rattle.explain.specs.Explain.{Worked, none_worked, part_worked, worked_in, i
 use Rattle.explain.specs.Flat.{Explainable}
 use Rattle.explain.specs.Rework.{Again, Reworks, Explains}
 use Rattle.explain.proofs.ExplainLaws.{explainable}
+use Rattle.std.specs.Prelude.{Result, Ok, Err}
 
 -- one refusal is another only where they are the same
-same_verdict : (r s : Refusal) → Refused r ≡ Refused s → r ≡ s
+same_verdict : (r s : Refusal) → Err r ≡ Err s → r ≡ s
 same_verdict r s e = cc
 
-same_lookup : (r s : Refusal) → L.Refused r ≡ L.Refused s → r ≡ s
+same_lookup : (r s : Refusal) → Err r ≡ Err s → r ≡ s
 same_lookup r s e = cc
 
 -- ---- one parameter
@@ -70,7 +68,7 @@ module _ (l : Offset) (nodes : List ℤ) (factor : ℤ) (q : ℕ) where
 
 -- ---- the pieces of an accepted lookup
 
-module _ (g : Group) (nodes : List ℤ) (p : Point) (t : ℤ) (f : Fix) (e : looked g nodes p t ≡ L.Fix f) where
+module _ (g : Group) (nodes : List ℤ) (p : Point) (t : ℤ) (f : Fix) (e : looked g nodes p t ≡ Ok f) where
   abbrev ready : Explainable g nodes p t f.grid
   ready = explainable g nodes p t f e
 
@@ -188,37 +186,37 @@ module _ (g : Group) (nodes : List ℤ) (p : Point) (t : ℤ) (f : Fix) (e : loo
         answer = answer ∙ sym e;
       }
     where
-      answer : L.Fix (record { grid = f.grid; first = (worked_in l nodes factor 0).result; second = (worked_in l nodes factor 1).result; third = (worked_in l nodes factor 2).result }) ≡ L.Fix f
-      answer = λ i. L.Fix (record { grid = f.grid; first = result_is 0 (omega arith) i; second = result_is 1 (omega arith) i; third = result_is 2 (omega arith) i })
+      answer : Ok (record { grid = f.grid; first = (worked_in l nodes factor 0).result; second = (worked_in l nodes factor 1).result; third = (worked_in l nodes factor 2).result }) ≡ Ok f
+      answer = λ i. Ok (record { grid = f.grid; first = result_is 0 (omega arith) i; second = result_is 1 (omega arith) i; third = result_is 2 (omega arith) i })
 
 -- ---- the whole
 
 -- what an answer is by what the lookup found
 module _ (g : Group) (nodes : List ℤ) (p : Point) (t : ℤ) where
-  by_zeros : (r : Refusal) → (explained_by g nodes p t (L.Refused r)).numbers ≡ replicate explanation_words (pos 0)
+  by_zeros : (r : Refusal) → (explained_by g nodes p t (Err r)).numbers ≡ replicate explanation_words (pos 0)
   unfolding explained_by
   by_zeros r = refl
 
-  by_pieces : (f : Fix) → (explained_by g nodes p t (L.Fix f)).numbers ≡ pieces_numbers (pieces_of g nodes p t f.grid)
+  by_pieces : (f : Fix) → (explained_by g nodes p t (Ok f)).numbers ≡ pieces_numbers (pieces_of g nodes p t f.grid)
   unfolding explained_by
   by_pieces f = refl
 
-  refused : (x : Lookup) (r : Refusal) → ((explained_by g nodes p t x).verdict ≡ Refused r) ↔ (x ≡ L.Refused r)
+  refused : (x : Result Fix Refusal) (r : Refusal) → ((explained_by g nodes p t x).verdict ≡ Err r) ↔ (x ≡ Err r)
   unfolding explained_by
-  refused (L.Fix f) r = (λ e. absurd (no_acceptance r (sym e)), λ e. absurd (no_fix f r (sym e)))
-  refused (L.Refused s) r = (λ e. ap L.Refused (same_verdict s r e), λ e. ap Refused (same_lookup s r e))
+  refused (Ok f) r = (λ e. absurd (no_acceptance r (sym e)), λ e. absurd (no_fix f r (sym e)))
+  refused (Err s) r = (λ e. ap Err (same_verdict s r e), λ e. ap Err (same_lookup s r e))
 
-  accepted : (x : Lookup) → ((explained_by g nodes p t x).verdict ≡ Accepted) ↔ ((f : Fix) × (x ≡ L.Fix f))
+  accepted : (x : Result Fix Refusal) → ((explained_by g nodes p t x).verdict ≡ Ok tt) ↔ ((f : Fix) × (x ≡ Ok f))
   unfolding explained_by
-  accepted (L.Fix f) = (λ e. (f, refl), λ e. refl)
-  accepted (L.Refused s) = (λ e. absurd (no_acceptance s e), λ e. absurd (no_fix e.0 s e.1))
+  accepted (Ok f) = (λ e. (f, refl), λ e. refl)
+  accepted (Err s) = (λ e. absurd (no_acceptance s e), λ e. absurd (no_fix e.0 s e.1))
 
 pub explains : (g : Group) (nodes : List ℤ) (p : Point) (t : ℤ) → Explains g nodes p t
 explains g nodes p t =
     record {
       refused = λ r. refused g nodes p t (looked g nodes p t) r;
-      zeros = λ r e. ap (λ (x : Lookup). (explained_by g nodes p t x).numbers) e ∙ by_zeros g nodes p t r;
+      zeros = λ r e. ap (λ (x : Result Fix Refusal). (explained_by g nodes p t x).numbers) e ∙ by_zeros g nodes p t r;
       accepted = accepted g nodes p t (looked g nodes p t);
-      pieces = λ f e. (ap (λ (x : Lookup). (explained_by g nodes p t x).numbers) e ∙ by_pieces g nodes p t f, reworks g nodes p t f e);
+      pieces = λ f e. (ap (λ (x : Result Fix Refusal). (explained_by g nodes p t x).numbers) e ∙ by_pieces g nodes p t f, reworks g nodes p t f e);
       sums = λ z. record { whole = parts_whole z; below = low_below z };
     }

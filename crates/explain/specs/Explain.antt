@@ -1,8 +1,7 @@
 -- What a lookup is made of: the pieces by which its answer is worked out, each by the lookup's own definition.
-use Rattle.std.specs.Prelude.{ℕ, ◌+◌, ◌-◌, ◌*◌, Bool, not, cond, ◌&&◌, List, [], ◌∷◌, ◌++◌, ltb, eqb, ℤ, pos, replicate}
+use Rattle.std.specs.Prelude.{ℕ, ◌+◌, ◌-◌, ◌*◌, Bool, not, cond, ◌&&◌, List, [], ◌∷◌, ◌++◌, ltb, eqb, ℤ, pos, replicate, Result, Ok, Err}
 use Rattle.group.specs.declared.Group.{Group}
 use Rattle.group.specs.declared.Point.{Point}
-use Rattle.group.specs.declared.Verdict.TheVariants.{Accepted, Refused}
 use Rattle.group.specs.Numbers.{parameters_most, grids_most}
 use Rattle.group.specs.Record.{grid_at}
 use Rattle.extent.specs.Extent.{lon_span, holds, lon_used}
@@ -13,11 +12,11 @@ use Rattle.cell.specs.Cell.{cell_along, weighted_sum}
 use Rattle.cell.specs.TwoParts.{high_part, low_part}
 use Rattle.day.specs.Day.{factor_of, result_of}
 use Rattle.fix.specs.declared.Offset.{Offset}
-use Rattle.fix.specs.declared.Lookup.{Lookup}
-use Rattle.fix.specs.declared.Lookup.TheVariants as L
 use Rattle.fix.specs.Fix.{cell_of, position, corners_of, value_in}
 use Rattle.lookup.specs.Lookup.{offset_of, looked}
 use Rattle.explain.specs.declared.Explanation.{Explanation}
+use Rattle.group.specs.declared.Refusal.{Refusal}
+use Rattle.fix.specs.declared.Fix.{Fix}
 
 -- of one parameter: what the corners hold, their weighted sum, the value and the result
 pub record Worked : Type 0 where
@@ -132,9 +131,9 @@ explanation_words = 18 + parameters_most * 8 + grids_most
 
 -- ---- the answer: refused as the lookup is, with zeros, else the pieces of its grid
 
-unfoldable pub explained_by : Group → List ℤ → Point → ℤ → Lookup → Explanation
-explained_by g nodes p t (L.Fix f) = record { verdict = Accepted; numbers = pieces_numbers (pieces_of g nodes p t f.grid) }
-explained_by g nodes p t (L.Refused r) = record { verdict = Refused r; numbers = replicate explanation_words (pos 0) }
+unfoldable pub explained_by : Group → List ℤ → Point → ℤ → Result Fix Refusal → Explanation
+explained_by g nodes p t (Ok f) = record { verdict = Ok tt; numbers = pieces_numbers (pieces_of g nodes p t f.grid) }
+explained_by g nodes p t (Err r) = record { verdict = Err r; numbers = replicate explanation_words (pos 0) }
 
 abbrev pub explained : Group → List ℤ → Point → ℤ → Explanation
 explained g nodes p t = explained_by g nodes p t (looked g nodes p t)

@@ -1,19 +1,17 @@
 -- What an explanation promises: it is refused exactly as the lookup is, and else its pieces, worked again from the header and the nodes, give
 -- the lookup's answer.
-use Rattle.std.specs.Prelude.{ℕ, ◌+◌, ◌-◌, ◌*◌, ◌^◌, ◌≤◌, ◌<◌, ◌≡◌, true, List, ◌↔◌, ℤ, pos, ◌+ℤ◌, ◌-ℤ◌, ◌*ℤ◌, nat_abs, get_or, replicate}
+use Rattle.std.specs.Prelude.{ℕ, ◌+◌, ◌-◌, ◌*◌, ◌^◌, ◌≤◌, ◌<◌, ◌≡◌, true, List, ◌↔◌, ℤ, pos, ◌+ℤ◌, ◌-ℤ◌, ◌*ℤ◌, nat_abs, get_or, replicate, Ok, Err}
 use Rattle.numbers.specs.Round.{round_z}
 use Rattle.group.specs.declared.Grid.{Grid}
 use Rattle.group.specs.declared.Group.{Group}
 use Rattle.group.specs.declared.Point.{Point}
 use Rattle.group.specs.declared.Refusal.{Refusal}
-use Rattle.group.specs.declared.Verdict.TheVariants.{Accepted, Refused}
 use Rattle.group.specs.Record.{grid_at}
 use Rattle.extent.specs.Extent.{lon_span, holds, lon_used}
 use Rattle.cell.specs.Cell.{weights_of, weighted_sum}
 use Rattle.cell.specs.TwoParts.{high_part, low_part}
 use Rattle.day.specs.Day.{factor_of, result_of}
 use Rattle.fix.specs.declared.Fix.{Fix}
-use Rattle.fix.specs.declared.Lookup.TheVariants as L
 use Rattle.lookup.specs.Lookup.{looked}
 use Rattle.lookup.specs.Demand2.{BestGrid}
 use Rattle.explain.specs.Explain.{Pieces, none_worked, pieces_of, pieces_numbers, explanation_words, explained}
@@ -68,7 +66,7 @@ pub record Reworks (g : Group) (nodes : List ℤ) (p : Point) (t : ℤ) (e : Pie
   pub missing : (q : ℕ) → g.parameters ≤ q → e.worked q ≡ none_worked
   -- grid and results are the lookup's answer
   pub answer :
-      L.Fix (record { grid = e.grid; first = (e.worked 0).result; second = (e.worked 1).result; third = (e.worked 2).result }) ≡ looked g nodes p t
+      Ok (record { grid = e.grid; first = (e.worked 0).result; second = (e.worked 1).result; third = (e.worked 2).result }) ≡ looked g nodes p t
 
 -- the sum of a parameter, of whatever size, by its two numbers
 pub record TwoNumbers (z : ℤ) : Type 0 where
@@ -77,11 +75,11 @@ pub record TwoNumbers (z : ℤ) : Type 0 where
 
 pub record Explains (g : Group) (nodes : List ℤ) (p : Point) (t : ℤ) : Type 0 where
   -- refused exactly where the lookup is, by the same number with the same place, and zeros beside it
-  pub refused : (r : Refusal) → ((explained g nodes p t).verdict ≡ Refused r) ↔ (looked g nodes p t ≡ L.Refused r)
-  pub zeros : (r : Refusal) → looked g nodes p t ≡ L.Refused r → (explained g nodes p t).numbers ≡ replicate explanation_words (pos 0)
+  pub refused : (r : Refusal) → ((explained g nodes p t).verdict ≡ Err r) ↔ (looked g nodes p t ≡ Err r)
+  pub zeros : (r : Refusal) → looked g nodes p t ≡ Err r → (explained g nodes p t).numbers ≡ replicate explanation_words (pos 0)
   -- accepted exactly where the lookup is; the numbers are then those of the pieces, which give its answer
-  pub accepted : ((explained g nodes p t).verdict ≡ Accepted) ↔ ((f : Fix) × (looked g nodes p t ≡ L.Fix f))
-  pub pieces : (f : Fix) → looked g nodes p t ≡ L.Fix f
+  pub accepted : ((explained g nodes p t).verdict ≡ Ok tt) ↔ ((f : Fix) × (looked g nodes p t ≡ Ok f))
+  pub pieces : (f : Fix) → looked g nodes p t ≡ Ok f
       → ((explained g nodes p t).numbers ≡ pieces_numbers (pieces_of g nodes p t f.grid)) × Reworks g nodes p t (pieces_of g nodes p t f.grid)
   -- no sum is cut
   pub sums : (z : ℤ) → TwoNumbers z

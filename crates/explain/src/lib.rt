@@ -1,7 +1,7 @@
 // What a lookup is made of: the numbers by which an examiner can work its answer out again.
 #![tactic(auto)]
 
-ghost use Rattle.std.specs.Prelude.{◌≡◌, false, [], ◌++◌, ℕ, ◌+◌, ◌^◌, ◌<◌, ◌≤◌, pos, nat_abs, length, replicate};
+ghost use Rattle.std.specs.Prelude.{◌≡◌, false, [], ◌++◌, ℕ, ◌+◌, ◌^◌, ◌<◌, ◌≤◌, pos, nat_abs, length, replicate, Ok, Err};
 ghost use Rattle.numbers.specs.Lists.{at};
 ghost use Rattle.group.specs.Numbers.{lon_turn, grids_most, rank_most, factor_most};
 ghost use Rattle.abi.specs.Abi.{list_of, group_of_words};
@@ -18,8 +18,8 @@ ghost use Rattle.explain.specs.Flat.{rank_beside, parameters_numbers, Explainabl
 
 use abi::GROUP_WORDS;
 use cell::Weights;
-use fix::{Lookup, Offset};
-use group::{GRIDS_MOST, Group, LON_TURN, Point, Refusal, Verdict};
+use fix::Offset;
+use group::{GRIDS_MOST, Group, LON_TURN, Point, Refusal};
 
 // The zero of the distances of longitudes.
 const LON_ZERO: u64 = group::LON_ZERO as u64;
@@ -38,7 +38,7 @@ pub const EXPLANATION_WORDS: usize = OTHERS_FROM + GRIDS_MOST;
 // What a lookup is made of, in the order of include/bulhyemik.h; zeros beside a refusal.
 #[derive(Clone, Copy)]
 pub struct Explanation {
-    pub verdict: Verdict,
+    pub verdict: Result<(), Refusal>,
     pub numbers: [i64; EXPLANATION_WORDS],
 }
 
@@ -211,10 +211,10 @@ fn found_numbers(
 
 // A refusal, with zeros beside it.
 fn unexplained(refusal: Refusal) -> Explanation
-    ensures { result ≡ record { verdict = Verdict.Refused refusal; numbers = replicate explanation_words (pos 0) } }
+    ensures { result ≡ record { verdict = Err refusal; numbers = replicate explanation_words (pos 0) } }
 {
     Explanation {
-        verdict: Verdict::Refused(refusal),
+        verdict: Err(refusal),
         numbers: [0i64; EXPLANATION_WORDS],
     }
 }
@@ -229,17 +229,17 @@ fn explain_accepted(
     point: Point,
     day: i64,
 ) -> Explanation
-    requires { (judged (group_of_words words.now) ≡ Verdict.Accepted) × Laid (group_of_words words.now) sides.now ranks.now frames.now }
+    requires { (judged (group_of_words words.now) ≡ Ok tt) × Laid (group_of_words words.now) sides.now ranks.now frames.now }
     ensures { result ≡ explained_by (group_of_words words.now) nodes.now point day
         (looked_in (group_of_words words.now) nodes.now point day) }
 {
     let found = lookup::look_accepted(words, sides, ranks, frames, nodes, point, day);
     match found {
-        Lookup::Refused(refusal) => unexplained(refusal),
-        Lookup::Fix(fix) => {
+        Err(refusal) => unexplained(refusal),
+        Ok(fix) => {
             let numbers = found_numbers(words, sides, ranks, frames, nodes, point, day, fix.grid);
             Explanation {
-                verdict: Verdict::Accepted,
+                verdict: Ok(()),
                 numbers: numbers,
             }
         }
@@ -260,8 +260,8 @@ pub fn explain_words(
     let mut frames = [0u64; flat::FRAMES];
     let verdict = judge::judge_into(words, &mut sides, &mut ranks, &mut frames);
     match verdict {
-        Verdict::Refused(refusal) => unexplained(refusal),
-        Verdict::Accepted => explain_accepted(words, &sides, &ranks, &frames, nodes, point, day),
+        Err(refusal) => unexplained(refusal),
+        Ok(()) => explain_accepted(words, &sides, &ranks, &frames, nodes, point, day),
     }
 }
 

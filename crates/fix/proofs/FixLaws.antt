@@ -19,17 +19,17 @@ use Rattle.cell.proofs.ValueLaws.{used_some_lem, some_used, some_same, value_sam
 use Rattle.cell.proofs.Order6.{used_either}
 use Rattle.day.specs.Day.{result_of}
 use Rattle.fix.specs.declared.Offset.{Offset}
-use Rattle.fix.specs.declared.Lookup.TheVariants as L
 use Rattle.fix.specs.Fix.{cell_of, corners_at, corners_of, corner_some, value_in, result_at, fix_in, SameNodes}
+use Rattle.std.specs.Prelude.{Ok, Err}
 
 module _ (l : Offset) (nodes : List ℤ) (factor : ℤ) (grid : ℕ) where
-  pub fix_marked : corner_some is_mark l nodes ≡ true → fix_in l nodes factor grid ≡ L.Refused (record { number = 8; place = 0 })
+  pub fix_marked : corner_some is_mark l nodes ≡ true → fix_in l nodes factor grid ≡ Err (record { number = 8; place = 0 })
   unfolding fix_in
-  fix_marked e = if_here L.Refused (corner_some is_mark l nodes) 8 0 _ e
+  fix_marked e = if_here Err (corner_some is_mark l nodes) 8 0 _ e
 
   pub fix_found : corner_some is_mark l nodes ≡ false → corner_some is_beyond l nodes ≡ false
       → fix_in l nodes factor grid
-      ≡ L.Fix
+      ≡ Ok
       (record {
         grid = grid;
         first = result_at l nodes factor 0;
@@ -37,7 +37,7 @@ module _ (l : Offset) (nodes : List ℤ) (factor : ℤ) (grid : ℕ) where
         third = result_at l nodes factor 2;
       })
   unfolding fix_in
-  fix_found e f = if_past L.Refused (corner_some is_mark l nodes) 8 0 _ e ∙ if_past L.Refused (corner_some is_beyond l nodes) 11 0 _ f
+  fix_found e f = if_past Err (corner_some is_mark l nodes) 8 0 _ e ∙ if_past Err (corner_some is_beyond l nodes) 11 0 _ f
 
 -- ---- a test of the corners is passed exactly where a used corner of some parameter has the property that it tests
 
@@ -86,9 +86,9 @@ module _ (l : Offset) (nodes others : List ℤ) (same : SameNodes l nodes others
   pub fix_same : (factor : ℤ) (grid : ℕ) → fix_in l nodes factor grid ≡ fix_in l others factor grid
   unfolding fix_in
   fix_same factor grid i =
-      refuse_if L.Refused (corner_same is_mark i) 8 0
-      (refuse_if L.Refused (corner_same is_beyond i) 11 0
-      (L.Fix
+      refuse_if Err (corner_same is_mark i) 8 0
+      (refuse_if Err (corner_same is_beyond i) 11 0
+      (Ok
       (record {
         grid = grid;
         first = result_same factor 0 i;

@@ -23,13 +23,13 @@ use Rattle.cell.specs.Unsigned.{corners_near}
 use Rattle.cell.proofs.ValueLaws.{each_map, none_beyond}
 use Rattle.cell.proofs.NearLaws.{near_values}
 use Rattle.fix.specs.declared.Offset.{Offset}
-use Rattle.fix.specs.declared.Lookup.TheVariants as L
 use Rattle.fix.specs.Fix.{cell_of, corners_of, corner_some, value_in, result_at, fix_in}
 use Rattle.fix.specs.Inside.{InsideGrid}
 use Rattle.fix.specs.Parts.{fault_at}
 use Rattle.day.specs.Day.{result_of}
 use Rattle.fix.proofs.OffsetLaws.{cell_weighed, part_most}
 use Rattle.fix.proofs.FixLaws.{fix_marked, fix_found}
+use Rattle.std.specs.Prelude.{Ok, Err}
 
 -- ---- the mark is beyond the limit of node values
 
@@ -112,7 +112,7 @@ module _ (l : Offset) (nodes : List ℤ) (factor : ℤ) (grid : ℕ) where
   abbrev mark_at : ℕ → Bool
   mark_at p = used_some is_mark (cell_of l).weights (corners_of l nodes p)
 
-  pub fix_refused : (p : ℕ) → p < l.np → mark_at p ≡ true → L.Refused (record { number = 8; place = 0 }) ≡ fix_in l nodes factor grid
+  pub fix_refused : (p : ℕ) → p < l.np → mark_at p ≡ true → Err (record { number = 8; place = 0 }) ≡ fix_in l nodes factor grid
   unfolding corner_some
   fix_refused p h e = sym (fix_marked l nodes factor grid (some_by mark_at l.np p h e))
 
@@ -126,7 +126,7 @@ module _ (l : Offset) (nodes : List ℤ) (factor : ℤ) (grid : ℕ) where
     each (suc (suc (suc k))) h = absurd (omega arith)
 
     pub fix_sound : fix_in l nodes factor grid
-        ≡ L.Fix
+        ≡ Ok
         (record {
           grid = grid;
           first = result_at l nodes factor 0;
@@ -140,15 +140,15 @@ module _ (l : Offset) (nodes : List ℤ) (factor : ℤ) (grid : ℕ) where
         fix_found l nodes factor grid (le-ltb (first mark_at l.np) l.np (omega arith)) (le-ltb (first beyond_at l.np) l.np (omega arith))
 
     pub fix_results : {x y z : ℤ} → x ≡ result_at l nodes factor 0 → y ≡ result_at l nodes factor 1 → z ≡ result_at l nodes factor 2
-        → L.Fix (record { grid = grid; first = x; second = y; third = z }) ≡ fix_in l nodes factor grid
-    fix_results a b c = (λ k. L.Fix (record { grid = grid; first = a k; second = b k; third = c k })) ∙ sym fix_sound
+        → Ok (record { grid = grid; first = x; second = y; third = z }) ≡ fix_in l nodes factor grid
+    fix_results a b c = (λ k. Ok (record { grid = grid; first = a k; second = b k; third = c k })) ∙ sym fix_sound
 
   -- no parameter at all
-  pub fix_none : l.np ≡ 0 → fix_in l nodes factor grid ≡ L.Fix (record { grid = grid; first = pos 0; second = pos 0; third = pos 0 })
+  pub fix_none : l.np ≡ 0 → fix_in l nodes factor grid ≡ Ok (record { grid = grid; first = pos 0; second = pos 0; third = pos 0 })
   fix_none e =
       fix_sound (omega arith) (missing l nodes 0 (omega arith)) (missing l nodes 1 (omega arith)) (missing l nodes 2 (omega arith))
       ∙ sym
-      (λ k. L.Fix
+      (λ k. Ok
       (record {
         grid = grid;
         first = none l nodes 0 factor (omega arith) k;

@@ -1,5 +1,5 @@
 -- Document 01's lookup in the chosen grid: the cell, its corners in the node list, refusals 8 and 11, and the fix.
-use Rattle.std.specs.Prelude.{ℕ, ◌+◌, ◌*◌, ◌<◌, Bool, cond, List, ltb, ℤ, pos, get_or}
+use Rattle.std.specs.Prelude.{ℕ, ◌+◌, ◌*◌, ◌<◌, Bool, cond, List, ltb, ℤ, pos, get_or, Result, Ok, Err}
 use Rattle.numbers.specs.First.{some}
 use Rattle.cell.specs.declared.Corners.{Corners}
 use Rattle.group.specs.Numbers.{is_mark}
@@ -9,8 +9,8 @@ use Rattle.cell.specs.Used.{SameUsed}
 use Rattle.day.specs.Day.{result_of}
 use Rattle.fix.specs.declared.Offset.{Offset}
 use Rattle.fix.specs.declared.Cell.{Cell}
-use Rattle.fix.specs.declared.Lookup.{Lookup}
-use Rattle.fix.specs.declared.Lookup.TheVariants as L
+use Rattle.group.specs.declared.Refusal.{Refusal}
+use Rattle.fix.specs.declared.Fix.{Fix}
 
 -- the cell's node of lower indices, and the weights of its corners
 unfoldable pub cell_of : Offset → Cell
@@ -51,11 +51,11 @@ unfoldable pub result_at : Offset → List ℤ → ℤ → ℕ → ℤ
 result_at l nodes factor p = cond (ltb p l.np) (result_of (value_in l nodes p) factor) (pos 0)
 
 -- 8, then 11, then the fix in the grid of this number
-unfoldable pub fix_in : Offset → List ℤ → ℤ → ℕ → Lookup
+unfoldable pub fix_in : Offset → List ℤ → ℤ → ℕ → Result Fix Refusal
 fix_in l nodes factor grid =
-    refuse_if L.Refused (corner_some is_mark l nodes) 8 0
-    (refuse_if L.Refused (corner_some is_beyond l nodes) 11 0
-    (L.Fix
+    refuse_if Err (corner_some is_mark l nodes) 8 0
+    (refuse_if Err (corner_some is_beyond l nodes) 11 0
+    (Ok
     (record {
       grid = grid;
       first = result_at l nodes factor 0;

@@ -1,9 +1,8 @@
 // The fix of a point in the grid chosen for it, or refusal 8.
 #![tactic(auto)]
 
-ghost use Rattle.std.specs.Prelude.{◌≡◌, ◌≤◌, ◌<◌, nat_abs, length};
+ghost use Rattle.std.specs.Prelude.{◌≡◌, ◌≤◌, ◌<◌, nat_abs, length, Err};
 ghost use Rattle.group.specs.Numbers.{factor_most};
-ghost use Rattle.fix.specs.declared.Lookup.TheVariants as L;
 ghost use Rattle.fix.specs.Fix.{position, cell_of, corners_of, fix_in};
 ghost use Rattle.fix.specs.Inside.{InsideGrid, RangeListed};
 ghost use Rattle.fix.specs.Parts.{Begun};
@@ -40,13 +39,6 @@ pub struct Fix {
     pub first: i64,
     pub second: i64,
     pub third: i64,
-}
-
-// What a lookup answers.
-#[derive(Clone, Copy)]
-pub enum Lookup {
-    Fix(Fix),
-    Refused(Refusal),
 }
 
 // The cell of a point in a grid.
@@ -93,17 +85,17 @@ pub fn corners_at(l: Offset, nodes: &[i32], a: u64, p: u64) -> Corners
 }
 
 // Refusal 8.
-fn no_data() -> Lookup
-    ensures { result ≡ L.Refused (record { number = 8; place = 0 }) }
+fn no_data() -> Result<Fix, Refusal>
+    ensures { result ≡ Err (record { number = 8; place = 0 }) }
 {
-    Lookup::Refused(Refusal {
+    Err(Refusal {
         number: 8,
         place: 0,
     })
 }
 
 // The fix of a point with the weights w of its cell's corners, whose node of lower indices stands at a, whatever these hold: in two words.
-fn fix_far(l: Offset, w: Weights, a: u64, nodes: &[i32], factor: i64, grid: u64) -> Lookup
+fn fix_far(l: Offset, w: Weights, a: u64, nodes: &[i32], factor: i64, grid: u64) -> Result<Fix, Refusal>
     requires { Begun l (length nodes.now) w a × (0 < l.np) × (nat_abs factor ≤ factor_most) }
     ensures { result ≡ fix_in l nodes.now factor grid }
 {
@@ -113,7 +105,7 @@ fn fix_far(l: Offset, w: Weights, a: u64, nodes: &[i32], factor: i64, grid: u64)
     }
     let first = day::result_of(cell::value_two_words(w, u), factor);
     if l.np <= 1 {
-        return Lookup::Fix(Fix {
+        return Ok(Fix {
             grid: grid,
             first: first,
             second: 0,
@@ -126,7 +118,7 @@ fn fix_far(l: Offset, w: Weights, a: u64, nodes: &[i32], factor: i64, grid: u64)
     }
     let second = day::result_of(cell::value_two_words(w, v), factor);
     if l.np <= 2 {
-        return Lookup::Fix(Fix {
+        return Ok(Fix {
             grid: grid,
             first: first,
             second: second,
@@ -138,7 +130,7 @@ fn fix_far(l: Offset, w: Weights, a: u64, nodes: &[i32], factor: i64, grid: u64)
         return no_data();
     }
     let third = day::result_of(cell::value_two_words(w, t), factor);
-    Lookup::Fix(Fix {
+    Ok(Fix {
         grid: grid,
         first: first,
         second: second,
@@ -149,7 +141,7 @@ fn fix_far(l: Offset, w: Weights, a: u64, nodes: &[i32], factor: i64, grid: u64)
 // The fix of a point with the weights w of its cell's corners, whose node of lower indices stands at a: in one word as long as the total
 // and the corners of each parameter allow it, else by `fix_far`. One parameter at a time, with no loop and no call that is shared, so that each is
 // compiled in its place; `fix_far` is lent copies, so that what they are copied from stays in registers.
-fn fix_from(l: Offset, w: Weights, a: u64, nodes: &[i32], factor: i64, grid: u64) -> Lookup
+fn fix_from(l: Offset, w: Weights, a: u64, nodes: &[i32], factor: i64, grid: u64) -> Result<Fix, Refusal>
     requires { Begun l (length nodes.now) w a × (0 < l.np) × (nat_abs factor ≤ factor_most) }
     ensures { result ≡ fix_in l nodes.now factor grid }
 {
@@ -162,7 +154,7 @@ fn fix_from(l: Offset, w: Weights, a: u64, nodes: &[i32], factor: i64, grid: u64
     }
     let first = day::result_of(cell::value_one_word(w, u), factor);
     if l.np <= 1 {
-        return Lookup::Fix(Fix {
+        return Ok(Fix {
             grid: grid,
             first: first,
             second: 0,
@@ -178,7 +170,7 @@ fn fix_from(l: Offset, w: Weights, a: u64, nodes: &[i32], factor: i64, grid: u64
     }
     let second = day::result_of(cell::value_one_word(w, v), factor);
     if l.np <= 2 {
-        return Lookup::Fix(Fix {
+        return Ok(Fix {
             grid: grid,
             first: first,
             second: second,
@@ -193,7 +185,7 @@ fn fix_from(l: Offset, w: Weights, a: u64, nodes: &[i32], factor: i64, grid: u64
         return fix_far(m, x, a, n, factor, grid);
     }
     let third = day::result_of(cell::value_one_word(w, t), factor);
-    Lookup::Fix(Fix {
+    Ok(Fix {
         grid: grid,
         first: first,
         second: second,
@@ -203,12 +195,12 @@ fn fix_from(l: Offset, w: Weights, a: u64, nodes: &[i32], factor: i64, grid: u64
 
 // The fix of a point in the grid of a number, from 1, with the day factor in millionths: refusal 8 where a used corner is the
 // mark, else the results. No 32-bit number but the mark is beyond the limit of node values, so 11 never comes.
-pub fn fix_in(l: Offset, nodes: &[i32], factor: i64, grid: u64) -> Lookup
+pub fn fix_in(l: Offset, nodes: &[i32], factor: i64, grid: u64) -> Result<Fix, Refusal>
     requires { InsideGrid l × RangeListed l (length nodes.now) × (nat_abs factor ≤ factor_most) }
     ensures { result ≡ fix_in l nodes.now factor grid }
 {
     if l.np == 0 {
-        return Lookup::Fix(Fix {
+        return Ok(Fix {
             grid: grid,
             first: 0,
             second: 0,

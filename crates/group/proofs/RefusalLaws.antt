@@ -8,9 +8,8 @@ use Rattle.numbers.specs.First.{first, some}
 use Rattle.numbers.proofs.Bools.{true_false}
 use Rattle.numbers.proofs.FirstLaws.{first_same, some_same}
 use Rattle.group.specs.declared.Refusal.{Refusal}
-use Rattle.group.specs.declared.Verdict.{Verdict}
-use Rattle.group.specs.declared.Verdict.TheVariants.{Accepted, Refused}
 use Rattle.group.specs.Refusals.{refusal, no_refusal, in_table, verdict_refusal, refuse_if, refuse_first, unless_refused, Told, lent_after}
+use Rattle.std.specs.Prelude.{Result, Ok, Err, ⊤}
 
 -- ---- a stage that refuses, and one that is passed
 
@@ -81,14 +80,14 @@ module _ {A : Type 0} (refused : Refusal → A) where
     unfolding refuse_first
     passed_first test n number base next e = passed_if (some test n) number (first test n + base) next e
 
-    pub passed_verdict : (v : Verdict) (next : A) → unless_refused refused v next ≡ x → (v ≡ Accepted) × (next ≡ x)
-    passed_verdict Accepted next e = (refl, e)
-    passed_verdict (Refused r) next e = absurd (apart r e)
+    pub passed_verdict : (v : Result ⊤ Refusal) (next : A) → unless_refused refused v next ≡ x → (v ≡ Ok tt) × (next ≡ x)
+    passed_verdict (Ok tt) next e = (refl, e)
+    passed_verdict (Err r) next e = absurd (apart r e)
 
   -- a verdict that is one after another refuses as they do in turn
-  pub in_turn : (v w : Verdict) (next : A) → unless_refused refused (unless_refused Refused v w) next ≡ unless_refused refused v (unless_refused refused w next)
-  in_turn Accepted w next = refl
-  in_turn (Refused r) w next = refl
+  pub in_turn : (v w : Result ⊤ Refusal) (next : A) → unless_refused refused (unless_refused Err v w) next ≡ unless_refused refused v (unless_refused refused w next)
+  in_turn (Ok tt) w next = refl
+  in_turn (Err r) w next = refl
 
   -- what holds of its refusals and of the answer at its end holds of a chain
   module _ (P : A → Type 0) where
@@ -97,12 +96,12 @@ module _ {A : Type 0} (refused : Refusal → A) where
     chain_if true number place next p q = p
     chain_if false number place next p q = q
 
-    pub chain_verdict : (v : Verdict) (next : A) → ((r : Refusal) → v ≡ Refused r → P (refused r)) → P next → P (unless_refused refused v next)
-    chain_verdict Accepted next p q = q
-    chain_verdict (Refused r) next p q = p r refl
+    pub chain_verdict : (v : Result ⊤ Refusal) (next : A) → ((r : Refusal) → v ≡ Err r → P (refused r)) → P next → P (unless_refused refused v next)
+    chain_verdict (Ok tt) next p q = q
+    chain_verdict (Err r) next p q = p r refl
 
 -- a verdict that refuses does not accept
-pub no_acceptance : (r : Refusal) → Refused r ≡ Accepted → ⊥
+pub no_acceptance : (r : Refusal) → ◌≡◌ {A = Result ⊤ Refusal} (Err r) (Ok tt) → ⊥
 no_acceptance r e = let z : ◌≡◌ {A = ℕ} 0 1 = cc in omega arith
 
 -- ---- what a call tells: 0 exactly where it is accepted, else a number of the table
@@ -128,7 +127,7 @@ pub record Answers {A : Type 0} (Accepts : A → Type 0) (refusalOf : A → Refu
   pub back : (r : Refusal) → refusalOf (refused r) ≡ r
   pub never : (r : Refusal) → Accepts (refused r) → ⊥
 
-pub verdicts : Answers (λ (v : Verdict). v ≡ Accepted) verdict_refusal Refused
+pub verdicts : Answers (λ (v : Result ⊤ Refusal). v ≡ Ok tt) verdict_refusal Err
 verdicts = record { back = λ r. refl; never = no_acceptance }
 
 -- each stage of a chain tells so where its number stands in the table and what follows tells so
@@ -140,10 +139,10 @@ module _ {A : Type 0} {Accepts : A → Type 0} {refusalOf : A → Refusal} {refu
       → Told (Accepts (refuse_if refused t number place next)) (refusalOf (refuse_if refused t number place next))
   told_if t number place {next} h after = chain_if refused (λ x. Told (Accepts x) (refusalOf x)) t number place next (told_by (refusal number place) h) after
 
-  pub told_verdict : (v : Verdict) {next : A} → Told (v ≡ Accepted) (verdict_refusal v) → Told (Accepts next) (refusalOf next)
+  pub told_verdict : (v : Result ⊤ Refusal) {next : A} → Told (v ≡ Ok tt) (verdict_refusal v) → Told (Accepts next) (refusalOf next)
       → Told (Accepts (unless_refused refused v next)) (refusalOf (unless_refused refused v next))
-  told_verdict Accepted h after = after
-  told_verdict (Refused r) h after = told_by r (h.refused (no_acceptance r))
+  told_verdict (Ok tt) h after = after
+  told_verdict (Err r) h after = told_by r (h.refused (no_acceptance r))
 
 -- ---- what lent memory holds
 

@@ -1,10 +1,8 @@
 -- Document 01's refusals: a number and its place, 0 and 0 where nothing is refused; what a verdict refuses; refusals tried one after the
 -- other, over any answer that can be a refusal; and what lent memory holds afterwards.
-use Rattle.std.specs.Prelude.{ℕ, ◌+◌, ◌≡◌, Bool, true, cond, ◌&&◌, leb, eqb}
+use Rattle.std.specs.Prelude.{ℕ, ◌+◌, ◌≡◌, Bool, true, cond, ◌&&◌, leb, eqb, Result, Ok, Err, ⊤}
 use Rattle.numbers.specs.First.{first, some}
 use Rattle.group.specs.declared.Refusal.{Refusal}
-use Rattle.group.specs.declared.Verdict.{Verdict}
-use Rattle.group.specs.declared.Verdict.TheVariants.{Accepted, Refused}
 
 abbrev pub refusal : ℕ → ℕ → Refusal
 refusal number place = record { number = number; place = place }
@@ -17,9 +15,9 @@ no_refusal = refusal 0 0
 abbrev pub in_table : ℕ → Bool
 in_table number = leb 1 number && leb number 13
 
-abbrev pub verdict_refusal : Verdict → Refusal
-verdict_refusal Accepted = no_refusal
-verdict_refusal (Refused r) = r
+abbrev pub verdict_refusal : Result ⊤ Refusal → Refusal
+verdict_refusal (Ok tt) = no_refusal
+verdict_refusal (Err r) = r
 
 -- ---- one refusal after the other: `refused` is how the answer says a refusal
 
@@ -33,9 +31,9 @@ module _ {A : Type 0} (refused : Refusal → A) where
   refuse_first test n number base next = refuse_if (some test n) number (first test n + base) next
 
   -- the verdict where it is a refusal, else what follows
-  abbrev pub unless_refused : Verdict → A → A
-  unless_refused (Refused r) next = refused r
-  unless_refused Accepted next = next
+  abbrev pub unless_refused : Result ⊤ Refusal → A → A
+  unless_refused (Err r) next = refused r
+  unless_refused (Ok tt) next = next
 
 -- ---- what a call tells and leaves
 

@@ -204,13 +204,6 @@ pub struct Refusal {
     pub place: u64,
 }
 
-// What a group is judged.
-#[derive(Clone, Copy)]
-pub enum Verdict {
-    Accepted,
-    Refused(Refusal),
-}
-
 // Whether a number stands in the table of refusals.
 pub fn in_table(number: u64) -> bool
     ensures { result ≡ in_table number }

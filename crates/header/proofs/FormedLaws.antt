@@ -15,7 +15,6 @@ use Rattle.group.specs.Record.{no_grid, function_at, grid_at}
 use Rattle.group.specs.Refusals.{refusal}
 use Rattle.group.specs.Blank.{blank_function, blank_grid}
 use Rattle.group.specs.declared.Group.{Group}
-use Rattle.group.specs.declared.Verdict.TheVariants.{Accepted, Refused}
 use Rattle.group.proofs.BlankLaws.{blank_function_lem, blank_grid_lem}
 use Rattle.group.proofs.RefusalLaws.{if_here, if_past, first_here, first_past}
 use Rattle.judge.specs.Judge.{unused_function, unused_grid, bad_function, bad_grid, judged_lines, judged_limits, judged_grids, judged_ranks, judged}
@@ -30,6 +29,7 @@ use Rattle.header.specs.Demand2.{Shaped, Formed}
 use Rattle.header.proofs.ItemLaws.{All}
 use Rattle.header.proofs.LengthLaws.{head_parts}
 use Rattle.header.proofs.TripLaws.{Always, GridsFormed, grid_lines_lem, head_stops, function_stops, grid_stops, all_read}
+use Rattle.std.specs.Prelude.{Ok, Err}
 
 -- ---- blank entries
 
@@ -64,30 +64,30 @@ module _ (g : Group) (f : Formed g) where
       clear : (k : ℕ) → k < 64 → unused_grid g k ≡ false
       clear k l = elim (dec_lt k g.grids) [ yes u ↦ rw (lt-leb g.grids k u) | no u ↦ rw (le-leb g.grids k (omega arith), f.no_grid k l (omega arith)) ]
 
-  judged_head : head_fits g ≡ false → judged g ≡ Refused (refusal 2 1)
+  judged_head : head_fits g ≡ false → judged g ≡ Err (refusal 2 1)
   unfolding judged judged_limits
-  judged_head e = if_here Refused (not (head_fits g)) 2 1 _ (ap not e)
+  judged_head e = if_here Err (not (head_fits g)) 2 1 _ (ap not e)
 
   module _ (e : head_fits g ≡ true) where
-    judged_lines_lem : judged g ≡ judged_lines g (judged_grids g (judged_ranks g Accepted))
+    judged_lines_lem : judged g ≡ judged_lines g (judged_grids g (judged_ranks g (Ok tt)))
     unfolding judged judged_limits
     judged_lines_lem =
-        if_past Refused (not (head_fits g)) 2 1 _ (ap not e)
-        ∙ if_past Refused (some (unused_function g) 8) 2 1 _ no_unused_function
-        ∙ if_past Refused (some (unused_grid g) 64) 2 1 _ no_unused_grid
+        if_past Err (not (head_fits g)) 2 1 _ (ap not e)
+        ∙ if_past Err (some (unused_function g) 8) 2 1 _ no_unused_function
+        ∙ if_past Err (some (unused_grid g) 64) 2 1 _ no_unused_grid
 
-    judged_function : some (bad_function g) g.functions ≡ true → judged g ≡ Refused (refusal 2 (first (bad_function g) g.functions + 2))
+    judged_function : some (bad_function g) g.functions ≡ true → judged g ≡ Err (refusal 2 (first (bad_function g) g.functions + 2))
     unfolding judged_lines
-    judged_function s = judged_lines_lem ∙ first_here Refused (bad_function g) g.functions 2 2 _ s
+    judged_function s = judged_lines_lem ∙ first_here Err (bad_function g) g.functions 2 2 _ s
 
-    judged_grid : some (bad_function g) g.functions ≡ false → some (bad_grid g) g.grids ≡ true → judged g ≡ Refused (refusal 2 (first (bad_grid g) g.grids + (2 + g.functions)))
+    judged_grid : some (bad_function g) g.functions ≡ false → some (bad_grid g) g.grids ≡ true → judged g ≡ Err (refusal 2 (first (bad_grid g) g.grids + (2 + g.functions)))
     unfolding judged_lines
     judged_grid s t =
         let c : g.functions + 2 ≡ 2 + g.functions = omega arith in
         judged_lines_lem
-        ∙ first_past Refused (bad_function g) g.functions 2 2 _ s
-        ∙ first_here Refused (bad_grid g) g.grids 2 (g.functions + 2) _ t
-        ∙ ap (λ (m : ℕ). Refused (refusal 2 (first (bad_grid g) g.grids + m))) c
+        ∙ first_past Err (bad_function g) g.functions 2 2 _ s
+        ∙ first_here Err (bad_grid g) g.grids 2 (g.functions + 2) _ t
+        ∙ ap (λ (m : ℕ). Err (refusal 2 (first (bad_grid g) g.grids + m))) c
 
   -- the group line is judged by its numbers
   head_numbers_lem : head_fits g ≡ head_within (head_of_group g)
@@ -133,7 +133,7 @@ module _ (g : Group) (f : Formed g) where
   unfolding read_header header_text
   as_text = in_head (head_fits g) refl
     where
-      stop : (p : ℕ) → read_lines (header_text g) ≡ stopped (refusal 2 p) → judged g ≡ Refused (refusal 2 p) → judged_reading (read_lines (header_text g)) ≡ verdict_reading g (judged g)
+      stop : (p : ℕ) → read_lines (header_text g) ≡ stopped (refusal 2 p) → judged g ≡ Err (refusal 2 p) → judged_reading (read_lines (header_text g)) ≡ verdict_reading g (judged g)
       stop p l v = ap judged_reading l ∙ ap (verdict_reading g) (sym v)
 
       in_grids : (e : head_fits g ≡ true) → some (bad_function g) g.functions ≡ false → (b : Bool) → some (bad_grid g) g.grids ≡ b → judged_reading (read_lines (header_text g)) ≡ verdict_reading g (judged g)
@@ -163,7 +163,7 @@ module _ (g : Group) (f : Formed g) where
 
 -- ---- an accepted group's text reads back as that group
 
-module _ (g : Group) (s : Shaped g) (e : judged g ≡ Accepted) where
+module _ (g : Group) (s : Shaped g) (e : judged g ≡ Ok tt) where
   accepted_formed : Formed g
   accepted_formed =
       let a = accepted g e in

@@ -12,23 +12,20 @@ use Rattle.text.specs.Wrote.{Wrote}
 use Rattle.group.specs.declared.Function.{Function}
 use Rattle.group.specs.declared.Grid.{Grid}
 use Rattle.group.specs.declared.Group.{Group}
-use Rattle.header.specs.declared.Written.{Written}
-use Rattle.header.specs.declared.Written.TheVariants as W
 use Rattle.group.specs.Refusals.{refusal, no_refusal, refuse_if, lent_after}
 use Rattle.group.proofs.RefusalLaws.{if_here, if_past, not_zero, lent_new, lent_kept, no_acceptance}
 use Rattle.header.specs.Items.{closed}
 use Rattle.line.specs.Lines.{head_text, function_text, grid_text}
 use Rattle.group.specs.declared.Refusal.{Refusal}
-use Rattle.group.specs.declared.Verdict.{Verdict}
-use Rattle.group.specs.declared.Verdict.TheVariants.{Accepted, Refused}
 use Rattle.judge.specs.Judge.{judged}
 use Rattle.judge.proofs.TableLaws.{judged_table}
 use Rattle.header.specs.declared.Reading.{Reading}
 use Rattle.header.specs.Whole.{Header, stopped, header, read_lines, group_of_lines, refused_reading, lines_reading, head_of_group, header_text}
 use Rattle.header.specs.Header.{verdict_reading, judged_reading, read_header, written, written_refusal, bytes_after}
+use Rattle.std.specs.Prelude.{Result, Ok, Err, ⊤}
 
 module _ (t : List ℕ) (q : Reading) (e : q ≡ lines_reading (read_lines t)) where
-  pub lines_refused : (r : Refusal) → q.verdict ≡ Refused r → q ≡ read_header t
+  pub lines_refused : (r : Refusal) → q.verdict ≡ Err r → q ≡ read_header t
   unfolding read_header
   lines_refused r v = go (read_lines t) e
     where
@@ -36,7 +33,7 @@ module _ (t : List ℕ) (q : Reading) (e : q ≡ lines_reading (read_lines t)) w
       go (stopped s) f = f
       go (header h rs ds) f = absurd (no_acceptance r (sym v ∙ ap (λ (a : Reading). a.verdict) f))
 
-  module _ (w : q.verdict ≡ Accepted) (v : Verdict) (j : v ≡ judged q.group) where
+  module _ (w : q.verdict ≡ Ok tt) (v : Result ⊤ Refusal) (j : v ≡ judged q.group) where
     judged_as : read_header t ≡ verdict_reading q.group v
     unfolding read_header
     judged_as = go (read_lines t) e
@@ -47,10 +44,10 @@ module _ (t : List ℕ) (q : Reading) (e : q ≡ lines_reading (read_lines t)) w
             let g : q.group ≡ group_of_lines h rs ds = ap (λ (a : Reading). a.group) f in
             sym (λ i. verdict_reading (g i) (judged (g i))) ∙ ap (verdict_reading q.group) (sym j)
 
-    pub header_refused : (r : Refusal) → v ≡ Refused r → refused_reading r ≡ read_header t
+    pub header_refused : (r : Refusal) → v ≡ Err r → refused_reading r ≡ read_header t
     header_refused r f = sym (judged_as ∙ ap (verdict_reading q.group) f)
 
-    pub header_accepted : v ≡ Accepted → q ≡ read_header t
+    pub header_accepted : v ≡ Ok tt → q ≡ read_header t
     header_accepted f = (λ i. record { verdict = w i; group = q.group }) ∙ sym (judged_as ∙ ap (verdict_reading q.group) f)
 
 -- ---- writing
@@ -91,27 +88,27 @@ front_le t out n after w =
 
 module _ (g : Group) (out : List ℕ) where
   -- what is left, by the answer
-  left : (w : Written) → w ≡ written g (length out) → lent_after (written_refusal w) (put 0 (header_text g) out) out ≡ bytes_after g out
+  left : (w : Result ℕ Refusal) → w ≡ written g (length out) → lent_after (written_refusal w) (put 0 (header_text g) out) out ≡ bytes_after g out
   unfolding bytes_after
-  left w e = ap (λ (x : Written). lent_after (written_refusal x) (put 0 (header_text g) out) out) e
+  left w e = ap (λ (x : Result ℕ Refusal). lent_after (written_refusal x) (put 0 (header_text g) out) out) e
 
-  pub refused_answer : (r : Refusal) → judged g ≡ Refused r → (W.Refused r ≡ written g (length out)) × (out ≡ bytes_after g out)
+  pub refused_answer : (r : Refusal) → judged g ≡ Err r → (Err r ≡ written g (length out)) × (out ≡ bytes_after g out)
   unfolding written
   refused_answer r e =
-      let a : W.Refused r ≡ written g (length out) = rw e refl in
-      (a, sym (lent_kept r (put 0 (header_text g) out) out (not_zero r.number (judged_table g r e))) ∙ left (W.Refused r) a)
+      let a : Err r ≡ written g (length out) = rw e refl in
+      (a, sym (lent_kept r (put 0 (header_text g) out) out (not_zero r.number (judged_table g r e))) ∙ left (Err r) a)
 
-  module _ (e : judged g ≡ Accepted) where
-    fitted : written g (length out) ≡ refuse_if W.Refused (ltb (length out) (length (header_text g))) 12 0 (W.Count (length (header_text g)))
+  module _ (e : judged g ≡ Ok tt) where
+    fitted : written g (length out) ≡ refuse_if Err (ltb (length out) (length (header_text g))) 12 0 (Ok (length (header_text g)))
     unfolding written
     fitted = rw e refl
 
-    pub short_answer : length out < length (header_text g) → (W.Refused (refusal 12 0) ≡ written g (length out)) × (out ≡ bytes_after g out)
+    pub short_answer : length out < length (header_text g) → (Err (refusal 12 0) ≡ written g (length out)) × (out ≡ bytes_after g out)
     short_answer h =
-        let a = sym (fitted ∙ if_here W.Refused (ltb (length out) (length (header_text g))) 12 0 _ (lt-ltb _ _ h)) in
-        (a, sym (lent_kept (refusal 12 0) (put 0 (header_text g) out) out (not_zero 12 refl)) ∙ left (W.Refused (refusal 12 0)) a)
+        let a = sym (fitted ∙ if_here Err (ltb (length out) (length (header_text g))) 12 0 _ (lt-ltb _ _ h)) in
+        (a, sym (lent_kept (refusal 12 0) (put 0 (header_text g) out) out (not_zero 12 refl)) ∙ left (Err (refusal 12 0)) a)
 
-    pub count_answer : (n : ℕ) (after : List ℕ) → n ≡ length (header_text g) → length (header_text g) ≤ length out → after ≡ put 0 (header_text g) out → (W.Count n ≡ written g (length out)) × (after ≡ bytes_after g out)
+    pub count_answer : (n : ℕ) (after : List ℕ) → n ≡ length (header_text g) → length (header_text g) ≤ length out → after ≡ put 0 (header_text g) out → (Ok n ≡ written g (length out)) × (after ≡ bytes_after g out)
     count_answer n after p h q =
-        let a = ap W.Count p ∙ sym (fitted ∙ if_past W.Refused (ltb (length out) (length (header_text g))) 12 0 _ (le-ltb _ _ h)) in
-        (a, q ∙ sym (lent_new no_refusal (put 0 (header_text g) out) out refl) ∙ left (W.Count n) a)
+        let a = ap Ok p ∙ sym (fitted ∙ if_past Err (ltb (length out) (length (header_text g))) 12 0 _ (le-ltb _ _ h)) in
+        (a, q ∙ sym (lent_new no_refusal (put 0 (header_text g) out) out refl) ∙ left (Ok n) a)

@@ -15,12 +15,11 @@ use Rattle.numbers.proofs.FirstLaws.{first_le}
 use Rattle.text.specs.Parts.{split, join, up_to}
 use Rattle.text.proofs.PartLaws.{Free, split_lead, split_cut, split_last, first_part, up_to_le}
 use Rattle.group.specs.declared.Refusal.{Refusal}
-use Rattle.group.specs.declared.Verdict.{Verdict}
-use Rattle.group.specs.declared.Verdict.TheVariants.{Accepted, Refused}
 use Rattle.group.specs.Refusals.{refusal}
 use Rattle.line.specs.Line.{Line, bad, good}
 use Rattle.line.proofs.LineLaws.{limited}
 use Rattle.header.specs.Items.{Items, refused, items, on_line, read_items, closed, entries, verdict_of, found_of, behind_of, Are}
+use Rattle.std.specs.Prelude.{Result, Ok, Err, ⊤}
 
 -- the records may be the lines from n on
 abbrev pub All : {A : Type 0} → (ℕ → A → Type 0) → ℕ → List A → Type 0
@@ -242,7 +241,7 @@ module _ {A : Type 0} (read : ℕ → List ℕ → Line Refusal A) (size : ℕ) 
         state = loop_start read count n (split 10 (drop at text));
       }
 
-  pub loop_stops : (r : Refusal) (verdict : Verdict) (array : List A) (next : ℕ) → is ≡ refused r → verdict ≡ Refused r → array ≡ replicate size z → next ≡ 0 → Are size z text is verdict array next
+  pub loop_stops : (r : Refusal) (verdict : Result ⊤ Refusal) (array : List A) (next : ℕ) → is ≡ refused r → verdict ≡ Err r → array ≡ replicate size z → next ≡ 0 → Are size z text is verdict array next
   loop_stops r verdict array next w v a m =
       record {
         judged = v ∙ sym (ap verdict_of w);
@@ -273,7 +272,7 @@ module _ {A : Type 0} (read : ℕ → List ℕ → Line Refusal A) (size : ℕ) 
                   (loop_good read count n (split 10 (drop at text)) k (take k array) h _ (drop (e + 1) text) _ x (one_closed text next e found l.room q) b l.state);
             }
 
-    pub loop_leaves : count ≤ k → count ≤ size → Are size z text is Accepted array next
+    pub loop_leaves : count ≤ k → count ≤ size → Are size z text is (Ok tt) array next
     loop_leaves c s =
         let w = loop_end read count n (split 10 (drop at text)) k (take k array) (split 10 (drop next text)) c l.state in
         let b = l.bound in

@@ -25,7 +25,6 @@ use Rattle.group.specs.declared.Shape.TheVariants as S
 use Rattle.group.specs.declared.Function.{Function}
 use Rattle.group.specs.declared.Grid.{Grid}
 use Rattle.group.specs.declared.Group.{Group}
-use Rattle.group.specs.declared.Verdict.TheVariants.{Accepted}
 use Rattle.judge.specs.Judge.{judged}
 use Rattle.judge.proofs.Accepted.{accepted, accepted_head}
 use Rattle.line.specs.declared.Head.{Head}
@@ -37,6 +36,7 @@ use Rattle.header.specs.Writing.{Wide}
 use Rattle.line.proofs.LimitLaws.{head_sizes, ramp_sizes, step_sizes, ramp2_sizes, origin_sizes, counts_sizes}
 use Rattle.line.proofs.NameLaws.{name_len}
 use Rattle.line.proofs.KindLaws.{grid_name_lem, grid_numbers_lem}
+use Rattle.std.specs.Prelude.{Ok}
 
 -- ---- the parts of a line
 
@@ -132,7 +132,7 @@ taken_length text d m n xs h =
 
 -- ---- the whole text
 
-module _ (g : Group) (e : judged g ≡ Accepted) where
+module _ (g : Group) (e : judged g ≡ Ok tt) where
   pub head_parts : (name_fits g.name ≡ true) × (head_numbers_fit (pos g.quantum) (pos g.parameters) (pos g.functions) (pos g.grids) ≡ true)
   unfolding head_fits
   head_parts = and_parts (name_fits g.name) (head_numbers_fit (pos g.quantum) (pos g.parameters) (pos g.functions) (pos g.grids)) (accepted g e).head

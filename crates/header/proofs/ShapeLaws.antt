@@ -8,8 +8,6 @@ use lib.ListN.{length, get_or, replicate, length-append, length-replicate, get_o
 use lib.Seq.{get_or-append-add}
 use Rattle.text.specs.Parts.{split}
 use Rattle.group.specs.declared.Refusal.{Refusal}
-use Rattle.group.specs.declared.Verdict.{Verdict}
-use Rattle.group.specs.declared.Verdict.TheVariants.{Accepted, Refused}
 use Rattle.group.specs.declared.Function.{Function}
 use Rattle.group.specs.declared.Grid.{Grid}
 use Rattle.group.specs.declared.Group.{Group}
@@ -24,6 +22,7 @@ use Rattle.header.specs.Items.{Items, refused, items, on_line, read_items, entri
 use Rattle.header.specs.Whole.{Header, stopped, header, ending, after_grids, after_functions_of, after_head_of, grid_lines, read_lines, group_of_lines}
 use Rattle.header.specs.Header.{verdict_reading, judged_reading, read_header}
 use Rattle.header.specs.Demand2.{Shaped}
+use Rattle.std.specs.Prelude.{Result, Ok, Err, ⊤}
 
 -- ---- lines that are read as records
 
@@ -129,9 +128,9 @@ pub read_shaped : (t : List ℕ) → Shaped (read_header t).group
 unfolding read_header
 read_shaped t = go (read_lines t) (lines_room t)
   where
-    by_verdict : (g : Group) (v : Verdict) → Shaped g → Shaped (verdict_reading g v).group
-    by_verdict g Accepted s = s
-    by_verdict g (Refused r) s = blank_shaped
+    by_verdict : (g : Group) (v : Result ⊤ Refusal) → Shaped g → Shaped (verdict_reading g v).group
+    by_verdict g (Ok tt) s = s
+    by_verdict g (Err r) s = blank_shaped
 
     go : (x : Header Function Grid) → Room x → Shaped (judged_reading x).group
     go (stopped r) s = blank_shaped

@@ -14,7 +14,6 @@ use Rattle.group.specs.Refusals.{refusal, in_table, verdict_refusal, Told}
 use Rattle.group.specs.Shapes.{ramp_of, step_of, ramp2_of}
 use Rattle.group.proofs.RefusalLaws.{Answers, no_acceptance, told_accepted, told_by, told_if, told_verdict}
 use Rattle.group.specs.declared.Refusal.{Refusal}
-use Rattle.group.specs.declared.Verdict.TheVariants.{Accepted}
 use Rattle.group.specs.declared.Shape.{Shape}
 use Rattle.group.specs.declared.Function.{Function}
 use Rattle.group.specs.declared.Grid.{Grid}
@@ -26,11 +25,10 @@ use Rattle.line.specs.Line.{Line, bad, good}
 use Rattle.line.specs.Lines.{keyed, formed, fields, line_of, group_keyword, head_texts, head_fit, head_of, head_line, grid_keyword, grid_texts, grid_fit, grid_of}
 use Rattle.line.specs.Lines.{ramp_keyword, step_keyword, ramp2_keyword, no_texts, of_shape, shape_fit, shape_fields, function_line}
 use Rattle.header.specs.declared.Reading.{Reading}
-use Rattle.header.specs.declared.Written.{Written}
-use Rattle.header.specs.declared.Written.TheVariants as W
 use Rattle.header.specs.Items.{Items, refused, items, on_line, read_items}
 use Rattle.header.specs.Whole.{Header, stopped, header, ending, after_grids, after_functions_of, after_head_of, read_lines_of, grid_lines, read_lines, group_of_lines, refused_reading}
 use Rattle.header.specs.Header.{judged_reading, read_header, written, written_refusal}
+use Rattle.std.specs.Prelude.{Result, Ok, Err}
 
 abbrev InTable : Refusal → Type 0
 InTable r = in_table r.number ≡ true
@@ -131,26 +129,26 @@ module _ {R D : Type 0} (function : ℕ → List ℕ → Line Refusal R) (grid :
 
 -- ---- reading and writing
 
-readings : Answers (λ (x : Reading). x.verdict ≡ Accepted) (λ (x : Reading). verdict_refusal x.verdict) refused_reading
+readings : Answers (λ (x : Reading). x.verdict ≡ Ok tt) (λ (x : Reading). verdict_refusal x.verdict) refused_reading
 readings = record { back = λ r. refl; never = no_acceptance }
 
-pub read_told : (t : List ℕ) → Told ((read_header t).verdict ≡ Accepted) (verdict_refusal (read_header t).verdict)
+pub read_told : (t : List ℕ) → Told ((read_header t).verdict ≡ Ok tt) (verdict_refusal (read_header t).verdict)
 unfolding read_header
 read_told t =
     in_lines (read_lines t)
     (lines_in function_line grid_lines kinds_in (λ h ls. line_in 1 8 grid_texts grid_fit grid_of grid_keyword) t)
   where
-    in_lines : (x : Header Function Grid) → HeaderIn x → Told ((judged_reading x).verdict ≡ Accepted) (verdict_refusal (judged_reading x).verdict)
+    in_lines : (x : Header Function Grid) → HeaderIn x → Told ((judged_reading x).verdict ≡ Ok tt) (verdict_refusal (judged_reading x).verdict)
     in_lines (stopped r) p = told_by readings r p
     in_lines (header h rs ds) p = told_verdict readings (judged (group_of_lines h rs ds)) (judged_told (group_of_lines h rs ds)) (told_accepted refl)
 
 -- a refusal is no count
-pub no_count : (n : ℕ) (r : Refusal) → W.Refused r ≡ W.Count n → ⊥
+pub no_count : (n : ℕ) (r : Refusal) → Err r ≡ Ok n → ⊥
 no_count n r e = let z : ◌≡◌ {A = ℕ} 0 1 = cc in omega arith
 
-pub writings : Answers (λ (w : Written). (n : ℕ) × (w ≡ W.Count n)) written_refusal W.Refused
+pub writings : Answers (λ (w : Result ℕ Refusal). (n : ℕ) × (w ≡ Ok n)) written_refusal Err
 writings = record { back = λ r. refl; never = λ r e. no_count e.0 r e.1 }
 
-pub written_told : (g : Group) (room : ℕ) → Told ((n : ℕ) × (written g room ≡ W.Count n)) (written_refusal (written g room))
+pub written_told : (g : Group) (room : ℕ) → Told ((n : ℕ) × (written g room ≡ Ok n)) (written_refusal (written g room))
 unfolding written
 written_told g room = told_verdict writings (judged g) (judged_told g) (told_if writings _ 12 0 refl (told_accepted (_, refl)))

@@ -14,8 +14,6 @@ use Rattle.group.specs.Numbers.{functions_most, grids_most}
 use Rattle.group.specs.Limits.{function_fits, grid_fits}
 use Rattle.group.specs.Refusals.{refusal}
 use Rattle.group.specs.declared.Refusal.{Refusal}
-use Rattle.group.specs.declared.Verdict.{Verdict}
-use Rattle.group.specs.declared.Verdict.TheVariants.{Accepted, Refused}
 use Rattle.group.specs.declared.Function.{Function}
 use Rattle.group.specs.declared.Grid.{Grid}
 use Rattle.group.specs.declared.Group.{Group}
@@ -32,6 +30,7 @@ use Rattle.header.specs.Items.{Items, refused, items, on_line, read_items, close
 use Rattle.header.specs.Whole.{Header, stopped, header, ending, after_grids, after_functions_of, after_head_of, read_lines_of, grid_lines, read_lines, group_of_lines, accepted_reading, lines_text, header_text}
 use Rattle.header.specs.Header.{verdict_reading, judged_reading, read_header}
 use Rattle.header.proofs.ItemLaws.{All, beyond, limited_items, limited_none, closed_line, read_closed, closed_read, count_read}
+use Rattle.std.specs.Prelude.{Result, Ok, Err, ⊤}
 
 -- ---- over any two kinds of line
 
@@ -192,9 +191,9 @@ pub same_bytes : (t : List ℕ) (g : Group) → read_header t ≡ accepted_readi
 unfolding read_header header_text
 same_bytes t g e = in_lines (read_lines t) refl e
   where
-    in_verdict : (h : Head) (rs : List Function) (ds : List Grid) (v : Verdict) → Read t h rs ds → verdict_reading (group_of_lines h rs ds) v ≡ accepted_reading g → header_text g ≡ t
-    in_verdict h rs ds (Refused r) s f = absurd (no_acceptance r (ap (λ (a : Reading). a.verdict) f))
-    in_verdict h rs ds Accepted s f =
+    in_verdict : (h : Head) (rs : List Function) (ds : List Grid) (v : Result ⊤ Refusal) → Read t h rs ds → verdict_reading (group_of_lines h rs ds) v ≡ accepted_reading g → header_text g ≡ t
+    in_verdict h rs ds (Err r) s f = absurd (no_acceptance r (ap (λ (a : Reading). a.verdict) f))
+    in_verdict h rs ds (Ok tt) s f =
         ap header_text (sym (ap (λ (a : Reading). a.group) f))
         ∙ (λ i. lines_text function_text grid_text h (take_entries functions_most blank_function rs h.functions s.functions i) (take_entries grids_most blank_grid ds h.grids s.grids i))
         ∙ s.text tt

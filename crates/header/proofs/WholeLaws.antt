@@ -13,8 +13,6 @@ use Rattle.text.proofs.PartLaws.{first_part}
 use Rattle.text.proofs.FieldLaws.{length_ints}
 use Rattle.group.specs.Numbers.{functions_most, grids_most}
 use Rattle.group.specs.declared.Refusal.{Refusal}
-use Rattle.group.specs.declared.Verdict.{Verdict}
-use Rattle.group.specs.declared.Verdict.TheVariants.{Accepted, Refused}
 use Rattle.line.specs.declared.Head.{Head}
 use Rattle.group.specs.Refusals.{refusal}
 use Rattle.line.specs.Line.{Line, bad, good}
@@ -24,21 +22,22 @@ use Rattle.header.specs.Whole.{Header, stopped, header, ending, after_grids, aft
 use Rattle.line.proofs.LineLaws.{keyed_good, fields_good, four_of_lem}
 use Rattle.line.proofs.LimitLaws.{head_sizes}
 use Rattle.header.proofs.ItemLaws.{none_closed, one_closed}
+use Rattle.std.specs.Prelude.{Result, Ok, Err, ⊤}
 
 -- ---- an answer about several lines, by its verdict
 
-module _ {A : Type 0} (size : ℕ) (z : A) (text : List ℕ) (is : Items A) (v : Verdict) (array : List A) (next : ℕ) (a : Are size z text is v array next) where
-  are_refused : (r : Refusal) → v ≡ Refused r → is ≡ refused r
+module _ {A : Type 0} (size : ℕ) (z : A) (text : List ℕ) (is : Items A) (v : Result ⊤ Refusal) (array : List A) (next : ℕ) (a : Are size z text is v array next) where
+  are_refused : (r : Refusal) → v ≡ Err r → is ≡ refused r
   are_refused r e = go is (sym a.judged ∙ e)
     where
-      go : (x : Items A) → verdict_of x ≡ Refused r → x ≡ refused r
+      go : (x : Items A) → verdict_of x ≡ Err r → x ≡ refused r
       go (refused s) h = let y : s ≡ r = cc in ap refused y
       go (items xs ls) h = let y : ◌≡◌ {A = ℕ} 0 1 = cc in absurd (omega arith)
 
-  are_accepted : v ≡ Accepted → is ≡ items (found_of is) (split 10 (drop next text))
+  are_accepted : v ≡ Ok tt → is ≡ items (found_of is) (split 10 (drop next text))
   are_accepted e = go is (sym a.judged ∙ e) ∙ ap (items (found_of is)) (sym (a.behind e))
     where
-      go : (x : Items A) → verdict_of x ≡ Accepted → x ≡ items (found_of x) (behind_of x)
+      go : (x : Items A) → verdict_of x ≡ Ok tt → x ≡ items (found_of x) (behind_of x)
       go (refused s) h = let y : ◌≡◌ {A = ℕ} 0 1 = cc in absurd (omega arith)
       go (items xs ls) h = refl
 
@@ -64,27 +63,27 @@ module _ {R D : Type 0} (function : ℕ → List ℕ → Line Refusal R) (grid :
       abbrev pub grid_items : ℕ → Items D
       grid_items next = read_items (grid h (split 10 (drop next text))) h.grids (2 + h.functions) (split 10 (drop next text))
 
-      module _ (v : Verdict) (rs : List R) (next : ℕ) (a : Are functionSize function_blank text function_items v rs next) where
-        pub functions_stop : (r : Refusal) → v ≡ Refused r → after_functions_of function grid h function_items ≡ stopped r
+      module _ (v : Result ⊤ Refusal) (rs : List R) (next : ℕ) (a : Are functionSize function_blank text function_items v rs next) where
+        pub functions_stop : (r : Refusal) → v ≡ Err r → after_functions_of function grid h function_items ≡ stopped r
         functions_stop r e = ap (after_functions_of function grid h) (are_refused functionSize function_blank text function_items v rs next a r e)
 
-        module _ (e : v ≡ Accepted) (w : Verdict) (ds : List D) (end : ℕ) (b : Are gridSize grid_blank text (grid_items next) w ds end) where
+        module _ (e : v ≡ Ok tt) (w : Result ⊤ Refusal) (ds : List D) (end : ℕ) (b : Are gridSize grid_blank text (grid_items next) w ds end) where
           functioned : after_functions_of function grid h function_items ≡ after_grids (2 + h.functions + h.grids) h (found_of function_items) (grid_items next)
           functioned = ap (after_functions_of function grid h) (are_accepted functionSize function_blank text function_items v rs next a e)
 
-          pub grids_stop : (r : Refusal) → w ≡ Refused r → after_functions_of function grid h function_items ≡ stopped r
+          pub grids_stop : (r : Refusal) → w ≡ Err r → after_functions_of function grid h function_items ≡ stopped r
           grids_stop r f = functioned ∙ ap (after_grids (2 + h.functions + h.grids) h (found_of function_items)) (are_refused gridSize grid_blank text (grid_items next) w ds end b r f)
 
-          gridded : w ≡ Accepted → after_functions_of function grid h function_items ≡ ending (2 + h.functions + h.grids) (split 10 (drop end text)) (header h (found_of function_items) (found_of (grid_items next)))
+          gridded : w ≡ Ok tt → after_functions_of function grid h function_items ≡ ending (2 + h.functions + h.grids) (split 10 (drop end text)) (header h (found_of function_items) (found_of (grid_items next)))
           gridded f = functioned ∙ ap (after_grids (2 + h.functions + h.grids) h (found_of function_items)) (are_accepted gridSize grid_blank text (grid_items next) w ds end b f)
 
-          pub more_stops : w ≡ Accepted → (end ≡ length text → ⊥) → after_functions_of function grid h function_items ≡ stopped (refusal 1 (2 + h.functions + h.grids))
+          pub more_stops : w ≡ Ok tt → (end ≡ length text → ⊥) → after_functions_of function grid h function_items ≡ stopped (refusal 1 (2 + h.functions + h.grids))
           more_stops f q = gridded f ∙ ending_more _ (drop end text) _ left
             where
               left : 0 < length (drop end text)
               left = let r = b.room in let d = length-drop end text in elim (dec_lt end (length text)) [ yes l ↦ omega arith | no l ↦ absurd (q (omega arith)) ]
 
-          pub entries_done : w ≡ Accepted → end ≡ length text → after_functions_of function grid h function_items ≡ header h (found_of function_items) (found_of (grid_items next))
+          pub entries_done : w ≡ Ok tt → end ≡ length text → after_functions_of function grid h function_items ≡ header h (found_of function_items) (found_of (grid_items next))
           entries_done f q =
               let l : length text ≤ end = omega arith in
               let d : drop end text ≡ [] = drop_of_length-le text l in

@@ -1,17 +1,16 @@
 -- Demand 2 of the header text in its own words, of what reading and writing answer; and a group as a record beside its text.
-use Rattle.std.specs.Prelude.{ℕ, ◌≤◌, ◌<◌, ◌≡◌, true, List, length, take, drop}
+use Rattle.std.specs.Prelude.{ℕ, ◌≤◌, ◌<◌, ◌≡◌, true, List, length, take, drop, Result, Ok}
 use Rattle.group.specs.Numbers.{name_most, functions_most, grids_most}
 use Rattle.group.specs.Record.{function_at, grid_at}
 use Rattle.group.specs.Limits.{name_fits, function_blank, grid_blank}
 use Rattle.group.specs.Blank.{blank_group}
 use Rattle.group.specs.declared.Group.{Group}
-use Rattle.group.specs.declared.Verdict.TheVariants.{Accepted}
 use Rattle.judge.specs.Judge.{judged}
 use Rattle.header.specs.declared.Reading.{Reading}
-use Rattle.header.specs.declared.Written.{Written}
 use Rattle.header.specs.Whole.{accepted_reading, header_text}
 use Rattle.group.specs.Refusals.{no_refusal, verdict_refusal}
 use Rattle.header.specs.Header.{read_header, written, written_refusal, written_count, bytes_after}
+use Rattle.group.specs.declared.Refusal.{Refusal}
 
 -- the text stands in front, and every byte behind it is as it was
 pub record InFront (text before after : List ℕ) : Type 0 where
@@ -21,7 +20,7 @@ pub record InFront (text before after : List ℕ) : Type 0 where
 -- r answers the reading of t
 pub record TextRead (t : List ℕ) (r : Reading) : Type 0 where
   -- the group of an accepted text is accepted by the judge
-  pub accepted : (verdict_refusal r.verdict).number ≡ 0 → judged r.group ≡ Accepted
+  pub accepted : (verdict_refusal r.verdict).number ≡ 0 → judged r.group ≡ Ok tt
   -- and written back as the same bytes into any output that is long enough: the text's length is answered, and the rest stays
   pub told : (verdict_refusal r.verdict).number ≡ 0 → (out : List ℕ) → length t ≤ length out
       → written_refusal (written r.group (length out)) ≡ no_refusal
@@ -32,7 +31,7 @@ pub record TextRead (t : List ℕ) (r : Reading) : Type 0 where
   pub blank : ((verdict_refusal r.verdict).number ≡ 0 → ⊥) → r.group ≡ blank_group
 
 -- w answers the writing of g into `out`, which is `after` then
-pub record TextWritten (g : Group) (out : List ℕ) (w : Written) (after : List ℕ) : Type 0 where
+pub record TextWritten (g : Group) (out : List ℕ) (w : Result ℕ Refusal) (after : List ℕ) : Type 0 where
   -- the bytes written, as many as the count, read back as that group; all behind them stays
   pub back : (written_refusal w).number ≡ 0 → read_header (take (written_count w) after) ≡ accepted_reading g
   pub behind : (written_refusal w).number ≡ 0 → drop (written_count w) after ≡ drop (written_count w) out
@@ -58,4 +57,4 @@ pub record Formed (g : Group) : Type 0 where
 -- its limit stands in the text as it is, before the lines of all entries
 pub record JudgedAsText (g : Group) : Type 0 where
   pub verdict : (read_header (header_text g)).verdict ≡ judged g
-  pub group : judged g ≡ Accepted → (read_header (header_text g)).group ≡ g
+  pub group : judged g ≡ Ok tt → (read_header (header_text g)).group ≡ g

@@ -1,20 +1,17 @@
 -- Reading and writing a header: document 01's 'Header text', refusals 1 to 5 and 12.
-use Rattle.std.specs.Prelude.{ℕ, List, ltb, length}
+use Rattle.std.specs.Prelude.{ℕ, List, ltb, length, Result, Ok, Err, ⊤}
 use Rattle.text.specs.Put.{put}
-use Rattle.group.specs.declared.Verdict.{Verdict}
 use Rattle.group.specs.declared.Function.{Function}
 use Rattle.group.specs.declared.Grid.{Grid}
 use Rattle.group.specs.declared.Group.{Group}
 use Rattle.judge.specs.Judge.{judged}
 use Rattle.header.specs.declared.Reading.{Reading}
-use Rattle.header.specs.declared.Written.{Written}
-use Rattle.header.specs.declared.Written.TheVariants as W
 use Rattle.group.specs.declared.Refusal.{Refusal}
 use Rattle.group.specs.Refusals.{no_refusal, refuse_if, unless_refused, lent_after}
 use Rattle.header.specs.Whole.{Header, stopped, header, read_lines, group_of_lines, refused_reading, accepted_reading, header_text}
 
 -- a group that was read: its judge's refusal, else the group
-abbrev pub verdict_reading : Group → Verdict → Reading
+abbrev pub verdict_reading : Group → Result ⊤ Refusal → Reading
 verdict_reading g v = unless_refused refused_reading v (accepted_reading g)
 
 -- the lines that were read: their refusal, else the group that they make, judged
@@ -27,20 +24,20 @@ unfoldable pub read_header : List ℕ → Reading
 read_header text = judged_reading (read_lines text)
 
 -- what writing answers: 2 to 5, then 12, else the count of bytes
-unfoldable pub written : Group → ℕ → Written
+unfoldable pub written : Group → ℕ → Result ℕ Refusal
 written g room =
-    unless_refused W.Refused (judged g)
-    (refuse_if W.Refused (ltb room (length (header_text g))) 12 0
-    (W.Count (length (header_text g))))
+    unless_refused Err (judged g)
+    (refuse_if Err (ltb room (length (header_text g))) 12 0
+    (Ok (length (header_text g))))
 
 -- what writing refuses, and the count that it hands back, 0 beside a refusal
-abbrev pub written_refusal : Written → Refusal
-written_refusal (W.Count n) = no_refusal
-written_refusal (W.Refused r) = r
+abbrev pub written_refusal : Result ℕ Refusal → Refusal
+written_refusal (Ok n) = no_refusal
+written_refusal (Err r) = r
 
-abbrev pub written_count : Written → ℕ
-written_count (W.Count n) = n
-written_count (W.Refused r) = 0
+abbrev pub written_count : Result ℕ Refusal → ℕ
+written_count (Ok n) = n
+written_count (Err r) = 0
 
 -- what the lent bytes are then: the text from the first on, and all behind it as it was; after a refusal all is as it was
 unfoldable pub bytes_after : Group → List ℕ → List ℕ

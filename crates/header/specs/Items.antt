@@ -1,11 +1,9 @@
 -- Several records, one to a line.
-use Rattle.std.specs.Prelude.{ℕ, zero, suc, ◌-◌, ◌≤◌, ◌≡◌, length, drop, replicate, List, [], ◌∷◌, ◌++◌}
+use Rattle.std.specs.Prelude.{ℕ, zero, suc, ◌-◌, ◌≤◌, ◌≡◌, length, drop, replicate, List, [], ◌∷◌, ◌++◌, Result, Ok, Err, ⊤}
 use Rattle.text.specs.Parts.{split}
 use Rattle.group.specs.declared.Refusal.{Refusal}
 use Rattle.group.specs.Refusals.{refusal}
 use Rattle.line.specs.Line.{Line, bad, good}
-use Rattle.group.specs.declared.Verdict.{Verdict}
-use Rattle.group.specs.declared.Verdict.TheVariants.{Accepted, Refused}
 
 -- some lines read as records: the first refusal, or the records and the parts behind them
 pub data Items (A : Type 0) : Type 0 where
@@ -35,9 +33,9 @@ module _ {A : Type 0} where
   abbrev pub entries : ℕ → A → List A → List A
   entries n z xs = xs ++ replicate (n - length xs) z
 
-  abbrev pub verdict_of : Items A → Verdict
-  verdict_of (refused r) = Refused r
-  verdict_of (items xs ls) = Accepted
+  abbrev pub verdict_of : Items A → Result ⊤ Refusal
+  verdict_of (refused r) = Err r
+  verdict_of (items xs ls) = Ok tt
 
   abbrev pub found_of : Items A → List A
   found_of (refused r) = []
@@ -48,8 +46,8 @@ module _ {A : Type 0} where
   behind_of (items xs ls) = ls
 
   -- the lines of a text read as records into an array: the verdict, the entries, and the place behind the last line
-  pub record Are (size : ℕ) (blank : A) (text : List ℕ) (is : Items A) (verdict : Verdict) (array : List A) (next : ℕ) : Type 0 where
+  pub record Are (size : ℕ) (blank : A) (text : List ℕ) (is : Items A) (verdict : Result ⊤ Refusal) (array : List A) (next : ℕ) : Type 0 where
     pub judged : verdict ≡ verdict_of is
     pub filled : array ≡ entries size blank (found_of is)
-    pub behind : verdict ≡ Accepted → split 10 (drop next text) ≡ behind_of is
+    pub behind : verdict ≡ Ok tt → split 10 (drop next text) ≡ behind_of is
     pub room : next ≤ length text

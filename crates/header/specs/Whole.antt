@@ -1,9 +1,8 @@
 -- A whole header: the group line, its functions, its grids, and nothing behind them.
-use Rattle.std.specs.Prelude.{ℕ, ◌+◌, List, [], ◌∷◌, ◌++◌, take}
+use Rattle.std.specs.Prelude.{ℕ, ◌+◌, List, [], ◌∷◌, ◌++◌, take, Ok, Err}
 use Rattle.text.specs.Parts.{split}
 use Rattle.group.specs.Numbers.{functions_most, grids_most}
 use Rattle.group.specs.declared.Refusal.{Refusal}
-use Rattle.group.specs.declared.Verdict.TheVariants.{Accepted, Refused}
 use Rattle.group.specs.declared.Function.{Function}
 use Rattle.group.specs.declared.Grid.{Grid}
 use Rattle.group.specs.declared.Group.{Group}
@@ -74,10 +73,10 @@ group_of_lines h rs ds =
     }
 
 abbrev pub refused_reading : Refusal → Reading
-refused_reading r = record { verdict = Refused r; group = blank_group }
+refused_reading r = record { verdict = Err r; group = blank_group }
 
 abbrev pub accepted_reading : Group → Reading
-accepted_reading g = record { verdict = Accepted; group = g }
+accepted_reading g = record { verdict = Ok tt; group = g }
 
 abbrev pub lines_reading : Header Function Grid → Reading
 lines_reading (stopped r) = refused_reading r

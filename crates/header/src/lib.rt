@@ -1,7 +1,7 @@
 // The header text: reading a group and writing it.
 #![tactic(auto)]
 
-ghost use Rattle.std.specs.Prelude.{◌≡◌, ◌+◌, ◌≤◌, length, take, drop, replicate};
+ghost use Rattle.std.specs.Prelude.{◌≡◌, ◌+◌, ◌≤◌, length, take, drop, replicate, Ok};
 ghost use Rattle.group.specs.Numbers.{functions_most, grids_most};
 ghost use Rattle.abi.specs.Abi.{group_of_words};
 ghost use Rattle.text.specs.Parts.{split};
@@ -16,13 +16,13 @@ ghost use Rattle.header.specs.Header.{read_header, written, bytes_after};
 ghost use Rattle.header.specs.Writing.{Wide};
 
 use abi::GROUP_WORDS;
-use group::{Function, Grid, Group, Refusal, Verdict, blank_function, blank_grid, blank_group};
+use group::{Function, Grid, Group, Refusal, blank_function, blank_grid, blank_group};
 use line::Head;
 
 // Lines read as functions: the verdict, the entries (blank where none is read, and after a refusal), and the place behind the last.
 #[derive(Clone, Copy)]
 pub struct FunctionsRead {
-    pub verdict: Verdict,
+    pub verdict: Result<(), Refusal>,
     pub functions: [Function; group::FUNCTIONS_MOST],
     pub next: usize,
 }
@@ -30,7 +30,7 @@ pub struct FunctionsRead {
 // Lines read as grids.
 #[derive(Clone, Copy)]
 pub struct GridsRead {
-    pub verdict: Verdict,
+    pub verdict: Result<(), Refusal>,
     pub grids: [Grid; group::GRIDS_MOST],
     pub next: usize,
 }
@@ -38,15 +38,8 @@ pub struct GridsRead {
 // What reading a header answers: the verdict beside the group, which is blank after a refusal.
 #[derive(Clone, Copy)]
 pub struct Reading {
-    pub verdict: Verdict,
+    pub verdict: Result<(), Refusal>,
     pub group: Group,
-}
-
-// What writing a header answers: the count of bytes, or the refusal.
-#[derive(Clone, Copy)]
-pub enum Written {
-    Count(usize),
-    Refused(Refusal),
 }
 
 // Eight unused functions.
@@ -71,7 +64,7 @@ fn refused_functions(refusal: Refusal) -> FunctionsRead
 {
     let functions = blank_functions();
     FunctionsRead {
-        verdict: Verdict::Refused(refusal),
+        verdict: Err(refusal),
         functions,
         next: 0,
     }
@@ -83,7 +76,7 @@ fn refused_grids(refusal: Refusal) -> GridsRead
 {
     let grids = blank_grids();
     GridsRead {
-        verdict: Verdict::Refused(refusal),
+        verdict: Err(refusal),
         grids,
         next: 0,
     }
@@ -107,7 +100,7 @@ fn read_functions(text: &[u8], at: usize, count: u64) -> FunctionsRead
         }
         let read = line::function_line(&text[next..e], 2 + k);
         let verdict = read.verdict;
-        if let Verdict::Refused(refusal) = verdict {
+        if let Err(refusal) = verdict {
             return refused_functions(refusal);
         }
         let i = k as usize;
@@ -117,7 +110,7 @@ fn read_functions(text: &[u8], at: usize, count: u64) -> FunctionsRead
         k += 1;
     }
     FunctionsRead {
-        verdict: Verdict::Accepted,
+        verdict: Ok(()),
         functions,
         next,
     }
@@ -141,7 +134,7 @@ fn read_grids(text: &[u8], at: usize, count: u64, first: u64) -> GridsRead
         }
         let read = line::grid_line(&text[next..e], first + k);
         let verdict = read.verdict;
-        if let Verdict::Refused(refusal) = verdict {
+        if let Err(refusal) = verdict {
             return refused_grids(refusal);
         }
         let i = k as usize;
@@ -151,7 +144,7 @@ fn read_grids(text: &[u8], at: usize, count: u64, first: u64) -> GridsRead
         k += 1;
     }
     GridsRead {
-        verdict: Verdict::Accepted,
+        verdict: Ok(()),
         grids,
         next,
     }
@@ -163,7 +156,7 @@ fn refused_reading(refusal: Refusal) -> Reading
 {
     let group = blank_group();
     Reading {
-        verdict: Verdict::Refused(refusal),
+        verdict: Err(refusal),
         group,
     }
 }
@@ -175,12 +168,12 @@ fn read_entries(text: &[u8], at: usize, head: Head) -> Reading
 {
     let functions = read_functions(text, at, head.functions);
     let verdict = functions.verdict;
-    if let Verdict::Refused(refusal) = verdict {
+    if let Err(refusal) = verdict {
         return refused_reading(refusal);
     }
     let grids = read_grids(text, functions.next, head.grids, 2 + head.functions);
     let verdict = grids.verdict;
-    if let Verdict::Refused(refusal) = verdict {
+    if let Err(refusal) = verdict {
         return refused_reading(refusal);
     }
     if grids.next != text.len() {
@@ -204,7 +197,7 @@ fn read_entries(text: &[u8], at: usize, head: Head) -> Reading
         grid,
     };
     Reading {
-        verdict: Verdict::Accepted,
+        verdict: Ok(()),
         group,
     }
 }
@@ -222,7 +215,7 @@ fn read_lines(text: &[u8]) -> Reading
     }
     let first = line::group_line(&text[0..e]);
     let verdict = first.verdict;
-    if let Verdict::Refused(refusal) = verdict {
+    if let Err(refusal) = verdict {
         return refused_reading(refusal);
     }
     let head = first.head;
@@ -235,12 +228,12 @@ pub fn read_header(text: &[u8]) -> Reading
 {
     let lines = read_lines(text);
     let verdict = lines.verdict;
-    let Verdict::Accepted = verdict else {
+    let Ok(()) = verdict else {
         return lines;
     };
     let group = lines.group;
     let judged = judge::judge(group);
-    if let Verdict::Refused(refusal) = judged {
+    if let Err(refusal) = judged {
         return refused_reading(refusal);
     }
     lines
@@ -285,7 +278,7 @@ fn put_grids(grids: [Grid; group::GRIDS_MOST], count: u64, out: &mut [u8], at: u
 
 // Writes the text of an accepted group.
 fn put_group(group: Group, out: &mut [u8]) -> usize
-    requires { (judged group ≡ Verdict.Accepted) × (length (header_text group) ≤ length out.old) }
+    requires { (judged group ≡ Ok tt) × (length (header_text group) ≤ length out.old) }
     ensures { Wrote 0 (header_text group) out.old result out.new }
 {
     let name = group.name;
@@ -306,28 +299,28 @@ fn put_group(group: Group, out: &mut [u8]) -> usize
 }
 
 // Writes a group of this verdict, as `write_header` says.
-fn write_judged(verdict: Verdict, group: Group, out: &mut [u8]) -> Written
+fn write_judged(verdict: Result<(), Refusal>, group: Group, out: &mut [u8]) -> Result<usize, Refusal>
     requires { verdict ≡ judged group }
     ensures answer { result ≡ written group (length out.old) }
     ensures bytes { out.new ≡ bytes_after group out.old }
 {
-    if let Verdict::Refused(refusal) = verdict {
-        return Written::Refused(refusal);
+    if let Err(refusal) = verdict {
+        return Err(refusal);
     }
     let mut bytes = [0u8; 6732];
     let n = put_group(group, &mut bytes);
     if out.len() < n {
-        return Written::Refused(Refusal {
+        return Err(Refusal {
             number: 12,
             place: 0,
         });
     }
     line::put_front(&bytes, n, out, 0);
-    Written::Count(n)
+    Ok(n)
 }
 
 // Writes a group handed over as a list of numbers, as `write_header` says.
-pub fn write_words(words: &[i64; GROUP_WORDS], out: &mut [u8]) -> Written
+pub fn write_words(words: &[i64; GROUP_WORDS], out: &mut [u8]) -> Result<usize, Refusal>
     ensures answer { result ≡ written (group_of_words words.now) (length out.old) }
     ensures bytes { out.new ≡ bytes_after (group_of_words words.now) out.old }
 {
@@ -336,7 +329,7 @@ pub fn write_words(words: &[i64; GROUP_WORDS], out: &mut [u8]) -> Written
 
 // Writes a group as header text and answers the count of bytes, at most 6732; what stands behind them stays. A group that isn't
 // accepted is refused by 2 to 5, then an output that is too short by 12; nothing is written then.
-pub fn write_header(group: Group, out: &mut [u8]) -> Written
+pub fn write_header(group: Group, out: &mut [u8]) -> Result<usize, Refusal>
     ensures answer { result ≡ written group (length out.old) }
     ensures bytes { out.new ≡ bytes_after group out.old }
 {

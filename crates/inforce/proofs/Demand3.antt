@@ -9,7 +9,6 @@ use lib.ListN.{length, get_or, replicate, length-append, length-map, length-repl
 use lib.Seq.{get_or-append-add}
 use Rattle.numbers.proofs.Lists.{map_at}
 use Rattle.group.specs.declared.Group.{Group}
-use Rattle.group.specs.declared.Verdict.TheVariants.{Accepted}
 use Rattle.group.specs.Numbers.{grids_most}
 use Rattle.group.specs.Record.{grid_at}
 use Rattle.extent.specs.Extent.{holds}
@@ -27,6 +26,7 @@ use Rattle.inforce.specs.Demand3.{entry_at, GridPlaced, GridsInForce, Demand3}
 use Rattle.inforce.proofs.AreaLaws.{area_inside}
 use Rattle.inforce.proofs.GroupLaws.{by_distances, first_chosen_lem, placed_in}
 use Rattle.inforce.proofs.StageLaws.{area_accepted, in_force_listed}
+use Rattle.std.specs.Prelude.{Ok}
 
 -- what stands in each place
 pub none_at : (n i : ℕ) → get_or (replicate n blank_entry) i blank_entry ≡ blank_entry
@@ -48,7 +48,7 @@ module _ (es : List Entry) where
   whole h =
       omega (arith, length-append (map shown_entry es) (replicate (grids_most - length es) blank_entry), length-map es shown_entry, length-replicate (grids_most - length es) blank_entry)
 
-module _ (g : Group) (e : judged g ≡ Accepted) (a : Area) (f : area_fits a ≡ true) where
+module _ (g : Group) (e : judged g ≡ Ok tt) (a : Area) (f : area_fits a ≡ true) where
   abbrev es : List Entry
   es = in_force_in g a
 

@@ -10,7 +10,6 @@ use lib.ListN.{length}
 use lib.Signed.{◌≤ℤ◌, ◌<ℤ◌}
 use Rattle.numbers.proofs.Machine.{lowered_size, lowered_raised, raised_lowered}
 use Rattle.group.specs.declared.Group.{Group}
-use Rattle.group.specs.declared.Verdict.TheVariants.{Accepted}
 use Rattle.group.specs.Numbers.{grids_most, rank_most, lon_zero, lat_zero}
 use Rattle.group.specs.Record.{grid_at}
 use Rattle.extent.specs.Sides.{lon_from_least, lat_from_least}
@@ -38,8 +37,9 @@ use Rattle.inforce.specs.Hole.{hole_in}
 use Rattle.inforce.specs.Demand3.{IsFirstChosen}
 use Rattle.inforce.specs.Handed.{Narrow, NarrowSpot}
 use Rattle.inforce.proofs.AreaLaws.{lowered_<, lowered_≤, area_size, area_lon, area_inside, inside_most, inside_area}
+use Rattle.std.specs.Prelude.{Ok}
 
-module _ (g : Group) (e : judged g ≡ Accepted) where
+module _ (g : Group) (e : judged g ≡ Ok tt) where
   -- the grids by rank are an order of all of them
   abbrev rank : ℕ → ℕ
   rank k = (grid_at g k).rank
@@ -131,7 +131,7 @@ module _ (g : Group) (a : Area) (f : area_fits a ≡ true) where
       (omega (arith, m.0), omega (arith, m.1))
 
 -- what is known of the list
-module _ (g : Group) (e : judged g ≡ Accepted) (a : Area) (f : area_fits a ≡ true) where
+module _ (g : Group) (e : judged g ≡ Ok tt) (a : Area) (f : area_fits a ≡ true) where
   pub placed_in : EntriesInForce (choice_at g) (Before (λ k. (grid_at g k).rank)) g.grids (area_from_least a) (in_force_in g a)
   placed_in =
       in_force_lem (choice_at g) (Before (λ k. (grid_at g k).rank)) g.grids (area_from_least a)

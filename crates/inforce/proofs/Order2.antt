@@ -9,8 +9,6 @@ use lib.IntN.{ℤ}
 use Rattle.numbers.proofs.Bools.{true_false}
 use Rattle.group.specs.declared.Group.{Group}
 use Rattle.group.specs.declared.Refusal.{Refusal}
-use Rattle.group.specs.declared.Verdict.{Verdict}
-use Rattle.group.specs.declared.Verdict.TheVariants.{Accepted, Refused}
 use Rattle.group.proofs.RefusalLaws.{no_acceptance}
 use Rattle.ingroup.specs.InGroup.{chosen_in, Held}
 use Rattle.ingroup.proofs.InGroupLaws.{chosen_holds, none_holds}
@@ -27,6 +25,7 @@ use Rattle.inforce.specs.Order2.{HoleInArea, Order2, RefusesAlike, NamedOnce, Ho
 use Rattle.inforce.proofs.GroupLaws.{hole_first, hole_found}
 use Rattle.inforce.proofs.StageLaws.{area_group, area_10, area_accepted, in_force_refused, in_force_listed, hole_refused, hole_answered, found_accepted}
 use Rattle.inforce.proofs.Demand3.{demand_3}
+use Rattle.std.specs.Prelude.{Result, Ok, Err, ⊤}
 
 -- ---- the answer
 
@@ -76,28 +75,28 @@ order_2 g a e f = subst (HoleInArea g a) (sym (hole_answered g a (area_accepted 
 pub refuses_alike : (g : Group) (a : Area) → RefusesAlike g a
 refuses_alike g a = record { judges = judges; alike = alike (area_judged g a) refl; zeros = zeros }
   where
-    told : (v : Verdict) → area_judged g a ≡ v → (hole_of g a).verdict ≡ v
-    told (Refused r) e = ap (λ (x : Uncovered). x.verdict) (hole_refused g a r e)
-    told Accepted e = ap (λ (x : Uncovered). x.verdict) (hole_answered g a e) ∙ found_accepted (hole_in g a)
+    told : (v : Result ⊤ Refusal) → area_judged g a ≡ v → (hole_of g a).verdict ≡ v
+    told (Err r) e = ap (λ (x : Uncovered). x.verdict) (hole_refused g a r e)
+    told (Ok tt) e = ap (λ (x : Uncovered). x.verdict) (hole_answered g a e) ∙ found_accepted (hole_in g a)
 
     judges : JudgesArea g a (hole_of g a).verdict
     judges =
         record {
-          group = λ r e. told (Refused r) (area_group g a r e);
+          group = λ r e. told (Err r) (area_group g a r e);
           area = λ e f. told _ (area_10 g a e f);
-          neither = λ e f. told Accepted (area_accepted g a e f);
+          neither = λ e f. told (Ok tt) (area_accepted g a e f);
         }
 
-    alike : (v : Verdict) → area_judged g a ≡ v → (hole_of g a).verdict ≡ (in_force_of g a).verdict
-    alike (Refused r) e = told (Refused r) e ∙ sym (ap (λ (x : InForce). x.verdict) (in_force_refused g a r e))
-    alike Accepted e = told Accepted e ∙ sym (ap (λ (x : InForce). x.verdict) (in_force_listed g a e))
+    alike : (v : Result ⊤ Refusal) → area_judged g a ≡ v → (hole_of g a).verdict ≡ (in_force_of g a).verdict
+    alike (Err r) e = told (Err r) e ∙ sym (ap (λ (x : InForce). x.verdict) (in_force_refused g a r e))
+    alike (Ok tt) e = told (Ok tt) e ∙ sym (ap (λ (x : InForce). x.verdict) (in_force_listed g a e))
 
-    zeros : (r : Refusal) → (hole_of g a).verdict ≡ Refused r → hole_of g a ≡ no_hole (Refused r)
+    zeros : (r : Refusal) → (hole_of g a).verdict ≡ Err r → hole_of g a ≡ no_hole (Err r)
     zeros r e = go (area_judged g a) refl
       where
-        go : (v : Verdict) → area_judged g a ≡ v → hole_of g a ≡ no_hole (Refused r)
-        go (Refused s) q = hole_refused g a s q ∙ ap no_hole (sym (told (Refused s) q) ∙ e)
-        go Accepted q = absurd (no_acceptance r (sym e ∙ told Accepted q))
+        go : (v : Result ⊤ Refusal) → area_judged g a ≡ v → hole_of g a ≡ no_hole (Err r)
+        go (Err s) q = hole_refused g a s q ∙ ap no_hole (sym (told (Err s) q) ∙ e)
+        go (Ok tt) q = absurd (no_acceptance r (sym e ∙ told (Ok tt) q))
 
 -- ---- together with demand 3
 

@@ -1,11 +1,9 @@
 -- Areas: what a call over an area refuses, an area's coordinates, and coordinates as distances from the zero of longitudes and of latitudes.
-use Rattle.std.specs.Prelude.{ℕ, ◌≡◌, Bool, true, false, not, ◌&&◌, ℤ, pos, ◌-ℤ◌}
+use Rattle.std.specs.Prelude.{ℕ, ◌≡◌, Bool, true, false, not, ◌&&◌, ℤ, pos, ◌-ℤ◌, Result, Ok, Err, ⊤}
 use Rattle.std.specs.Int.Signed.{le_z}
 use Rattle.numbers.specs.Order.{between}
 use Rattle.group.specs.declared.Group.{Group}
 use Rattle.group.specs.declared.Refusal.{Refusal}
-use Rattle.group.specs.declared.Verdict.{Verdict}
-use Rattle.group.specs.declared.Verdict.TheVariants.{Accepted, Refused}
 use Rattle.group.specs.Numbers.{lon_admitted, lat_admitted, lon_zero, lat_zero}
 use Rattle.group.specs.Refusals.{refusal, refuse_if, unless_refused}
 use Rattle.extent.specs.declared.LonSpan.{LonSpan}
@@ -26,14 +24,14 @@ unfoldable pub area_fits : Area → Bool
 area_fits a = lon_fits a.lon && lat_fits a.lat
 
 -- what a call over an area refuses: 2 to 5, then 10
-unfoldable pub area_judged : Group → Area → Verdict
-area_judged g a = unless_refused Refused (judged g) (refuse_if Refused (not (area_fits a)) 10 0 Accepted)
+unfoldable pub area_judged : Group → Area → Result ⊤ Refusal
+area_judged g a = unless_refused Err (judged g) (refuse_if Err (not (area_fits a)) 10 0 (Ok tt))
 
 -- a verdict that refuses so: the group by its own refusal, else an area that is not admitted by 10, and nothing else
-pub record JudgesArea (g : Group) (a : Area) (v : Verdict) : Type 0 where
-  pub group : (r : Refusal) → judged g ≡ Refused r → v ≡ Refused r
-  pub area : judged g ≡ Accepted → area_fits a ≡ false → v ≡ Refused (refusal 10 0)
-  pub neither : judged g ≡ Accepted → area_fits a ≡ true → v ≡ Accepted
+pub record JudgesArea (g : Group) (a : Area) (v : Result ⊤ Refusal) : Type 0 where
+  pub group : (r : Refusal) → judged g ≡ Err r → v ≡ Err r
+  pub area : judged g ≡ Ok tt → area_fits a ≡ false → v ≡ Err (refusal 10 0)
+  pub neither : judged g ≡ Ok tt → area_fits a ≡ true → v ≡ Ok tt
 
 -- longitude x and latitude y are a coordinate of the area, sides included
 pub record InArea (a : Area) (x y : ℤ) : Type 0 where

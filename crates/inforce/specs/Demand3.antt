@@ -1,7 +1,6 @@
 -- Demand 3 in its own words, of what `in_force_of` answers for an accepted group and an admitted area.
-use Rattle.std.specs.Prelude.{ℕ, suc, ◌-◌, ◌≤◌, ◌<◌, ◌≡◌, true, ◌⊎◌, ℤ, length, get_or, ◌≤ℤ◌, ◌<ℤ◌}
+use Rattle.std.specs.Prelude.{ℕ, suc, ◌-◌, ◌≤◌, ◌<◌, ◌≡◌, true, ◌⊎◌, ℤ, length, get_or, ◌≤ℤ◌, ◌<ℤ◌, Ok}
 use Rattle.group.specs.declared.Group.{Group}
-use Rattle.group.specs.declared.Verdict.TheVariants.{Accepted}
 use Rattle.group.specs.Numbers.{grids_most}
 use Rattle.group.specs.Record.{grid_at}
 use Rattle.extent.specs.Extent.{holds}
@@ -38,7 +37,7 @@ pub record GridPlaced (g : Group) (a : Area) (e : GridInForce) : Type 0 where
 
 pub record GridsInForce (g : Group) (a : Area) (r : InForce) : Type 0 where
   -- the list is no refusal, also where it is empty
-  pub accepted : r.verdict ≡ Accepted
+  pub accepted : r.verdict ≡ Ok tt
   -- a grid chosen at one or more coordinates of the area is named
   pub named : (x y : ℤ) (k : ℕ) → InArea a x y → chosen_in g x y ≡ suc k → (i : ℕ) × (i < r.count) × ((entry_at r i).grid ≡ suc k)
   -- and no other: a grid named is chosen at the coordinate beside it, which is the southmost, then westmost such
@@ -63,4 +62,4 @@ pub record GridsInForce (g : Group) (a : Area) (r : InForce) : Type 0 where
 
 -- for every accepted group and admitted area
 abbrev pub Demand3 : Group → Area → Type 0
-Demand3 g a = judged g ≡ Accepted → area_fits a ≡ true → GridsInForce g a (in_force_of g a)
+Demand3 g a = judged g ≡ Ok tt → area_fits a ≡ true → GridsInForce g a (in_force_of g a)

@@ -1,8 +1,6 @@
 -- What grids in force and the hole are made from: an accepted group's sides and ranks as flat lists.
-use Rattle.std.specs.Prelude.{ℕ, ◌≤◌, ◌<◌, ◌≡◌, true, List}
+use Rattle.std.specs.Prelude.{ℕ, ◌≤◌, ◌<◌, ◌≡◌, true, List, Result, Ok, ⊤}
 use Rattle.group.specs.declared.Group.{Group}
-use Rattle.group.specs.declared.Verdict.{Verdict}
-use Rattle.group.specs.declared.Verdict.TheVariants.{Accepted}
 use Rattle.group.specs.Numbers.{lon_turn, grids_most, rank_most}
 use Rattle.numbers.specs.Lists.{at}
 use Rattle.choice.specs.Rect.{turn_holds}
@@ -18,14 +16,15 @@ use Rattle.coverage.specs.InForce.{first_taken, in_force_by}
 use Rattle.coverage.specs.Listing.{listing_of}
 use Rattle.inforce.specs.declared.Area.{Area}
 use Rattle.inforce.specs.Area.{area_judged}
+use Rattle.group.specs.declared.Refusal.{Refusal}
 
 -- what judging leaves in the lent lists: the sides and ranks of an accepted group's grids
-abbrev pub SidesLeft : Verdict → Group → (sides ranks : List ℕ) → Type 0
-SidesLeft v g sides ranks = v ≡ Accepted → Sided g g.grids sides ranks
+abbrev pub SidesLeft : Result ⊤ Refusal → Group → (sides ranks : List ℕ) → Type 0
+SidesLeft v g sides ranks = v ≡ Ok tt → Sided g g.grids sides ranks
 
 -- what a list or a hole is worked out from: an accepted group and an admitted area, and the sides and ranks of its grids
 pub record Ready (g : Group) (a : Area) (sides ranks : List ℕ) : Type 0 where
-  pub accepted : area_judged g a ≡ Accepted
+  pub accepted : area_judged g a ≡ Ok tt
   pub sided : Sided g g.grids sides ranks
   pub room : Room sides ranks grids_most
 

@@ -1,6 +1,5 @@
 -- A list and a point of coverage's, handed back: what inner functions answer, and what they rely on.
-use Rattle.std.specs.Prelude.{ℕ, ◌-◌, ◌^◌, ◌≤◌, ◌<◌, ◌≡◌, List, ◌++◌, map, length, get_or, take, replicate}
-use Rattle.group.specs.declared.Verdict.TheVariants.{Accepted}
+use Rattle.std.specs.Prelude.{ℕ, ◌-◌, ◌^◌, ◌≤◌, ◌<◌, ◌≡◌, List, ◌++◌, map, length, get_or, take, replicate, Ok}
 use Rattle.group.specs.Numbers.{grids_most}
 use Rattle.region.specs.declared.Spot.{Spot}
 use Rattle.region.specs.declared.Spot.TheVariants.{At}
@@ -16,7 +15,7 @@ abbrev pub shown_first : List Entry → ℕ → List GridInForce
 shown_first es n = map shown_entry (take n es) ++ replicate (grids_most - n) blank_entry
 
 unfoldable pub shown_list : Listing → InForce
-shown_list l = record { verdict = Accepted; count = l.count; entries = shown_first l.entries l.count }
+shown_list l = record { verdict = Ok tt; count = l.count; entries = shown_first l.entries l.count }
 
 -- a list whose coordinates fit 63 bits
 pub record Narrow (l : Listing) : Type 0 where

@@ -1,9 +1,7 @@
 -- Document 02's order 2: refusals 2 to 5, then 10, as for grids in force, else the first coordinate of the area at which no grid is chosen.
-use Rattle.std.specs.Prelude.{true, false, pos}
+use Rattle.std.specs.Prelude.{true, false, pos, Result, Ok, Err, ⊤}
 use Rattle.group.specs.declared.Group.{Group}
 use Rattle.group.specs.declared.Refusal.{Refusal}
-use Rattle.group.specs.declared.Verdict.{Verdict}
-use Rattle.group.specs.declared.Verdict.TheVariants.{Accepted, Refused}
 use Rattle.group.specs.Refusals.{unless_refused}
 use Rattle.region.specs.declared.Spot.{Spot}
 use Rattle.region.specs.declared.Spot.TheVariants.{At, Nothing}
@@ -19,17 +17,17 @@ abbrev pub hole_in : Group → Area → Spot
 hole_in g a = first_taken (choice_at g) (area_from_least a) 0
 
 -- none, with zeros
-abbrev pub no_hole : Verdict → Uncovered
+abbrev pub no_hole : Result ⊤ Refusal → Uncovered
 no_hole v = record { verdict = v; found = false; lon = record { 0 = pos 0 }; lat = record { 0 = pos 0 } }
 
 -- the coordinate that was found, or none
 abbrev pub accepted_hole : Spot → Uncovered
-accepted_hole (At x y) = record { verdict = Accepted; found = true; lon = record { 0 = lon_at x }; lat = record { 0 = lat_at y } }
-accepted_hole Nothing = no_hole Accepted
+accepted_hole (At x y) = record { verdict = Ok tt; found = true; lon = record { 0 = lon_at x }; lat = record { 0 = lat_at y } }
+accepted_hole Nothing = no_hole (Ok tt)
 
 -- beside a refusal there is none
 abbrev pub refused_hole : Refusal → Uncovered
-refused_hole r = no_hole (Refused r)
+refused_hole r = no_hole (Err r)
 
 -- 2 to 5, then 10, else the hole
 unfoldable pub hole_of : Group → Area → Uncovered

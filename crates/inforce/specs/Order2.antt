@@ -1,8 +1,7 @@
 -- Order 2 of document 02 in its own words, of what `hole_of` answers.
-use Rattle.std.specs.Prelude.{ℕ, suc, ◌<◌, ◌≡◌, true, false, ◌⊎◌, ℤ}
+use Rattle.std.specs.Prelude.{ℕ, suc, ◌<◌, ◌≡◌, true, false, ◌⊎◌, ℤ, Ok, Err}
 use Rattle.group.specs.declared.Group.{Group}
 use Rattle.group.specs.declared.Refusal.{Refusal}
-use Rattle.group.specs.declared.Verdict.TheVariants.{Accepted, Refused}
 use Rattle.judge.specs.Judge.{judged}
 use Rattle.ingroup.specs.InGroup.{chosen_in, Held}
 use Rattle.inforce.specs.declared.Area.{Area}
@@ -17,7 +16,7 @@ use Rattle.inforce.specs.Demand3.{entry_at, NotEarlier, IsFirstChosen}
 
 pub record HoleInArea (g : Group) (a : Area) (h : Uncovered) : Type 0 where
   -- the answer is no refusal, also where it is none
-  pub accepted : h.verdict ≡ Accepted
+  pub accepted : h.verdict ≡ Ok tt
   -- a hole is named where no grid is chosen at one or more coordinates of the area
   pub named : (x y : ℤ) → InArea a x y → chosen_in g x y ≡ 0 → h.found ≡ true
   -- and only there: the one named is such a coordinate, and every other such lies farther north, or equally far north and farther east
@@ -29,11 +28,11 @@ pub record HoleInArea (g : Group) (a : Area) (h : Uncovered) : Type 0 where
   -- and only there
   pub held : h.found ≡ false → (x y : ℤ) → InArea a x y → Held g x y
   -- none, with zeros
-  pub zeros : h.found ≡ false → h ≡ no_hole Accepted
+  pub zeros : h.found ≡ false → h ≡ no_hole (Ok tt)
 
 -- for every accepted group and admitted area
 abbrev pub Order2 : Group → Area → Type 0
-Order2 g a = judged g ≡ Accepted → area_fits a ≡ true → HoleInArea g a (hole_of g a)
+Order2 g a = judged g ≡ Ok tt → area_fits a ≡ true → HoleInArea g a (hole_of g a)
 
 -- ---- the refusals
 
@@ -41,7 +40,7 @@ Order2 g a = judged g ≡ Accepted → area_fits a ≡ true → HoleInArea g a (
 pub record RefusesAlike (g : Group) (a : Area) : Type 0 where
   pub judges : JudgesArea g a (hole_of g a).verdict
   pub alike : (hole_of g a).verdict ≡ (in_force_of g a).verdict
-  pub zeros : (r : Refusal) → (hole_of g a).verdict ≡ Refused r → hole_of g a ≡ no_hole (Refused r)
+  pub zeros : (r : Refusal) → (hole_of g a).verdict ≡ Err r → hole_of g a ≡ no_hole (Err r)
 
 -- ---- together with demand 3
 
@@ -63,4 +62,4 @@ abbrev pub Accounted : Group → Area → InForce → Uncovered → Type 0
 Accounted g a l h = (x y : ℤ) → InArea a x y → ((k : ℕ) × (chosen_in g x y ≡ suc k) × NamedOnce l (suc k)) ⊎ HoleNamed g h x y
 
 abbrev pub Together : Group → Area → Type 0
-Together g a = judged g ≡ Accepted → area_fits a ≡ true → Accounted g a (in_force_of g a) (hole_of g a)
+Together g a = judged g ≡ Ok tt → area_fits a ≡ true → Accounted g a (in_force_of g a) (hole_of g a)

@@ -1,7 +1,6 @@
 -- Order 5 of document 02 in its own words, of areas: which of them are admitted, and that the answers give an area's own longitudes.
-use Rattle.std.specs.Prelude.{ℕ, ◌≤◌, ◌<◌, ◌≡◌, true, ◌↔◌, nat_abs, ◌≤ℤ◌}
+use Rattle.std.specs.Prelude.{ℕ, ◌≤◌, ◌<◌, ◌≡◌, true, ◌↔◌, nat_abs, ◌≤ℤ◌, Ok}
 use Rattle.group.specs.declared.Group.{Group}
-use Rattle.group.specs.declared.Verdict.TheVariants.{Accepted}
 use Rattle.group.specs.Numbers.{lon_most, lat_most}
 use Rattle.judge.specs.Judge.{judged}
 use Rattle.inforce.specs.declared.Area.{Area}
@@ -30,4 +29,4 @@ pub record OwnLongitudes (g : Group) (a : Area) : Type 0 where
 
 -- for every accepted group and admitted area
 abbrev pub Own : Group → Area → Type 0
-Own g a = judged g ≡ Accepted → area_fits a ≡ true → OwnLongitudes g a
+Own g a = judged g ≡ Ok tt → area_fits a ≡ true → OwnLongitudes g a

@@ -16,7 +16,6 @@ use coverage::{Entry, Listing};
 use extent::{LatSpan, LonSpan, lat_from_least, lon_from_least};
 use group::{
     GRIDS_MOST, Group, LAT_LEAST, LAT_MOST, LON_LEAST, LON_MOST, Latitude, Longitude, Refusal,
-    Verdict,
 };
 use region::Spot;
 
@@ -49,7 +48,7 @@ pub struct GridInForce {
 // The grids in force: how many, and 64 entries, best rank first; unused ones are zero, all of them beside a refusal.
 #[derive(Clone, Copy)]
 pub struct InForce {
-    pub verdict: Verdict,
+    pub verdict: Result<(), Refusal>,
     pub count: u64,
     pub entries: [GridInForce; GRIDS_MOST],
 }
@@ -58,7 +57,7 @@ pub struct InForce {
 // beside a refusal.
 #[derive(Clone, Copy)]
 pub struct Uncovered {
-    pub verdict: Verdict,
+    pub verdict: Result<(), Refusal>,
     pub found: bool,
     pub lon: Longitude,
     pub lat: Latitude,
@@ -110,23 +109,23 @@ fn judge_area(
     area: Area,
     sides: &mut [u64],
     ranks: &mut [u64],
-) -> Verdict
+) -> Result<(), Refusal>
     requires { Room sides.old ranks.old grids_most }
     ensures { (result ≡ area_judged (group_of_words words.now) area)
         × SidesLeft result (group_of_words words.now) sides.new ranks.new }
 {
     let mut frames = [0u64; flat::FRAMES];
     let verdict = judge::judge_into(words, sides, ranks, &mut frames);
-    if let Verdict::Refused(r) = verdict {
-        return Verdict::Refused(r);
+    if let Err(r) = verdict {
+        return Err(r);
     }
     if !area_fits(area) {
-        return Verdict::Refused(Refusal {
+        return Err(Refusal {
             number: 10,
             place: 0,
         });
     }
-    Verdict::Accepted
+    Ok(())
 }
 
 // The longitude at a distance from the least.
@@ -204,7 +203,7 @@ fn shown_list(l: Listing) -> InForce
         i += 1;
     }
     InForce {
-        verdict: Verdict::Accepted,
+        verdict: Ok(()),
         count: n as u64,
         entries: entries,
     }
@@ -216,7 +215,7 @@ fn refused_by(r: Refusal) -> InForce
 {
     let none = blank_entry();
     InForce {
-        verdict: Verdict::Refused(r),
+        verdict: Err(r),
         count: 0,
         entries: [none; GRIDS_MOST],
     }
@@ -240,8 +239,8 @@ pub fn force_words(words: &[i64; GROUP_WORDS], area: Area) -> InForce
     let mut ranks = [0u64; GRIDS_MOST];
     let verdict = judge_area(words, area, &mut sides, &mut ranks);
     match verdict {
-        Verdict::Refused(r) => refused_by(r),
-        Verdict::Accepted => list_in(words, &sides, &ranks, area),
+        Err(r) => refused_by(r),
+        Ok(()) => list_in(words, &sides, &ranks, area),
     }
 }
 
@@ -271,7 +270,7 @@ fn hole_flat(sides: &[u64], ranks: &[u64], n: usize, a: region::Bounds) -> Spot
 }
 
 // None, with zeros.
-fn no_hole(verdict: Verdict) -> Uncovered
+fn no_hole(verdict: Result<(), Refusal>) -> Uncovered
     ensures { result ≡ no_hole verdict }
 {
     Uncovered {
@@ -289,12 +288,12 @@ fn shown_hole(s: Spot) -> Uncovered
 {
     match s {
         Spot::At(x, y) => Uncovered {
-            verdict: Verdict::Accepted,
+            verdict: Ok(()),
             found: true,
             lon: lon_at(x),
             lat: lat_at(y),
         },
-        Spot::Nothing => no_hole(Verdict::Accepted),
+        Spot::Nothing => no_hole(Ok(())),
     }
 }
 
@@ -316,8 +315,8 @@ pub fn hole_words(words: &[i64; GROUP_WORDS], area: Area) -> Uncovered
     let mut ranks = [0u64; GRIDS_MOST];
     let verdict = judge_area(words, area, &mut sides, &mut ranks);
     match verdict {
-        Verdict::Refused(r) => no_hole(Verdict::Refused(r)),
-        Verdict::Accepted => hole_in(words, &sides, &ranks, area),
+        Err(r) => no_hole(Err(r)),
+        Ok(()) => hole_in(words, &sides, &ranks, area),
     }
 }
 

@@ -13,7 +13,6 @@ use Rattle.numbers.specs.Circle.{turns, turned_by}
 use Rattle.numbers.proofs.Bools.{and_right, both, true_false}
 use Rattle.numbers.proofs.FirstLaws.{some_same}
 use Rattle.group.specs.declared.Group.{Group}
-use Rattle.group.specs.declared.Verdict.TheVariants.{Accepted}
 use Rattle.group.specs.Numbers.{rank_most, lon_edge_most, lon_most, lon_turn, lat_zero}
 use Rattle.group.specs.Record.{grid_at}
 use Rattle.extent.specs.declared.Sides.{Sides}
@@ -31,6 +30,7 @@ use Rattle.choice.specs.Rect as rect
 use Rattle.choice.specs.Choice.{chosen}
 use Rattle.choice.proofs.ChoiceLaws.{Apart, chosen_best, chosen_none, chosen≤, chosen_agree}
 use Rattle.ingroup.specs.InGroup.{chosen_in}
+use Rattle.std.specs.Prelude.{Ok}
 
 module _ (g : Group) (x y : ℤ) where
   -- the chosen grid is one of the group's and holds the point
@@ -47,7 +47,7 @@ module _ (g : Group) (x y : ℤ) where
   unfolding chosen_in
   chosen_most = chosen≤ (λ i. holds (grid_at g i) x y) (λ i. (grid_at g i).rank) g.grids
 
-module _ (g : Group) (e : judged g ≡ Accepted) where
+module _ (g : Group) (e : judged g ≡ Ok tt) where
   pub rank_limits : (k : ℕ) → k < g.grids → (1 ≤ (grid_at g k).rank) × ((grid_at g k).rank ≤ rank_most)
   rank_limits k l = rank_between (grid_at g k) ((accepted g e).grid k l)
 

@@ -10,7 +10,6 @@ use lib.IntN.{ℤ, pos}
 use Rattle.numbers.proofs.Bools.{and_left, and_right, both, same_test}
 use Rattle.group.specs.declared.Grid.{Grid}
 use Rattle.group.specs.declared.Group.{Group}
-use Rattle.group.specs.declared.Verdict.TheVariants.{Accepted}
 use Rattle.group.specs.Numbers.{lon_edge_fits, lat_edge_fits, lon_admitted, grids_most}
 use Rattle.group.specs.Limits.{name_fits, spacing_fits, origin_fits, counts_fit, grid_fits, grid_blank, head_fits}
 use Rattle.group.specs.Record.{grid_at}
@@ -26,6 +25,7 @@ use Rattle.choice.specs.Choice.{chosen}
 use Rattle.choice.proofs.ChoiceLaws.{chosen_agree}
 use Rattle.ingroup.specs.InGroup.{chosen_in}
 use Rattle.ingroup.specs.Order5.{WrittenTurned, TurnInvisible, Turning}
+use Rattle.std.specs.Prelude.{Ok}
 
 -- ---- a grid that is moved keeps its limits
 
@@ -44,7 +44,7 @@ module _ (t : ℕ) (g : Grid) where
 
 -- ---- the group
 
-module _ (g h : Group) (k t : ℕ) (e : judged g ≡ Accepted) (w : WrittenTurned g h k t) where
+module _ (g h : Group) (k t : ℕ) (e : judged g ≡ Ok tt) (w : WrittenTurned g h k t) where
   -- a property of grid j, by its own number
   pub by_grid : (P : Grid → Type 0) (j : ℕ) → P (grid_at g j) → (j ≡ k → P (moved_grid t (grid_at g k))) → P (grid_at h j)
   by_grid P j same moved =

@@ -9,7 +9,6 @@ use native.Mathlib.Decide.{dec_lt}
 use lib.IntN.{ℤ, nat_abs}
 use lib.ListN.{length}
 use Rattle.group.specs.declared.Group.{Group}
-use Rattle.group.specs.declared.Verdict.TheVariants.{Accepted}
 use Rattle.group.specs.Numbers.{rank_most, lon_most, lon_turn, lon_zero, lat_zero}
 use Rattle.group.specs.Record.{grid_at}
 use Rattle.extent.specs.Extent.{lon_span, holds, lon_used}
@@ -33,6 +32,7 @@ use Rattle.flat.proofs.OrderLaws.{pairs_by_rank, by_rank_mem, mem_by_rank}
 use Rattle.flat.proofs.TurnedLaws.{ranked_grids, row_listed, rows_sorted, row_held, row_found, row_first}
 use Rattle.ingroup.specs.InGroup.{chosen_in}
 use Rattle.ingroup.proofs.InGroupLaws.{flat_ranked, flat_turnable, flat_apart, flat_chosen_lem, flat_holds, flat_used}
+use Rattle.std.specs.Prelude.{Ok}
 
 -- a grid counted from 0, by its number
 before_suc : (n : ℕ) → suc n - 1 ≡ n
@@ -107,7 +107,7 @@ module _ (rank : ℕ → ℕ) (n : ℕ) (limits : (k : ℕ) → k < n → (1 ≤
 
 -- ---- the rows of an accepted group
 
-module _ (g : Group) (e : judged g ≡ Accepted) (sides ranks : List ℕ) (s : Sided g g.grids sides ranks) (room : g.grids * 4 ≤ length sides) where
+module _ (g : Group) (e : judged g ≡ Ok tt) (sides ranks : List ℕ) (s : Sided g g.grids sides ranks) (room : g.grids * 4 ≤ length sides) where
   module _ (rows owners shifts : List ℕ) (count : ℕ) (t : RankedRows sides ranks rows owners shifts g.grids count) where
     abbrev grids_order : List ℕ
     grids_order = by_rank (at ranks) g.grids rank_most

@@ -1,8 +1,7 @@
 -- Order 5 of document 02, of a whole group: turning is invisible. A grid may be written a whole turn farther east or west, where the limits
 -- allow it: the group is accepted too, and the same grids are chosen at every admitted point.
-use Rattle.std.specs.Prelude.{ℕ, ◌<◌, ◌≡◌, true, ℤ}
+use Rattle.std.specs.Prelude.{ℕ, ◌<◌, ◌≡◌, true, ℤ, Ok}
 use Rattle.group.specs.declared.Group.{Group}
-use Rattle.group.specs.declared.Verdict.TheVariants.{Accepted}
 use Rattle.group.specs.Numbers.{lon_admitted, lat_admitted, lon_edge_fits}
 use Rattle.group.specs.Record.{grid_at}
 use Rattle.extent.specs.Extent.{lon_axis, far_edge, moved_grid}
@@ -25,9 +24,9 @@ pub record WrittenTurned (g h : Group) (k t : ℕ) : Type 0 where
   pub far : lon_edge_fits (far_edge (lon_axis (grid_at h k))) ≡ true
 
 pub record TurnInvisible (g h : Group) : Type 0 where
-  pub accepted : judged h ≡ Accepted
+  pub accepted : judged h ≡ Ok tt
   pub choice : (x y : ℤ) → lon_admitted x ≡ true → lat_admitted y ≡ true → chosen_in h x y ≡ chosen_in g x y
 
 -- for every accepted group
 abbrev pub Turning : Group → Type 0
-Turning g = judged g ≡ Accepted → (h : Group) (k t : ℕ) → WrittenTurned g h k t → TurnInvisible g h
+Turning g = judged g ≡ Ok tt → (h : Group) (k t : ℕ) → WrittenTurned g h k t → TurnInvisible g h

@@ -5,7 +5,6 @@ use mathlib.Core.List.{List}
 use native.Mathlib.Omega.{arith}
 use Rattle.numbers.specs.First.{first, some}
 use Rattle.group.specs.declared.Group.{Group}
-use Rattle.group.specs.declared.Verdict.TheVariants.{Accepted, Refused}
 use Rattle.group.specs.Refusals.{refusal}
 use Rattle.group.proofs.RefusalLaws.{at_here, at_past}
 use Rattle.flat.specs.Lists.{Flat}
@@ -15,15 +14,16 @@ use Rattle.judge.specs.Judge.{bad_grid, outside, named_earlier, ranked_earlier, 
 use Rattle.judge.specs.Keys.{rank_rule, clash}
 use Rattle.judge.specs.Rules.{judged_from, GridLimits, Scanned}
 use Rattle.judge.proofs.JudgeLaws.{comparable, sharing, ranks_sharing}
+use Rattle.std.specs.Prelude.{Ok, Err}
 
 module _ (g : Group) (from : ℕ) {n np bad : ℕ} (en : n ≡ g.grids) (ep : np ≡ g.parameters)
     (eb : bad ≡ first (bad_grid g) n) where
   bad_is : bad ≡ first (bad_grid g) g.grids
   bad_is = eb ∙ ap (first (bad_grid g)) en
 
-  pub line_here : bad < n → Refused (refusal 2 (bad + from)) ≡ judged_from from g
+  pub line_here : bad < n → Err (refusal 2 (bad + from)) ≡ judged_from from g
   unfolding judged_from
-  line_here l = at_here Refused (bad_grid g) g.grids 2 from _ bad bad_is (omega arith)
+  line_here l = at_here Err (bad_grid g) g.grids 2 from _ bad bad_is (omega arith)
 
   -- no line is outside its limits
   module _ {edge : ℕ} {fours keys sides ranks frames : List ℕ} (past : n ≤ bad) (sc : n ≤ bad → Scanned g np n edge fours keys sides ranks frames) where
@@ -33,24 +33,24 @@ module _ (g : Group) (from : ℕ) {n np bad : ℕ} (en : n ≡ g.grids) (ep : np
     limits : GridLimits g
     limits = record { fits = scanned.fits }
 
-    lines_past : judged_from from g ≡ judged_grids g (judged_ranks g Accepted)
+    lines_past : judged_from from g ≡ judged_grids g (judged_ranks g (Ok tt))
     unfolding judged_from
-    lines_past = at_past Refused (bad_grid g) g.grids 2 from _ bad bad_is (omega arith)
+    lines_past = at_past Err (bad_grid g) g.grids 2 from _ bad bad_is (omega arith)
 
     module _ {name : ℕ} (e : name ≡ first (λ k. some (clash S.Name fours keys k) k) n) where
       name_is : name ≡ first (named_earlier g) g.grids
       name_is = sharing g limits fours keys S.Name name tt scanned.names (rw en at e)
 
-      pub name_here : name < n → Refused (refusal 3 (name + 1)) ≡ judged_from from g
+      pub name_here : name < n → Err (refusal 3 (name + 1)) ≡ judged_from from g
       unfolding judged_grids
-      name_here l = at_here Refused (named_earlier g) g.grids 3 1 _ name name_is (omega arith) ∙ sym lines_past
+      name_here l = at_here Err (named_earlier g) g.grids 3 1 _ name name_is (omega arith) ∙ sym lines_past
 
       module _ (named : n ≤ name) where
-        pub edge_here : edge < n → Refused (refusal 4 (edge + 1)) ≡ judged_from from g
+        pub edge_here : edge < n → Err (refusal 4 (edge + 1)) ≡ judged_from from g
         unfolding judged_grids
         edge_here l =
-            at_here Refused (outside g) g.grids 4 1 _ edge scanned.first_outside (omega arith)
-            ∙ sym (lines_past ∙ at_past Refused (named_earlier g) g.grids 3 1 _ name name_is (omega arith))
+            at_here Err (outside g) g.grids 4 1 _ edge scanned.first_outside (omega arith)
+            ∙ sym (lines_past ∙ at_past Err (named_earlier g) g.grids 3 1 _ name name_is (omega arith))
 
         module _ (edged : n ≤ edge) {rule : Shared} (r : rule ≡ rank_rule sides n) {rank : ℕ}
             (f : rank ≡ first (λ k. some (clash rule sides ranks k) k) n) where
@@ -59,19 +59,19 @@ module _ (g : Group) (from : ℕ) {n np bad : ℕ} (en : n ≡ g.grids) (ep : np
               ranks_sharing g limits sides ranks (comparable g limits edge scanned.first_outside (omega arith)) scanned.flat.sided
               rule rank (rw en at r) (rw en at f)
 
-          edges_past : judged_from from g ≡ judged_ranks g Accepted
+          edges_past : judged_from from g ≡ judged_ranks g (Ok tt)
           unfolding judged_grids
           edges_past =
-              lines_past ∙ at_past Refused (named_earlier g) g.grids 3 1 _ name name_is (omega arith)
-              ∙ at_past Refused (outside g) g.grids 4 1 _ edge scanned.first_outside (omega arith)
+              lines_past ∙ at_past Err (named_earlier g) g.grids 3 1 _ name name_is (omega arith)
+              ∙ at_past Err (outside g) g.grids 4 1 _ edge scanned.first_outside (omega arith)
 
-          pub rank_here : rank < n → Refused (refusal 5 (rank + 1)) ≡ judged_from from g
+          pub rank_here : rank < n → Err (refusal 5 (rank + 1)) ≡ judged_from from g
           unfolding judged_ranks
-          rank_here l = at_here Refused (ranked_earlier g) g.grids 5 1 _ rank rank_is (omega arith) ∙ sym edges_past
+          rank_here l = at_here Err (ranked_earlier g) g.grids 5 1 _ rank rank_is (omega arith) ∙ sym edges_past
 
-          pub all_past : n ≤ rank → Accepted ≡ judged_from from g
+          pub all_past : n ≤ rank → Ok tt ≡ judged_from from g
           unfolding judged_ranks
-          all_past l = sym (edges_past ∙ at_past Refused (ranked_earlier g) g.grids 5 1 _ rank rank_is (omega arith))
+          all_past l = sym (edges_past ∙ at_past Err (ranked_earlier g) g.grids 5 1 _ rank rank_is (omega arith))
 
     pub grids_flat : Flat g g.grids sides ranks frames
     grids_flat = scanned.flat

@@ -14,7 +14,6 @@ use Rattle.group.specs.Numbers.{name_most, functions_most, grids_most}
 use Rattle.group.specs.declared.Name.{Name}
 use Rattle.group.specs.declared.Grid.{Grid}
 use Rattle.group.specs.declared.Group.{Group}
-use Rattle.group.specs.declared.Verdict.TheVariants.{Accepted}
 use Rattle.group.specs.Limits.{name_byte, byte_fits, name_fits, grid_fits, grid_blank, head_fits}
 use Rattle.group.specs.Blank.{blank_grid}
 use Rattle.group.specs.Record.{grid_at}
@@ -23,6 +22,7 @@ use Rattle.judge.specs.Judge.{unused_grid, judged}
 use Rattle.judge.proofs.Accepted.{accepted}
 use Rattle.judge.proofs.LimitLaws.{name_good, ni_between, nj_between, rank_between, start_most, quantum_most_lem, parameters_between, functions_most_lem, grids_between}
 use Rattle.abi.specs.Abi.{KeptName, KeptGrid, KeptHead, KeptGroup}
+use Rattle.std.specs.Prelude.{Ok}
 
 letter : (b : ℕ) → name_byte b ≡ true → b < 127
 letter b e =
@@ -104,7 +104,7 @@ grid_kept g k b u f = go (leb g.grids k) refl
         (not-false (grid_blank (grid_at g k)) (sym (ap (λ (t : Bool). t && not (grid_blank (grid_at g k))) q) ∙ u))
     go false q = fitting_kept (grid_at g k) b (f (leb-false g.grids k q))
 
-pub accepted_kept : (g : Group) → judged g ≡ Accepted → length g.name.bytes ≡ name_most → length g.function ≡ functions_most → length g.grid ≡ grids_most
+pub accepted_kept : (g : Group) → judged g ≡ Ok tt → length g.name.bytes ≡ name_most → length g.function ≡ functions_most → length g.grid ≡ grids_most
     → ((k : ℕ) → k < grids_most → length (grid_at g k).name.bytes ≡ name_most) → KeptGroup g
 accepted_kept g e b r d n =
     let s = accepted g e in

@@ -16,8 +16,6 @@ use Rattle.group.specs.declared.Ramp2.{Ramp2}
 use Rattle.group.specs.declared.Shape.TheVariants as S
 use Rattle.group.specs.declared.Function.{Function}
 use Rattle.group.specs.declared.Group.{Group}
-use Rattle.group.specs.declared.Verdict.{Verdict}
-use Rattle.group.specs.declared.Verdict.TheVariants.{Accepted, Refused}
 use Rattle.group.specs.Record.{function_at}
 use Rattle.group.specs.Limits.{shape_fits, function_fits, function_blank, head_fits}
 use Rattle.group.specs.Numbers.{functions_most, grids_most, day_fits, function_factor_fits, is_zero}
@@ -31,17 +29,19 @@ use Rattle.abi.proofs.FunctionLaws.{is_none}
 use Rattle.judge.specs.Judge.{unused_function, unused_grid, bad_function, judged_lines, judged_limits, judged}
 use Rattle.judge.specs.Order7.{RefusedBy2, StartBelowEnd, UnusedIsBlank, KindsInC, of_kind, NoOtherKind, WrittenAsRamp}
 use Rattle.judge.proofs.Accepted.{some_none, accepted, sound_accepted}
+use Rattle.std.specs.Prelude.{Result, Ok, Err, ⊤}
+use Rattle.group.specs.declared.Refusal.{Refusal}
 
 -- 2 at a line, or at one before it, whatever test by 2 at line 1 stands before it
-By2 : Verdict → ℕ → Type 0
-By2 v line = (place : ℕ) × (1 ≤ place) × (place ≤ line) × (v ≡ Refused (refusal 2 place))
+By2 : Result ⊤ Refusal → ℕ → Type 0
+By2 v line = (place : ℕ) × (1 ≤ place) × (place ≤ line) × (v ≡ Err (refusal 2 place))
 
-before : (t : Bool) (v : Verdict) (line : ℕ) → 1 ≤ line → By2 v line → By2 (refuse_if Refused t 2 1 v) line
+before : (t : Bool) (v : Result ⊤ Refusal) (line : ℕ) → 1 ≤ line → By2 v line → By2 (refuse_if Err t 2 1 v) line
 unfolding By2 refuse_if
 before true v line l b = (1, omega arith, l, refl)
 before false v line l b = b
 
-first_of : (p : ℕ → Bool) (n k : ℕ) (next : Verdict) → k < n → p k ≡ true → By2 (refuse_first Refused p n 2 2 next) (k + 2)
+first_of : (p : ℕ → Bool) (n k : ℕ) (next : Result ⊤ Refusal) → k < n → p k ≡ true → By2 (refuse_first Err p n 2 2 next) (k + 2)
 unfolding By2 refuse_first refuse_if
 first_of p n k next l e = (first p n + 2, omega arith, least (dec_lt k (first p n)), rw (some_by p n k l e))
   where
@@ -50,7 +50,7 @@ first_of p n k next l e = (first p n + 2, omega arith, least (dec_lt k (first p 
     least (yes h) = absurd (true_false e (first_before p n k h))
 
 -- 2 at line 1, whatever follows
-at_one : (t : Bool) (v : Verdict) → v ≡ Refused (refusal 2 1) → refuse_if Refused t 2 1 v ≡ Refused (refusal 2 1)
+at_one : (t : Bool) (v : Result ⊤ Refusal) → v ≡ Err (refusal 2 1) → refuse_if Err t 2 1 v ≡ Err (refusal 2 1)
 unfolding refuse_if
 at_one true v e = refl
 at_one false v e = e
@@ -62,11 +62,11 @@ module _ (g : Group) where
   bad_function_lem k l e =
       record {
         here = λ w.
-            if_past Refused (not (head_fits g)) 2 1 _ (ap not w.head)
-            ∙ if_past Refused (some (unused_function g) functions_most) 2 1 _ (some_none (unused_function g) functions_most w.no_function)
-            ∙ if_past Refused (some (unused_grid g) grids_most) 2 1 _ (some_none (unused_grid g) grids_most w.no_grid)
-            ∙ first_here Refused (bad_function g) g.functions 2 2 _ (some_by (bad_function g) g.functions k l (ap not e))
-            ∙ ap (λ (n : ℕ). Refused (refusal 2 (n + 2))) (first_at (bad_function g) g.functions k l (λ j m. ap not (w.function j m)) (ap not e));
+            if_past Err (not (head_fits g)) 2 1 _ (ap not w.head)
+            ∙ if_past Err (some (unused_function g) functions_most) 2 1 _ (some_none (unused_function g) functions_most w.no_function)
+            ∙ if_past Err (some (unused_grid g) grids_most) 2 1 _ (some_none (unused_grid g) grids_most w.no_grid)
+            ∙ first_here Err (bad_function g) g.functions 2 2 _ (some_by (bad_function g) g.functions k l (ap not e))
+            ∙ ap (λ (n : ℕ). Err (refusal 2 (n + 2))) (first_at (bad_function g) g.functions k l (λ j m. ap not (w.function j m)) (ap not e));
         before =
             before (not (head_fits g)) _ (k + 2) (omega arith)
             (before (some (unused_function g) functions_most) _ (k + 2) (omega arith)
@@ -75,7 +75,7 @@ module _ (g : Group) where
       }
 
   -- an unused one that is not blank
-  unused_function_lem : (k : ℕ) → k < functions_most → g.functions ≤ k → function_blank (function_at g k) ≡ false → judged g ≡ Refused (refusal 2 1)
+  unused_function_lem : (k : ℕ) → k < functions_most → g.functions ≤ k → function_blank (function_at g k) ≡ false → judged g ≡ Err (refusal 2 1)
   unfolding judged judged_limits refuse_if
   unused_function_lem k l m e =
       at_one (not (head_fits g)) _ (rw (some_by (unused_function g) functions_most k l (λ i. le-leb g.functions k m i && not (e i))))
@@ -120,7 +120,7 @@ no_other_kind ns k l e =
     (λ m. bad_function_lem (group_of_words ns) k m (ap function_fits n), λ m. unused_function_lem (group_of_words ns) k l m (ap function_blank n))
 
 -- the old ramp in place of a ramp2: the group is accepted too
-module _ (g h : Group) (k : ℕ) (r : Ramp2) (e : judged g ≡ Accepted) (w : WrittenAsRamp g h k r) where
+module _ (g h : Group) (k : ℕ) (r : Ramp2) (e : judged g ≡ Ok tt) (w : WrittenAsRamp g h k r) where
   ramp2_fits : shape_fits (S.Ramp2 r) ≡ true
   ramp2_fits = sym (ap shape_fits w.ramp2) ∙ (accepted g e).function k w.among
 
@@ -146,7 +146,7 @@ module _ (g h : Group) (k : ℕ) (r : Ramp2) (e : judged g ≡ Accepted) (w : Wr
         | no n ↦ subst P (sym (w.others j n)) same
       ]
 
-  pub as_ramp_accepted : judged h ≡ Accepted
+  pub as_ramp_accepted : judged h ≡ Ok tt
   unfolding head_fits
   as_ramp_accepted =
       let s = accepted g e in

@@ -19,8 +19,6 @@ use Rattle.group.specs.declared.Name.{Name}
 use Rattle.group.specs.declared.Grid.{Grid}
 use Rattle.group.specs.declared.Group.{Group}
 use Rattle.group.specs.declared.Refusal.{Refusal}
-use Rattle.group.specs.declared.Verdict.{Verdict}
-use Rattle.group.specs.declared.Verdict.TheVariants.{Accepted, Refused}
 use Rattle.group.specs.Limits.{byte_fits, name_fits, name_blank, function_fits, function_blank, grid_fits, grid_blank, head_numbers_fit, head_fits}
 use Rattle.group.specs.Record.{function_at, grid_at}
 use Rattle.group.specs.Refusals.{refuse_if, unless_refused}
@@ -36,6 +34,7 @@ use Rattle.abi.proofs.WordLaws.{word_byte}
 use Rattle.abi.proofs.EntryLaws.{function_of_words_lem, grid_of_words_lem}
 use Rattle.abi.proofs.BackLaws.{head_number, grid_number, head_word, grid_word, unit_number_known, function_back, grid_back, head_name_back, quantum_back, parameters_back, functions_back, grids_back, group_back}
 use Rattle.judge.proofs.KeptLaws.{plain_byte, head_name, fitting_kept, blank_kept, head_kept, grid_kept, accepted_kept}
+use Rattle.std.specs.Prelude.{Result, Ok, Err, ⊤}
 
 -- ---- numbers that were cut
 
@@ -218,33 +217,33 @@ module _ (g : Group) (h : MachineGroup g) where
         })
 
     lines_same : some (unused_grid g) grids_most ≡ false
-        → judged_lines again (judged_grids again (judged_ranks again Accepted)) ≡ judged_lines g (judged_grids g (judged_ranks g Accepted))
+        → judged_lines again (judged_grids again (judged_ranks again (Ok tt))) ≡ judged_lines g (judged_grids g (judged_ranks g (Ok tt)))
     unfolding judged_lines
     lines_same u =
-        stage_same Refused (bad_function again) (bad_function g) again.functions g.functions 2 2 2 _ _ (functions_back g kept) refl bad_function_same
+        stage_same Err (bad_function again) (bad_function g) again.functions g.functions 2 2 2 _ _ (functions_back g kept) refl bad_function_same
         (λ a.
-        stage_same Refused (bad_grid again) (bad_grid g) again.grids g.grids 2 (again.functions + 2) (g.functions + 2) _ _ (grids_back g kept) (ap (λ (n : ℕ). n + 2) (functions_back g kept)) bad_grid_same
-        (λ f. ap (λ (x : Group). judged_grids x (judged_ranks x Accepted)) (all_kept u f)))
+        stage_same Err (bad_grid again) (bad_grid g) again.grids g.grids 2 (again.functions + 2) (g.functions + 2) _ _ (grids_back g kept) (ap (λ (n : ℕ). n + 2) (functions_back g kept)) bad_grid_same
+        (λ f. ap (λ (x : Group). judged_grids x (judged_ranks x (Ok tt))) (all_kept u f)))
 
-    unused_same : refuse_if Refused (some (unused_function again) functions_most) 2 1
-        (refuse_if Refused (some (unused_grid again) grids_most) 2 1 (judged_lines again (judged_grids again (judged_ranks again Accepted))))
-        ≡ refuse_if Refused (some (unused_function g) functions_most) 2 1
-        (refuse_if Refused (some (unused_grid g) grids_most) 2 1 (judged_lines g (judged_grids g (judged_ranks g Accepted))))
+    unused_same : refuse_if Err (some (unused_function again) functions_most) 2 1
+        (refuse_if Err (some (unused_grid again) grids_most) 2 1 (judged_lines again (judged_grids again (judged_ranks again (Ok tt)))))
+        ≡ refuse_if Err (some (unused_function g) functions_most) 2 1
+        (refuse_if Err (some (unused_grid g) grids_most) 2 1 (judged_lines g (judged_grids g (judged_ranks g (Ok tt)))))
     unused_same =
-        if_same Refused _ _ 2 1 _ _ (some_same (unused_function again) (unused_function g) functions_most no_function_same)
-        (λ a. if_same Refused _ _ 2 1 _ _ (some_same (unused_grid again) (unused_grid g) grids_most no_grid_same) lines_same)
+        if_same Err _ _ 2 1 _ _ (some_same (unused_function again) (unused_function g) functions_most no_function_same)
+        (λ a. if_same Err _ _ 2 1 _ _ (some_same (unused_grid again) (unused_grid g) grids_most no_grid_same) lines_same)
 
   pub stored_judged : judged again ≡ judged g
   unfolding judged judged_limits
-  stored_judged = if_same Refused _ _ 2 1 _ _ (ap not head_same) (λ a. unused_same (not-false (head_fits g) a))
+  stored_judged = if_same Err _ _ 2 1 _ _ (ap not head_same) (λ a. unused_same (not-false (head_fits g) a))
 
-  pub stored_back : judged g ≡ Accepted → again ≡ g
+  pub stored_back : judged g ≡ Ok tt → again ≡ g
   stored_back e = group_back g (accepted_kept g e h.name.bytes h.function h.grid (λ k l. (h.names k l).bytes))
 
   -- so is every call that judges first
   pub stored_told : {A : Type 0} (refused : Refusal → A) (next : Group → A) → unless_refused refused (judged again) (next again) ≡ unless_refused refused (judged g) (next g)
   stored_told refused next = go (judged g) refl
     where
-      go : (v : Verdict) → judged g ≡ v → unless_refused refused (judged again) (next again) ≡ unless_refused refused (judged g) (next g)
-      go Accepted e = ap (λ (x : Group). unless_refused refused (judged x) (next x)) (stored_back e)
-      go (Refused r) e = rw (stored_judged, e) refl
+      go : (v : Result ⊤ Refusal) → judged g ≡ v → unless_refused refused (judged again) (next again) ≡ unless_refused refused (judged g) (next g)
+      go (Ok tt) e = ap (λ (x : Group). unless_refused refused (judged x) (next x)) (stored_back e)
+      go (Err r) e = rw (stored_judged, e) refl

@@ -1,16 +1,15 @@
 -- Refusals 2 to 5 of a group that is handed over as a record.
-use Rattle.std.specs.Prelude.{ℕ, ◌+◌, ◌<◌, ◌≡◌, Bool, true, false, not, ◌&&◌, leb, eqb, get_or}
+use Rattle.std.specs.Prelude.{ℕ, ◌+◌, ◌<◌, ◌≡◌, Bool, true, false, not, ◌&&◌, leb, eqb, get_or, Result, Ok, Err, ⊤}
 use Rattle.numbers.specs.First.{some, every}
 use Rattle.group.specs.declared.Name.{Name}
 use Rattle.group.specs.declared.Grid.{Grid}
 use Rattle.group.specs.declared.Group.{Group}
-use Rattle.group.specs.declared.Verdict.{Verdict}
-use Rattle.group.specs.declared.Verdict.TheVariants.{Accepted, Refused}
 use Rattle.group.specs.Record.{function_at, grid_at}
 use Rattle.group.specs.Refusals.{refuse_if, refuse_first}
 use Rattle.group.specs.Numbers.{name_most, functions_most, grids_most}
 use Rattle.group.specs.Limits.{function_fits, function_blank, grid_fits, grid_blank, head_fits}
 use Rattle.extent.specs.Extent.{meet, inside}
+use Rattle.group.specs.declared.Refusal.{Refusal}
 
 -- 2: an entry behind its count is not an unused one: a ramp of zeros, or a grid of zeros without a name
 abbrev pub unused_function : Group → ℕ → Bool
@@ -48,34 +47,34 @@ abbrev pub ranked_earlier : Group → ℕ → Bool
 ranked_earlier g k = some (λ j. same_rank (grid_at g j) (grid_at g k)) k
 
 -- 2 of the function and grid lines: places are lines; the first function's is 2
-unfoldable pub judged_lines : Group → Verdict → Verdict
+unfoldable pub judged_lines : Group → Result ⊤ Refusal → Result ⊤ Refusal
 judged_lines g next =
-    refuse_first Refused (bad_function g) g.functions 2 2
-    (refuse_first Refused (bad_grid g) g.grids 2 (g.functions + 2)
+    refuse_first Err (bad_function g) g.functions 2 2
+    (refuse_first Err (bad_grid g) g.grids 2 (g.functions + 2)
     next)
 
 -- 2: at line 1 the group line and every entry behind its count, then the lines behind it
-unfoldable pub judged_limits : Group → Verdict → Verdict
+unfoldable pub judged_limits : Group → Result ⊤ Refusal → Result ⊤ Refusal
 judged_limits g next =
-    refuse_if Refused (not (head_fits g)) 2 1
-    (refuse_if Refused (some (unused_function g) functions_most) 2 1
-    (refuse_if Refused (some (unused_grid g) grids_most) 2 1
+    refuse_if Err (not (head_fits g)) 2 1
+    (refuse_if Err (some (unused_function g) functions_most) 2 1
+    (refuse_if Err (some (unused_grid g) grids_most) 2 1
     (judged_lines g next)))
 
 -- 3 and 4: places are grids, from 1
-unfoldable pub judged_grids : Group → Verdict → Verdict
+unfoldable pub judged_grids : Group → Result ⊤ Refusal → Result ⊤ Refusal
 judged_grids g next =
-    refuse_first Refused (named_earlier g) g.grids 3 1
-    (refuse_first Refused (outside g) g.grids 4 1
+    refuse_first Err (named_earlier g) g.grids 3 1
+    (refuse_first Err (outside g) g.grids 4 1
     next)
 
 -- 5: places are grids, from 1
-unfoldable pub judged_ranks : Group → Verdict → Verdict
-judged_ranks g next = refuse_first Refused (ranked_earlier g) g.grids 5 1 next
+unfoldable pub judged_ranks : Group → Result ⊤ Refusal → Result ⊤ Refusal
+judged_ranks g next = refuse_first Err (ranked_earlier g) g.grids 5 1 next
 
 -- 2 to 5 in that order
-unfoldable pub judged : Group → Verdict
-judged g = judged_limits g (judged_grids g (judged_ranks g Accepted))
+unfoldable pub judged : Group → Result ⊤ Refusal
+judged g = judged_limits g (judged_grids g (judged_ranks g (Ok tt)))
 
 -- what an accepted group is known to be
 pub record Sound (g : Group) : Type 0 where

@@ -1,8 +1,7 @@
 -- Order 5 of document 02 in its own words, of what the judge refuses by 5: grids of one rank that hold an admitted point in common.
-use Rattle.std.specs.Prelude.{ℕ, ◌<◌, ◌≡◌, true, ◌↔◌}
+use Rattle.std.specs.Prelude.{ℕ, ◌<◌, ◌≡◌, true, ◌↔◌, Ok}
 use Rattle.group.specs.declared.Grid.{Grid}
 use Rattle.group.specs.declared.Group.{Group}
-use Rattle.group.specs.declared.Verdict.TheVariants.{Accepted}
 use Rattle.group.specs.Record.{grid_at}
 use Rattle.extent.specs.Extent.{inside}
 use Rattle.extent.specs.Order5.{Common}
@@ -15,7 +14,7 @@ Share f g = (f.rank ≡ g.rank) × Common f g
 
 -- in an accepted group no two grids do
 abbrev pub NoSharedPoint : Group → Type 0
-NoSharedPoint g = judged g ≡ Accepted → (i j : ℕ) → i < j → j < g.grids → Share (grid_at g i) (grid_at g j) → ⊥
+NoSharedPoint g = judged g ≡ Ok tt → (i j : ℕ) → i < j → j < g.grids → Share (grid_at g i) (grid_at g j) → ⊥
 
 -- each grid passes 2 and 4
 abbrev pub GridsPass : Group → Type 0

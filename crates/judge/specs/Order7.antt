@@ -1,9 +1,8 @@
 -- Order 7 of document 02 in its own words, of what the judge refuses by 2.
-use Rattle.std.specs.Prelude.{ℕ, ◌+◌, ◌<◌, ◌≤◌, ◌≡◌, Bool, true, false, ◌&&◌, ◌||◌, List, ℤ, pos, ◌≤ℤ◌, ◌<ℤ◌}
+use Rattle.std.specs.Prelude.{ℕ, ◌+◌, ◌<◌, ◌≤◌, ◌≡◌, Bool, true, false, ◌&&◌, ◌||◌, List, ℤ, pos, ◌≤ℤ◌, ◌<ℤ◌, Err}
 use Rattle.group.specs.declared.Ramp2.{Ramp2}
 use Rattle.group.specs.declared.Shape.TheVariants as S
 use Rattle.group.specs.declared.Group.{Group}
-use Rattle.group.specs.declared.Verdict.TheVariants.{Refused}
 use Rattle.group.specs.Record.{function_at}
 use Rattle.group.specs.Blank.{blank_function}
 use Rattle.group.specs.Numbers.{functions_most, grids_most, is_zero}
@@ -22,8 +21,8 @@ pub record PassBefore (g : Group) (k : ℕ) : Type 0 where
 
 -- function k is refused by 2 at its line; where the lines before it don't pass, at the first of these: the least place counts
 pub record RefusedBy2 (g : Group) (k : ℕ) : Type 0 where
-  pub here : PassBefore g k → judged g ≡ Refused (refusal 2 (k + 2))
-  pub before : (place : ℕ) × (1 ≤ place) × (place ≤ k + 2) × (judged g ≡ Refused (refusal 2 place))
+  pub here : PassBefore g k → judged g ≡ Err (refusal 2 (k + 2))
+  pub before : (place : ℕ) × (1 ≤ place) × (place ≤ k + 2) × (judged g ≡ Err (refusal 2 place))
 
 -- 'START below END (else 2)'
 abbrev pub StartBelowEnd : Group → Type 0
@@ -31,7 +30,7 @@ StartBelowEnd g = (k : ℕ) (r : Ramp2) → k < g.functions → (function_at g k
 
 -- 'an unused entry is a ramp of zeros': all else there is 2 at line 1
 abbrev pub UnusedIsBlank : Group → Type 0
-UnusedIsBlank g = (k : ℕ) → k < functions_most → g.functions ≤ k → (function_at g k ≡ blank_function → ⊥) → judged g ≡ Refused (refusal 2 1)
+UnusedIsBlank g = (k : ℕ) → k < functions_most → g.functions ≤ k → (function_at g k ≡ blank_function → ⊥) → judged g ≡ Err (refusal 2 1)
 
 -- in C kind 0 is the `ramp` of the four numbers, 1 the `step` of three, whose fourth is 0, and 2 the `ramp2` of four
 pub record KindsInC (a b c d : ℤ) : Type 0 where
@@ -47,7 +46,7 @@ of_kind kind fourth = is_kind 0 kind || (is_kind 1 kind && is_zero fourth) || is
 abbrev pub NoOtherKind : List ℤ → Type 0
 NoOtherKind ns = (k : ℕ) → k < functions_most → of_kind (number_at ns (function_index k 0)) (number_at ns (function_index k 4)) ≡ false
     → (k < (group_of_words ns).functions → RefusedBy2 (group_of_words ns) k)
-    × ((group_of_words ns).functions ≤ k → judged (group_of_words ns) ≡ Refused (refusal 2 1))
+    × ((group_of_words ns).functions ≤ k → judged (group_of_words ns) ≡ Err (refusal 2 1))
 
 -- the group h is g, but for function k: a `ramp2` with REF at or before START in g, the old `ramp` START 0 END MULT in h
 pub record WrittenAsRamp (g h : Group) (k : ℕ) (r : Ramp2) : Type 0 where

@@ -1,10 +1,8 @@
 -- The tests of function entries that one loop serves, by their rule; what the pass over the grids may rely on, and what it finds and leaves.
-use Rattle.std.specs.Prelude.{ℕ, ◌*◌, ◌<◌, ◌≤◌, ◌≡◌, Bool, true, not, ◌&&◌, List, length}
+use Rattle.std.specs.Prelude.{ℕ, ◌*◌, ◌<◌, ◌≤◌, ◌≡◌, Bool, true, not, ◌&&◌, List, length, Result, Ok, Err, ⊤}
 use Rattle.numbers.specs.First.{first}
 use Rattle.group.specs.declared.Function.{Function}
 use Rattle.group.specs.declared.Group.{Group}
-use Rattle.group.specs.declared.Verdict.{Verdict}
-use Rattle.group.specs.declared.Verdict.TheVariants.{Accepted, Refused}
 use Rattle.group.specs.Record.{grid_at}
 use Rattle.group.specs.Refusals.{refuse_first}
 use Rattle.group.specs.Numbers.{parameters_most, functions_most, grids_most}
@@ -15,6 +13,7 @@ use Rattle.judge.specs.declared.FunctionRule.{FunctionRule}
 use Rattle.judge.specs.declared.FunctionRule.TheVariants as R
 use Rattle.judge.specs.Judge.{bad_grid, judged_grids, judged_ranks}
 use Rattle.judge.specs.Keys.{name_keys, KeysListed}
+use Rattle.group.specs.declared.Refusal.{Refusal}
 
 -- one function, behind the count or not
 abbrev pub function_test : FunctionRule → Bool → Function → Bool
@@ -22,8 +21,8 @@ function_test R.Unused behind f = behind && not (function_blank f)
 function_test R.Limits behind f = not (function_fits f)
 
 -- 2 of the grid lines, of which the first is line `from`, then 3 to 5
-unfoldable pub judged_from : ℕ → Group → Verdict
-judged_from from g = refuse_first Refused (bad_grid g) g.grids 2 from (judged_grids g (judged_ranks g Accepted))
+unfoldable pub judged_from : ℕ → Group → Result ⊤ Refusal
+judged_from from g = refuse_first Err (bad_grid g) g.grids 2 from (judged_grids g (judged_ranks g (Ok tt)))
 
 -- what a group line within its limits says of the loops behind it
 pub record HeadLimits (g : Group) : Type 0 where
@@ -48,5 +47,5 @@ pub record Scanned (g : Group) (np n edge : ℕ) (fours keys sides ranks frames 
   pub flat : Flat g n sides ranks frames
 
 -- what the judge leaves in the lent lists: those of an accepted group's grids
-abbrev pub Left : Verdict → Group → (sides ranks frames : List ℕ) → Type 0
-Left v g sides ranks frames = v ≡ Accepted → Flat g g.grids sides ranks frames
+abbrev pub Left : Result ⊤ Refusal → Group → (sides ranks frames : List ℕ) → Type 0
+Left v g sides ranks frames = v ≡ Ok tt → Flat g g.grids sides ranks frames

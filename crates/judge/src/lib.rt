@@ -16,7 +16,7 @@ ghost use Rattle.judge.specs.Keys.{word_at, name_keys, put_four, agree, some_rea
 use abi::GROUP_WORDS;
 use flat::{LON_FIRST, LON_LAST};
 use group::{
-    Function, Grid, Group, LON_TURN, Name, Refusal, Verdict, function_blank, function_fits,
+    Function, Grid, Group, LON_TURN, Name, Refusal, function_blank, function_fits,
     grid_fits, head_numbers_fit, name_fits,
 };
 
@@ -352,7 +352,7 @@ fn judge_grids(
     sides: &mut [u64],
     ranks: &mut [u64],
     frames: &mut [u64],
-) -> Verdict
+) -> Result<(), Refusal>
     requires { HeadLimits (group_of_words words.now) × (from ≤ functions_most + 2) × FlatRoom sides.old ranks.old frames.old grids_most }
     ensures { (result ≡ judged_from from (group_of_words words.now))
         × Left result (group_of_words words.now) sides.new ranks.new frames.new }
@@ -363,32 +363,32 @@ fn judge_grids(
     let mut keys = [0u64; group::GRIDS_MOST];
     let found = scan_grids(words, n, np, &mut fours, &mut keys, sides, ranks, frames);
     if found.bad < n {
-        return Verdict::Refused(Refusal {
+        return Err(Refusal {
             number: 2,
             place: found.bad + from,
         });
     }
     let name = first_clash(Shared::Name, &fours, &keys, n);
     if name < n {
-        return Verdict::Refused(Refusal {
+        return Err(Refusal {
             number: 3,
             place: name + 1,
         });
     }
     if found.edge < n {
-        return Verdict::Refused(Refusal {
+        return Err(Refusal {
             number: 4,
             place: found.edge + 1,
         });
     }
     let rank = first_clash(rank_rule(sides, n), sides, ranks, n);
     if rank < n {
-        return Verdict::Refused(Refusal {
+        return Err(Refusal {
             number: 5,
             place: rank + 1,
         });
     }
-    Verdict::Accepted
+    Ok(())
 }
 
 // Whether a group's name is well formed and the numbers of its line are within their limits.
@@ -412,33 +412,33 @@ pub fn judge_into(
     sides: &mut [u64],
     ranks: &mut [u64],
     frames: &mut [u64],
-) -> Verdict
+) -> Result<(), Refusal>
     requires { FlatRoom sides.old ranks.old frames.old grids_most }
     ensures { (result ≡ judged (group_of_words words.now))
         × Left result (group_of_words words.now) sides.new ranks.new frames.new }
 {
     if !head_fits(words) {
-        return Verdict::Refused(Refusal {
+        return Err(Refusal {
             number: 2,
             place: 1,
         });
     }
     let m = abi::function_count(words);
     if first_function(FunctionRule::Unused, words, m, m, FUNCTIONS) < FUNCTIONS {
-        return Verdict::Refused(Refusal {
+        return Err(Refusal {
             number: 2,
             place: 1,
         });
     }
     if first_unused(words, abi::grid_count(words)) < GRIDS {
-        return Verdict::Refused(Refusal {
+        return Err(Refusal {
             number: 2,
             place: 1,
         });
     }
     let function = first_function(FunctionRule::Limits, words, m, 0, m);
     if function < m {
-        return Verdict::Refused(Refusal {
+        return Err(Refusal {
             number: 2,
             place: function + 2,
         });
@@ -447,7 +447,7 @@ pub fn judge_into(
 }
 
 // The same, where the call needs no lists.
-pub fn judge_words(words: &[i64; GROUP_WORDS]) -> Verdict
+pub fn judge_words(words: &[i64; GROUP_WORDS]) -> Result<(), Refusal>
     ensures { result ≡ judged (group_of_words words.now) }
 {
     let mut sides = [0u64; flat::SIDES];
@@ -457,7 +457,7 @@ pub fn judge_words(words: &[i64; GROUP_WORDS]) -> Verdict
 }
 
 // What a group handed over as a record is judged: accepted, or the refusal of the lowest number from 2 to 5 with its place.
-pub fn judge(group: Group) -> Verdict
+pub fn judge(group: Group) -> Result<(), Refusal>
     ensures { result ≡ judged group }
 {
     let words = abi::numbers_of(group);

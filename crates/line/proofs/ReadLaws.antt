@@ -30,7 +30,6 @@ use Rattle.group.specs.declared.Shape.{Shape}
 use Rattle.group.specs.declared.Function.{Function}
 use Rattle.group.specs.declared.Grid.{Grid}
 use Rattle.group.specs.declared.Refusal.{Refusal}
-use Rattle.group.specs.declared.Verdict.TheVariants.{Accepted, Refused}
 use Rattle.line.specs.declared.Head.{Head}
 use Rattle.line.specs.declared.HeadRead.{HeadRead}
 use Rattle.line.specs.declared.FunctionRead.{FunctionRead}
@@ -48,6 +47,7 @@ use Rattle.line.proofs.LineLaws.{Small, keyed_miss, keyed_hit, clamped, fields_c
 use Rattle.line.proofs.LimitLaws.{shape_small}
 use Rattle.line.proofs.NumberLaws.{count_length}
 use Rattle.line.proofs.KindLaws.{ShapeKind}
+use Rattle.std.specs.Prelude.{Ok, Err}
 
 -- the test of a line's keyword, alone and with the count of its fields
 pub keyword_told : (word line f : List ℕ) (r : Bool) → r ≡ same f word → f ≡ field_of line 0 → same (get_or (split 9 line) 0 []) word ≡ r
@@ -185,26 +185,26 @@ module _ {word : List ℕ} {numbers : ℕ} {make : List ℤ → Shape} (k : Shap
 
 -- ---- the answer of a line, by its verdict
 
-pub head_refused : (q : HeadRead) (l : Line Refusal Head) (r : Refusal) → q ≡ head_answer l → q.verdict ≡ Refused r → l ≡ bad r
-head_refused q (bad s) r e v = let x : Refused s ≡ Refused r = sym (ap (λ (a : HeadRead). a.verdict) e) ∙ v in let y : s ≡ r = cc in ap bad y
-head_refused q (good a) r e v = let x : Accepted ≡ Refused r = sym (ap (λ (b : HeadRead). b.verdict) e) ∙ v in absurd (let y : ◌≡◌ {A = ℕ} 0 1 = cc in omega arith)
+pub head_refused : (q : HeadRead) (l : Line Refusal Head) (r : Refusal) → q ≡ head_answer l → q.verdict ≡ Err r → l ≡ bad r
+head_refused q (bad s) r e v = let x : Err s ≡ Err r = sym (ap (λ (a : HeadRead). a.verdict) e) ∙ v in let y : s ≡ r = cc in ap bad y
+head_refused q (good a) r e v = let x : Ok tt ≡ Err r = sym (ap (λ (b : HeadRead). b.verdict) e) ∙ v in absurd (let y : ◌≡◌ {A = ℕ} 0 1 = cc in omega arith)
 
-pub head_accepted : (q : HeadRead) (l : Line Refusal Head) → q ≡ head_answer l → q.verdict ≡ Accepted → l ≡ good q.head
-head_accepted q (bad s) e v = let x : Refused s ≡ Accepted = sym (ap (λ (a : HeadRead). a.verdict) e) ∙ v in absurd (let y : ◌≡◌ {A = ℕ} 0 1 = cc in omega arith)
+pub head_accepted : (q : HeadRead) (l : Line Refusal Head) → q ≡ head_answer l → q.verdict ≡ Ok tt → l ≡ good q.head
+head_accepted q (bad s) e v = let x : Err s ≡ Ok tt = sym (ap (λ (a : HeadRead). a.verdict) e) ∙ v in absurd (let y : ◌≡◌ {A = ℕ} 0 1 = cc in omega arith)
 head_accepted q (good a) e v = ap good (sym (ap (λ (b : HeadRead). b.head) e))
 
-pub function_refused : (q : FunctionRead) (l : Line Refusal Function) (r : Refusal) → q ≡ function_answer l → q.verdict ≡ Refused r → l ≡ bad r
-function_refused q (bad s) r e v = let x : Refused s ≡ Refused r = sym (ap (λ (a : FunctionRead). a.verdict) e) ∙ v in let y : s ≡ r = cc in ap bad y
-function_refused q (good a) r e v = let x : Accepted ≡ Refused r = sym (ap (λ (b : FunctionRead). b.verdict) e) ∙ v in absurd (let y : ◌≡◌ {A = ℕ} 0 1 = cc in omega arith)
+pub function_refused : (q : FunctionRead) (l : Line Refusal Function) (r : Refusal) → q ≡ function_answer l → q.verdict ≡ Err r → l ≡ bad r
+function_refused q (bad s) r e v = let x : Err s ≡ Err r = sym (ap (λ (a : FunctionRead). a.verdict) e) ∙ v in let y : s ≡ r = cc in ap bad y
+function_refused q (good a) r e v = let x : Ok tt ≡ Err r = sym (ap (λ (b : FunctionRead). b.verdict) e) ∙ v in absurd (let y : ◌≡◌ {A = ℕ} 0 1 = cc in omega arith)
 
-pub function_accepted : (q : FunctionRead) (l : Line Refusal Function) → q ≡ function_answer l → q.verdict ≡ Accepted → l ≡ good q.function
-function_accepted q (bad s) e v = let x : Refused s ≡ Accepted = sym (ap (λ (a : FunctionRead). a.verdict) e) ∙ v in absurd (let y : ◌≡◌ {A = ℕ} 0 1 = cc in omega arith)
+pub function_accepted : (q : FunctionRead) (l : Line Refusal Function) → q ≡ function_answer l → q.verdict ≡ Ok tt → l ≡ good q.function
+function_accepted q (bad s) e v = let x : Err s ≡ Ok tt = sym (ap (λ (a : FunctionRead). a.verdict) e) ∙ v in absurd (let y : ◌≡◌ {A = ℕ} 0 1 = cc in omega arith)
 function_accepted q (good a) e v = ap good (sym (ap (λ (b : FunctionRead). b.function) e))
 
-pub grid_refused : (q : GridRead) (l : Line Refusal Grid) (r : Refusal) → q ≡ grid_answer l → q.verdict ≡ Refused r → l ≡ bad r
-grid_refused q (bad s) r e v = let x : Refused s ≡ Refused r = sym (ap (λ (a : GridRead). a.verdict) e) ∙ v in let y : s ≡ r = cc in ap bad y
-grid_refused q (good a) r e v = let x : Accepted ≡ Refused r = sym (ap (λ (b : GridRead). b.verdict) e) ∙ v in absurd (let y : ◌≡◌ {A = ℕ} 0 1 = cc in omega arith)
+pub grid_refused : (q : GridRead) (l : Line Refusal Grid) (r : Refusal) → q ≡ grid_answer l → q.verdict ≡ Err r → l ≡ bad r
+grid_refused q (bad s) r e v = let x : Err s ≡ Err r = sym (ap (λ (a : GridRead). a.verdict) e) ∙ v in let y : s ≡ r = cc in ap bad y
+grid_refused q (good a) r e v = let x : Ok tt ≡ Err r = sym (ap (λ (b : GridRead). b.verdict) e) ∙ v in absurd (let y : ◌≡◌ {A = ℕ} 0 1 = cc in omega arith)
 
-pub grid_accepted : (q : GridRead) (l : Line Refusal Grid) → q ≡ grid_answer l → q.verdict ≡ Accepted → l ≡ good q.grid
-grid_accepted q (bad s) e v = let x : Refused s ≡ Accepted = sym (ap (λ (a : GridRead). a.verdict) e) ∙ v in absurd (let y : ◌≡◌ {A = ℕ} 0 1 = cc in omega arith)
+pub grid_accepted : (q : GridRead) (l : Line Refusal Grid) → q ≡ grid_answer l → q.verdict ≡ Ok tt → l ≡ good q.grid
+grid_accepted q (bad s) e v = let x : Err s ≡ Ok tt = sym (ap (λ (a : GridRead). a.verdict) e) ∙ v in absurd (let y : ◌≡◌ {A = ℕ} 0 1 = cc in omega arith)
 grid_accepted q (good a) e v = ap good (sym (ap (λ (b : GridRead). b.grid) e))

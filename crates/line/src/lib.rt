@@ -20,7 +20,7 @@ ghost use Rattle.line.specs.Blank.{blank_head};
 ghost use Rattle.line.specs.Answers.{form_of, unit_answer, head_answer, function_answer, grid_answer};
 
 use group::{
-    Function, Grid, Latitude, Longitude, Name, Ramp, Ramp2, Refusal, Shape, Step, Unit, Verdict,
+    Function, Grid, Latitude, Longitude, Name, Ramp, Ramp2, Refusal, Shape, Step, Unit,
     blank_function, blank_grid, blank_name,
 };
 use text::Number;
@@ -53,21 +53,21 @@ pub enum UnitRead {
 // A line read as a group line: the verdict beside the record, which is blank after a refusal.
 #[derive(Clone, Copy)]
 pub struct HeadRead {
-    pub verdict: Verdict,
+    pub verdict: Result<(), Refusal>,
     pub head: Head,
 }
 
 // A line read as a function.
 #[derive(Clone, Copy)]
 pub struct FunctionRead {
-    pub verdict: Verdict,
+    pub verdict: Result<(), Refusal>,
     pub function: Function,
 }
 
 // A line read as a grid.
 #[derive(Clone, Copy)]
 pub struct GridRead {
-    pub verdict: Verdict,
+    pub verdict: Result<(), Refusal>,
     pub grid: Grid,
 }
 
@@ -229,7 +229,7 @@ fn refused_head(number: u64, place: u64) -> HeadRead
 {
     let head = blank_head();
     HeadRead {
-        verdict: Verdict::Refused(Refusal { number, place }),
+        verdict: Err(Refusal { number, place }),
         head,
     }
 }
@@ -240,7 +240,7 @@ fn refused_function(number: u64, place: u64) -> FunctionRead
 {
     let function = blank_function();
     FunctionRead {
-        verdict: Verdict::Refused(Refusal { number, place }),
+        verdict: Err(Refusal { number, place }),
         function,
     }
 }
@@ -251,7 +251,7 @@ fn refused_grid(number: u64, place: u64) -> GridRead
 {
     let grid = blank_grid();
     GridRead {
-        verdict: Verdict::Refused(Refusal { number, place }),
+        verdict: Err(Refusal { number, place }),
         grid,
     }
 }
@@ -264,7 +264,7 @@ fn function_judged(function: Function, n: u64) -> FunctionRead
         return refused_function(2, n);
     }
     FunctionRead {
-        verdict: Verdict::Accepted,
+        verdict: Ok(()),
         function,
     }
 }
@@ -277,7 +277,7 @@ fn grid_judged(grid: Grid, n: u64) -> GridRead
         return refused_grid(2, n);
     }
     GridRead {
-        verdict: Verdict::Accepted,
+        verdict: Ok(()),
         grid,
     }
 }
@@ -314,7 +314,7 @@ pub fn group_line(line: &[u8]) -> HeadRead
         return refused_head(2, 1);
     }
     HeadRead {
-        verdict: Verdict::Accepted,
+        verdict: Ok(()),
         head,
     }
 }

@@ -19,8 +19,6 @@ use Rattle.group.specs.Refusals.{no_refusal}
 use Rattle.group.specs.Shapes.{int_at}
 use Rattle.line.specs.Names.{name_text}
 use Rattle.fix.specs.declared.Fix.{Fix}
-use Rattle.fix.specs.declared.Lookup.{Lookup}
-use Rattle.fix.specs.declared.Lookup.TheVariants as L
 use Rattle.fix.specs.Answers.{lookup_refusal, lookup_grid, result_in, results_of}
 use Rattle.lookup.specs.Lookup.{looked}
 use Rattle.lookup.proofs.Demand2.{demand_2}
@@ -29,13 +27,14 @@ use Rattle.logs.specs.Line.{Entry, grid_name, equal, same_shifts, found_kind, en
 use Rattle.logs.specs.Order4.{Says, found_for, Accepts, NamesChosen, EqualShifts, LineIs, LineJudged}
 use Rattle.logs.proofs.EqualLaws.{equal_refl, equal_true}
 use Rattle.logs.proofs.SaysLaws.{says_read, read_says, says_free}
+use Rattle.std.specs.Prelude.{Result, Ok, Err}
 
 -- ---- the lookup of a position
 
 module _ (g : Group) (nodes : List ℤ) (p : Position) where
   -- an accepted one is a fix in grid k, from 0
   fixed : lookup_refusal (looked g nodes (point_at p) p.day) ≡ no_refusal
-      → (f : Fix) × (k : ℕ) × (looked g nodes (point_at p) p.day ≡ L.Fix f) × (f.grid ≡ suc k)
+      → (f : Fix) × (k : ℕ) × (looked g nodes (point_at p) p.day ≡ Ok f) × (f.grid ≡ suc k)
   fixed a =
       let d = demand_2 g nodes (point_at p) p.day in
       let z = ap (λ (r : Refusal). r.number) a in
@@ -43,13 +42,13 @@ module _ (g : Group) (nodes : List ℤ) (p : Position) where
       (u.0, w.k, u.1, sym (ap lookup_grid u.1) ∙ w.number)
 
   -- a refused one refuses something
-  pub refused_some : (r : Refusal) → looked g nodes (point_at p) p.day ≡ L.Refused r → r ≡ no_refusal → ⊥
+  pub refused_some : (r : Refusal) → looked g nodes (point_at p) p.day ≡ Err r → r ≡ no_refusal → ⊥
   refused_some r h a =
       let u = fixed (ap lookup_refusal h ∙ a) in let f = u.0 in
       let w = sym u.2 ∙ h in let z : ◌≡◌ {A = ℕ} 0 1 = cc in omega arith
 
 module _ (g : Group) (nodes : List ℤ) (e : Entry) where
-  module _ (f : Fix) (h : found_for g nodes e ≡ L.Fix f) where
+  module _ (f : Fix) (h : found_for g nodes e ≡ Ok f) where
     accepts : Accepts g nodes e
     accepts = ap lookup_refusal h
 
@@ -69,10 +68,10 @@ module _ (g : Group) (nodes : List ℤ) (e : Entry) where
     named n = ap (same e.name) (the_grid n.0 n.1 ∙ sym n.2) ∙ same_refl e.name
 
     shifts : same_shifts g.parameters e.shifts (result_in f) ≡ true → EqualShifts g nodes e
-    shifts t q l = equal_true _ _ (every_at (λ j. equal (int_at e.shifts j) (result_in f j)) g.parameters q t l) ∙ ap (λ (r : Lookup). results_of r q) (sym h)
+    shifts t q l = equal_true _ _ (every_at (λ j. equal (int_at e.shifts j) (result_in f j)) g.parameters q t l) ∙ ap (λ (r : Result Fix Refusal). results_of r q) (sym h)
 
     shifted : EqualShifts g nodes e → same_shifts g.parameters e.shifts (result_in f) ≡ true
-    shifted s = all_every (λ j. equal (int_at e.shifts j) (result_in f j)) g.parameters (λ q l. equal_refl _ _ (s q l ∙ ap (λ (r : Lookup). results_of r q) h))
+    shifted s = all_every (λ j. equal (int_at e.shifts j) (result_in f j)) g.parameters (λ q l. equal_refl _ _ (s q l ∙ ap (λ (r : Result Fix Refusal). results_of r q) h))
 
 -- ---- the verdict is what the line is
 
@@ -83,10 +82,10 @@ module _ (g : Group) (nodes : List ℤ) (line : List ℕ) where
   abbrev Is : ℕ → Type 0
   Is = LineIs g nodes line
 
-  found_is : (e : Entry) → Says np line e → (l : Lookup) → found_for g nodes e ≡ l → Is (found_kind g e.name e.shifts l)
+  found_is : (e : Entry) → Says np line e → (l : Result Fix Refusal) → found_for g nodes e ≡ l → Is (found_kind g e.name e.shifts l)
   unfolding found_kind
-  found_is e s (L.Refused r) h = (e, s, λ a. refused_some g nodes e.position r h (sym (ap lookup_refusal h) ∙ a))
-  found_is e s (L.Fix f) h = by_name (same e.name (grid_name g f.grid)) refl
+  found_is e s (Err r) h = (e, s, λ a. refused_some g nodes e.position r h (sym (ap lookup_refusal h) ∙ a))
+  found_is e s (Ok f) h = by_name (same e.name (grid_name g f.grid)) refl
     where
       by_shifts : NamesChosen g nodes e → (b : Bool) → same_shifts np e.shifts (result_in f) ≡ b → Is (cond b 0 shift_fault)
       by_shifts n true t = (e, s, accepts g nodes e f h, n, shifts g nodes e f h t)
@@ -111,21 +110,21 @@ module _ (g : Group) (nodes : List ℤ) (line : List ℕ) where
     unfolding line_kind
     kind_found = ap (entry_kind g nodes) (says_read np line e s)
 
-    kind_fix : (f : Fix) → found_for g nodes e ≡ L.Fix f
+    kind_fix : (f : Fix) → found_for g nodes e ≡ Ok f
         → line_kind g nodes line ≡ cond (same e.name (grid_name g f.grid)) (cond (same_shifts np e.shifts (result_in f)) 0 shift_fault) grid_fault
     unfolding found_kind
     kind_fix f h = kind_found ∙ ap (found_kind g e.name e.shifts) h
 
-    kind_named : (f : Fix) → found_for g nodes e ≡ L.Fix f → NamesChosen g nodes e → line_kind g nodes line ≡ cond (same_shifts np e.shifts (result_in f)) 0 shift_fault
+    kind_named : (f : Fix) → found_for g nodes e ≡ Ok f → NamesChosen g nodes e → line_kind g nodes line ≡ cond (same_shifts np e.shifts (result_in f)) 0 shift_fault
     kind_named f h n = kind_fix f h ∙ ap (λ (b : Bool). cond b (cond (same_shifts np e.shifts (result_in f)) 0 shift_fault) grid_fault) (named g nodes e f h n)
 
     kind_refused : (Accepts g nodes e → ⊥) → line_kind g nodes line ≡ 2
     unfolding found_kind
     kind_refused n = kind_found ∙ go (found_for g nodes e) refl
       where
-        go : (l : Lookup) → found_for g nodes e ≡ l → found_kind g e.name e.shifts l ≡ 2
-        go (L.Refused r) h = refl
-        go (L.Fix f) h = absurd (n (ap lookup_refusal h))
+        go : (l : Result Fix Refusal) → found_for g nodes e ≡ l → found_kind g e.name e.shifts l ≡ 2
+        go (Err r) h = refl
+        go (Ok f) h = absurd (n (ap lookup_refusal h))
 
   kind_formless : ((e : Entry) → Says np line e → ⊥) → line_kind g nodes line ≡ 1
   unfolding line_kind

@@ -21,7 +21,6 @@ use Rattle.line.proofs.NameLaws.{name_len}
 use Rattle.line.proofs.KindLaws.{grid_name_lem}
 use Rattle.abi.specs.Abi.{list_of}
 use Rattle.fix.specs.declared.Fix.{Fix}
-use Rattle.fix.specs.declared.Lookup.TheVariants as L
 use Rattle.fix.specs.Answers.{result_in}
 use Rattle.lookup.specs.Lookup.{looked}
 use Rattle.lookup.proofs.FoundLaws.{found}
@@ -30,8 +29,9 @@ use Rattle.exercise.specs.Exercise.{point_at}
 use Rattle.logs.specs.Line.{fix_keyword, grid_name, entry_text}
 use Rattle.logs.specs.Writing.{entry_found, line_text, line_most}
 use Rattle.logs.specs.Reading.{FixFound}
+use Rattle.std.specs.Prelude.{Ok}
 
-pub fix_found : (g : Group) (nodes : List ℤ) (p : Position) (f : Fix) → looked g nodes (point_at p) p.day ≡ L.Fix f → FixFound g p f
+pub fix_found : (g : Group) (nodes : List ℤ) (p : Position) (f : Fix) → looked g nodes (point_at p) p.day ≡ Ok f → FixFound g p f
 fix_found g nodes p f e =
     let w = found g nodes (point_at p) p.day f e in
     let x = lon_admitted p.lon.0 in let y = lat_admitted p.lat.0 in

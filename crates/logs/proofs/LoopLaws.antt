@@ -12,8 +12,6 @@ use Rattle.text.specs.Parts.{split, up_to}
 use Rattle.text.proofs.PartLaws.{first_part}
 use Rattle.group.specs.declared.Group.{Group}
 use Rattle.group.specs.declared.Refusal.{Refusal}
-use Rattle.group.specs.declared.Verdict.{Verdict}
-use Rattle.group.specs.declared.Verdict.TheVariants.{Accepted, Refused}
 use Rattle.group.specs.Refusals.{unless_refused}
 use Rattle.judge.specs.Judge.{judged}
 use Rattle.abi.specs.Abi.{MachineGroup, group_of_words, numbers_of}
@@ -22,10 +20,10 @@ use Rattle.lookup.specs.Lookup.{nodes_judged}
 use Rattle.exercise.specs.Exercise.{many_verdict}
 use Rattle.exercise.proofs.StageLaws.{many_group, many_accepted, many_nodes}
 use Rattle.header.proofs.ItemLaws.{behind_le, none_closed, one_closed}
-use Rattle.logs.specs.declared.Judgement.{Judgement}
-use Rattle.logs.specs.declared.Judgement.TheVariants as J
 use Rattle.logs.specs.Line.{form_fault, line_kind}
 use Rattle.logs.specs.Log.{fault, no_fault, behind_last, first_fault, log_fault, log_judged}
+use Rattle.std.specs.Prelude.{Result, Ok, Err, ⊤}
+use Rattle.logs.specs.declared.Fault.{Fault}
 
 -- n lines have passed, and the next one begins at `next`: the fault is that of the rest
 pub record Passed (g : Group) (nodes : List ℤ) (log : List ℕ) (next n : ℕ) : Type 0 where
@@ -95,26 +93,26 @@ module _ {g : Group} {nodes : List ℤ} {log : List ℕ} {next n : ℕ} (p : Pas
 
 -- what the verdict of a call for many points says: 2 to 5, then 13
 module _ (g : Group) (nodes : List ℤ) (log : List ℕ) where
-  abbrev answer : Verdict → Judgement
-  answer v = unless_refused J.Refused v (J.Judged (log_fault g nodes log))
+  abbrev answer : Result ⊤ Refusal → Result Fault Refusal
+  answer v = unless_refused Err v (Ok (log_fault g nodes log))
 
   log_answer_lem : answer (many_verdict g (length nodes) true) ≡ log_judged g nodes log
   unfolding log_judged
   log_answer_lem = go (judged g) refl
     where
-      go : (v : Verdict) → judged g ≡ v → answer (many_verdict g (length nodes) true) ≡ unless_refused J.Refused (judged g) (answer (nodes_judged g (length nodes)))
-      go (Refused r) e = ap answer (many_group g (length nodes) true r e) ∙ ap (λ (v : Verdict). unless_refused J.Refused v (answer (nodes_judged g (length nodes)))) (sym e)
-      go Accepted e =
+      go : (v : Result ⊤ Refusal) → judged g ≡ v → answer (many_verdict g (length nodes) true) ≡ unless_refused Err (judged g) (answer (nodes_judged g (length nodes)))
+      go (Err r) e = ap answer (many_group g (length nodes) true r e) ∙ ap (λ (v : Result ⊤ Refusal). unless_refused Err v (answer (nodes_judged g (length nodes)))) (sym e)
+      go (Ok tt) e =
           ap answer (many_accepted g (length nodes) true e ∙ many_nodes g (length nodes) true refl)
-          ∙ ap (λ (v : Verdict). unless_refused J.Refused v (answer (nodes_judged g (length nodes)))) (sym e)
+          ∙ ap (λ (v : Result ⊤ Refusal). unless_refused Err v (answer (nodes_judged g (length nodes)))) (sym e)
 
-  pub call_refused : (r : Refusal) → many_verdict g (length nodes) true ≡ Refused r → J.Refused r ≡ log_judged g nodes log
+  pub call_refused : (r : Refusal) → many_verdict g (length nodes) true ≡ Err r → Err r ≡ log_judged g nodes log
   call_refused r e = ap answer (sym e) ∙ log_answer_lem
 
-  pub call_accepted : many_verdict g (length nodes) true ≡ Accepted → J.Judged (log_fault g nodes log) ≡ log_judged g nodes log
+  pub call_accepted : many_verdict g (length nodes) true ≡ Ok tt → Ok (log_fault g nodes log) ≡ log_judged g nodes log
   call_accepted e = ap answer (sym e) ∙ log_answer_lem
 
 -- a record that was stored is answered as it was
 pub log_stored : (g : Group) → MachineGroup g → (nodes : List ℤ) (log : List ℕ) → log_judged (group_of_words (numbers_of g)) nodes log ≡ log_judged g nodes log
 unfolding log_judged
-log_stored g h nodes log = stored_told g h J.Refused (λ x. unless_refused J.Refused (nodes_judged x (length nodes)) (J.Judged (log_fault x nodes log)))
+log_stored g h nodes log = stored_told g h Err (λ x. unless_refused Err (nodes_judged x (length nodes)) (Ok (log_fault x nodes log)))

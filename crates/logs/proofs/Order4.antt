@@ -12,29 +12,25 @@ use Rattle.text.proofs.PartLaws.{lacks_free, free_lacks}
 use Rattle.group.specs.declared.Group.{Group}
 use Rattle.group.specs.declared.Position.{Position}
 use Rattle.group.specs.declared.Refusal.{Refusal}
-use Rattle.group.specs.declared.Verdict.{Verdict}
-use Rattle.group.specs.declared.Verdict.TheVariants.{Accepted, Refused}
 use Rattle.group.specs.Refusals.{no_refusal, verdict_refusal, refuse_first, unless_refused}
 use Rattle.group.proofs.RefusalLaws.{verdicts, told_accepted, told_if, told_verdict, no_acceptance, first_past}
 use Rattle.abi.specs.Abi.{joined}
 use Rattle.judge.specs.Judge.{judged}
 use Rattle.judge.proofs.TableLaws.{judged_told}
 use Rattle.fix.specs.declared.Fix.{Fix}
-use Rattle.fix.specs.declared.Lookup.TheVariants as L
 use Rattle.lookup.specs.Lookup.{ends_early, nodes_judged, looked}
 use Rattle.lookup.specs.Demand2.{ShortList, NothingRefused, ◌then◌}
 use Rattle.lookup.proofs.RowLaws.{Single, single_then, single_judged, single_short, single_none, short_stage, judge_stage}
 use Rattle.lookup.proofs.FoundLaws.{found}
 use Rattle.exercise.specs.Exercise.{point_at}
 use Rattle.logs.specs.declared.Fault.{Fault}
-use Rattle.logs.specs.declared.Judgement.{Judgement}
-use Rattle.logs.specs.declared.Judgement.TheVariants as J
 use Rattle.logs.specs.Line.{entry_text, line_kind}
 use Rattle.logs.specs.Log.{fault, no_fault, log_fault, log_judged, judgement_refusal, judgement_fault}
 use Rattle.logs.specs.Order4.{LineIs, LineJudged, AllPass, LogPasses, FirstBad, RefusesLog, LogJudged, OneLine, Ended, later, line_count, InParts, OwnLine, LineWritten, OwnLines}
 use Rattle.logs.proofs.KindLaws.{line_exactly, pass_free}
 use Rattle.logs.proofs.FaultLaws.{found_in, Pass, Bad, one_closed, passed_lines, lines_pass, failed_line, line_fails, parts_good, parts_bad}
 use Rattle.logs.proofs.OwnLaws.{own_writing, written_own, written_fix}
+use Rattle.std.specs.Prelude.{Result, Ok, Err, ⊤}
 
 pub line_judged : (g : Group) (nodes : List ℤ) (line : List ℕ) → LineJudged g nodes line
 line_judged = line_exactly
@@ -42,39 +38,39 @@ line_judged = line_exactly
 -- ---- the call itself
 
 -- the fault, unless one of two verdicts refuses
-abbrev called : Verdict → Verdict → Fault → Judgement
-called v w f = unless_refused J.Refused v (unless_refused J.Refused w (J.Judged f))
+abbrev called : Result ⊤ Refusal → Result ⊤ Refusal → Fault → Result Fault Refusal
+called v w f = unless_refused Err v (unless_refused Err w (Ok f))
 
-called_refusal : (v w : Verdict) (f : Fault) → judgement_refusal (called v w f) ≡ verdict_refusal (unless_refused Refused v w)
-called_refusal (Refused r) w f = refl
-called_refusal Accepted (Refused r) f = refl
-called_refusal Accepted Accepted f = refl
+called_refusal : (v w : Result ⊤ Refusal) (f : Fault) → judgement_refusal (called v w f) ≡ verdict_refusal (unless_refused Err v w)
+called_refusal (Err r) w f = refl
+called_refusal (Ok tt) (Err r) f = refl
+called_refusal (Ok tt) (Ok tt) f = refl
 
-called_fault : (v w : Verdict) (f : Fault) → unless_refused Refused v w ≡ Accepted → judgement_fault (called v w f) ≡ f
-called_fault (Refused r) w f h = absurd (no_acceptance r h)
-called_fault Accepted (Refused r) f h = absurd (no_acceptance r h)
-called_fault Accepted Accepted f h = refl
+called_fault : (v w : Result ⊤ Refusal) (f : Fault) → unless_refused Err v w ≡ Ok tt → judgement_fault (called v w f) ≡ f
+called_fault (Err r) w f h = absurd (no_acceptance r h)
+called_fault (Ok tt) (Err r) f h = absurd (no_acceptance r h)
+called_fault (Ok tt) (Ok tt) f h = refl
 
-called_zeros : (v w : Verdict) (f : Fault) → (judgement_refusal (called v w f) ≡ no_refusal → ⊥) → judgement_fault (called v w f) ≡ no_fault
-called_zeros (Refused r) w f h = refl
-called_zeros Accepted (Refused r) f h = refl
-called_zeros Accepted Accepted f h = absurd (h refl)
+called_zeros : (v w : Result ⊤ Refusal) (f : Fault) → (judgement_refusal (called v w f) ≡ no_refusal → ⊥) → judgement_fault (called v w f) ≡ no_fault
+called_zeros (Err r) w f h = refl
+called_zeros (Ok tt) (Err r) f h = refl
+called_zeros (Ok tt) (Ok tt) f h = absurd (h refl)
 
 module _ (g : Group) (nodes : List ℤ) where
-  abbrev verdict : Verdict
-  verdict = unless_refused Refused (judged g) (nodes_judged g (length nodes))
+  abbrev verdict : Result ⊤ Refusal
+  verdict = unless_refused Err (judged g) (nodes_judged g (length nodes))
 
   stands : RefusesLog g nodes (verdict_refusal verdict)
   unfolding RefusesLog nodes_judged
   stands =
-      judge_stage Refused verdict_refusal (λ r. refl) (ShortList g nodes then NothingRefused) g (nodes_judged g (length nodes))
-      (λ a. short_stage Refused verdict_refusal (λ r. refl) NothingRefused g nodes Accepted (λ b. refl))
+      judge_stage Err verdict_refusal (λ r. refl) (ShortList g nodes then NothingRefused) g (nodes_judged g (length nodes))
+      (λ a. short_stage Err verdict_refusal (λ r. refl) NothingRefused g nodes (Ok tt) (λ b. refl))
 
   in_one_way : Single (RefusesLog g nodes)
   unfolding RefusesLog
   in_one_way = single_then _ _ (single_judged g) (single_then _ _ (single_short g nodes) single_none)
 
-  accepted : verdict_refusal verdict ≡ no_refusal → verdict ≡ Accepted
+  accepted : verdict_refusal verdict ≡ no_refusal → verdict ≡ Ok tt
   unfolding nodes_judged refuse_first
   accepted h = (told_verdict verdicts (judged g) (judged_told g) (told_if verdicts _ 13 _ refl (told_accepted refl))).zero (ap (λ (r : Refusal). r.number) h)
 
@@ -177,17 +173,17 @@ one_line g nodes line f h = fault_is g nodes (line ++ 10 ∷ []) h ∙ one_close
 
 -- ---- in parts
 
-called_good : (v w : Verdict) (a b c : Fault) (n : ℕ) → (a ≡ no_fault → c ≡ later n b) → judgement_fault (called v w a) ≡ no_fault
+called_good : (v w : Result ⊤ Refusal) (a b c : Fault) (n : ℕ) → (a ≡ no_fault → c ≡ later n b) → judgement_fault (called v w a) ≡ no_fault
     → judgement_fault (called v w c) ≡ later n (judgement_fault (called v w b))
-called_good (Refused r) w a b c n f h = refl
-called_good Accepted (Refused r) a b c n f h = refl
-called_good Accepted Accepted a b c n f h = f h
+called_good (Err r) w a b c n f h = refl
+called_good (Ok tt) (Err r) a b c n f h = refl
+called_good (Ok tt) (Ok tt) a b c n f h = f h
 
-called_bad : (v w : Verdict) (a c : Fault) → ((a ≡ no_fault → ⊥) → c ≡ a) → (judgement_fault (called v w a) ≡ no_fault → ⊥)
+called_bad : (v w : Result ⊤ Refusal) (a c : Fault) → ((a ≡ no_fault → ⊥) → c ≡ a) → (judgement_fault (called v w a) ≡ no_fault → ⊥)
     → judgement_fault (called v w c) ≡ judgement_fault (called v w a)
-called_bad (Refused r) w a c f h = refl
-called_bad Accepted (Refused r) a c f h = refl
-called_bad Accepted Accepted a c f h = f h
+called_bad (Err r) w a c f h = refl
+called_bad (Ok tt) (Err r) a c f h = refl
+called_bad (Ok tt) (Ok tt) a c f h = f h
 
 pub in_parts : (g : Group) (nodes : List ℤ) (a b : List ℕ) → InParts g nodes a b
 unfolding log_judged log_fault
@@ -203,10 +199,10 @@ in_parts g nodes a b =
 pub line_written_lem : (g : Group) (nodes : List ℤ) (p : Position) (out : List ℕ) → LineWritten g nodes p out
 line_written_lem = own_writing
 
-called_passed : (v w : Verdict) (f : Fault) → f ≡ no_fault → judgement_fault (called v w f) ≡ no_fault
-called_passed (Refused r) w f h = refl
-called_passed Accepted (Refused r) f h = refl
-called_passed Accepted Accepted f h = h
+called_passed : (v w : Result ⊤ Refusal) (f : Fault) → f ≡ no_fault → judgement_fault (called v w f) ≡ no_fault
+called_passed (Err r) w f h = refl
+called_passed (Ok tt) (Err r) f h = refl
+called_passed (Ok tt) (Ok tt) f h = h
 
 module _ (g : Group) (nodes : List ℤ) where
   -- a line of ours passes, alone and behind what passes
@@ -231,12 +227,12 @@ module _ (g : Group) (nodes : List ℤ) where
             ∙ ap (later (line_count (joined text n))) (own_passes o.0 (text n) o.1),
       )
 
-  found_verdict : (p : Position) (f : Fix) → looked g nodes (point_at p) p.day ≡ L.Fix f → verdict g nodes ≡ Accepted
+  found_verdict : (p : Position) (f : Fix) → looked g nodes (point_at p) p.day ≡ Ok f → verdict g nodes ≡ Ok tt
   unfolding nodes_judged
   found_verdict p f h =
       let w = (found g nodes (point_at p) p.day f h).ready in
-      ap (λ (v : Verdict). unless_refused Refused v (nodes_judged g (length nodes))) w.accepted
-      ∙ first_past Refused (ends_early g (length nodes)) g.grids 13 1 Accepted w.ends
+      ap (λ (v : Result ⊤ Refusal). unless_refused Err v (nodes_judged g (length nodes))) w.accepted
+      ∙ first_past Err (ends_early g (length nodes)) g.grids 13 1 (Ok tt) w.ends
 
 pub own_lines : (g : Group) (nodes : List ℤ) → OwnLines g nodes
 unfolding log_judged

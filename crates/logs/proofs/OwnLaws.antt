@@ -21,16 +21,12 @@ use Rattle.line.proofs.KindLaws.{grid_name_lem}
 use Rattle.abi.specs.Abi.{list_of}
 use Rattle.abi.proofs.ListLaws.{length_list_of, get_or_list_of, list_of_is}
 use Rattle.fix.specs.declared.Fix.{Fix}
-use Rattle.fix.specs.declared.Lookup.{Lookup}
-use Rattle.fix.specs.declared.Lookup.TheVariants as L
 use Rattle.fix.specs.Answers.{lookup_refusal, lookup_grid, result_in, results_of}
 use Rattle.lookup.specs.Lookup.{looked}
 use Rattle.lookup.specs.Demand2.{TableRow, NothingRefused, ◌then◌}
 use Rattle.lookup.proofs.RowLaws.{Single, single_then, single_row, single_none}
 use Rattle.lookup.proofs.RefusedLaws.{refused_exactly}
 use Rattle.exercise.specs.Exercise.{point_at}
-use Rattle.header.specs.declared.Written.{Written}
-use Rattle.header.specs.declared.Written.TheVariants as W
 use Rattle.header.specs.Header.{written_refusal, written_count}
 use Rattle.header.proofs.Demand2.{put_front}
 use Rattle.logs.specs.Line.{entry_text, grid_name}
@@ -39,10 +35,11 @@ use Rattle.logs.specs.Order4.{found_for, LookupRefuses, written_bytes, OwnLine, 
 use Rattle.logs.proofs.LengthLaws.{fix_found, text_most}
 use Rattle.logs.proofs.WrittenLaws.{fix_short, fix_count, lookup_refused}
 use Rattle.logs.proofs.KindLaws.{refused_some, the_grid}
+use Rattle.std.specs.Prelude.{Result, Ok, Err}
 
 -- ---- the line of a fix
 
-module _ (g : Group) (nodes : List ℤ) (p : Position) (f : Fix) (h : looked g nodes (point_at p) p.day ≡ L.Fix f) where
+module _ (g : Group) (nodes : List ℤ) (p : Position) (f : Fix) (h : looked g nodes (point_at p) p.day ≡ Ok f) where
   name_good : is_name (grid_name g f.grid) ≡ true
   name_good =
       let w = fix_found g nodes p f h in
@@ -62,7 +59,7 @@ module _ (g : Group) (nodes : List ℤ) (p : Position) (f : Fix) (h : looked g n
         says = record { text = refl; name = name_good; values = length_list_of (result_in f) g.parameters };
         accepted = ap lookup_refusal h;
         named = (f.grid - 1, ap lookup_grid h ∙ k, refl);
-        equal = λ q l. get_or_list_of (result_in f) g.parameters q (pos 0) l ∙ ap (λ (r : Lookup). results_of r q) (sym h);
+        equal = λ q l. get_or_list_of (result_in f) g.parameters q (pos 0) l ∙ ap (λ (r : Result Fix Refusal). results_of r q) (sym h);
       }
 
   -- and it is the only one
@@ -70,31 +67,31 @@ module _ (g : Group) (nodes : List ℤ) (p : Position) (f : Fix) (h : looked g n
   unfolding line_text
   only_line line o =
       let e = o.e in
-      let t : found_for g nodes e ≡ L.Fix f = ap (λ (x : Position). looked g nodes (point_at x) x.day) o.at ∙ h in
+      let t : found_for g nodes e ≡ Ok f = ap (λ (x : Position). looked g nodes (point_at x) x.day) o.at ∙ h in
       let n : e.name ≡ grid_name g f.grid = o.named.2 ∙ sym (the_grid g nodes e f t o.named.0 o.named.1) in
       let s : list_of (result_in f) g.parameters ≡ e.shifts
-      = list_of_is (result_in f) (pos 0) g.parameters e.shifts o.says.values (λ q l. sym (o.equal q l ∙ ap (λ (r : Lookup). results_of r q) t)) in
+      = list_of_is (result_in f) (pos 0) g.parameters e.shifts o.says.values (λ q l. sym (o.equal q l ∙ ap (λ (r : Result Fix Refusal). results_of r q) t)) in
       o.bytes_are ∙ (λ i. entry_text (record { position = o.at i; name = n i; shifts = sym s i }) ++ 10 ∷ [])
 
 -- ---- what writing it comes to
 
 data Outcome (g : Group) (nodes : List ℤ) (p : Position) (out : List ℕ) : Type 0 where
-  refusing : (r : Refusal) → looked g nodes (point_at p) p.day ≡ L.Refused r → line_written g nodes p (length out) ≡ W.Refused r → line_after g nodes p out ≡ out
+  refusing : (r : Refusal) → looked g nodes (point_at p) p.day ≡ Err r → line_written g nodes p (length out) ≡ Err r → line_after g nodes p out ≡ out
       → Outcome g nodes p out
-  short : (f : Fix) → looked g nodes (point_at p) p.day ≡ L.Fix f → length out < length (line_text g p f)
-      → line_written g nodes p (length out) ≡ W.Refused (refusal 12 0) → line_after g nodes p out ≡ out → Outcome g nodes p out
-  whole : (f : Fix) → looked g nodes (point_at p) p.day ≡ L.Fix f → length (line_text g p f) ≤ length out
-      → line_written g nodes p (length out) ≡ W.Count (length (line_text g p f)) → line_after g nodes p out ≡ put 0 (line_text g p f) out → Outcome g nodes p out
+  short : (f : Fix) → looked g nodes (point_at p) p.day ≡ Ok f → length out < length (line_text g p f)
+      → line_written g nodes p (length out) ≡ Err (refusal 12 0) → line_after g nodes p out ≡ out → Outcome g nodes p out
+  whole : (f : Fix) → looked g nodes (point_at p) p.day ≡ Ok f → length (line_text g p f) ≤ length out
+      → line_written g nodes p (length out) ≡ Ok (length (line_text g p f)) → line_after g nodes p out ≡ put 0 (line_text g p f) out → Outcome g nodes p out
 
 outcome : (g : Group) (nodes : List ℤ) (p : Position) (out : List ℕ) → Outcome g nodes p out
 unfolding line_written line_after
 outcome g nodes p out = go (looked g nodes (point_at p) p.day) refl
   where
-    go : (l : Lookup) → looked g nodes (point_at p) p.day ≡ l → Outcome g nodes p out
-    go (L.Refused r) h = let w = lookup_refused g nodes p r h out in refusing r h (sym w.0) (sym w.1)
-    go (L.Fix f) h =
+    go : (l : Result Fix Refusal) → looked g nodes (point_at p) p.day ≡ l → Outcome g nodes p out
+    go (Err r) h = let w = lookup_refused g nodes p r h out in refusing r h (sym w.0) (sym w.1)
+    go (Ok f) h =
         let a = ap (found_written g p (length out)) h in
-        let b = ap (λ (l : Lookup). found_after g p l out) h in
+        let b = ap (λ (l : Result Fix Refusal). found_after g p l out) h in
         elim (dec_lt (length out) (length (line_text g p f))) [
           | yes l ↦ let w = fix_short g p f out l in short f h l (a ∙ sym w.0) (b ∙ sym w.1)
           | no l ↦
@@ -112,7 +109,7 @@ module _ (g : Group) (nodes : List ℤ) (p : Position) (out : List ℕ) where
   RefusesLine = LookupRefuses g nodes p then TableRow 12 TooShort then NothingRefused
 
   -- an accepted lookup refuses nothing
-  none_refused : (f : Fix) → looked g nodes (point_at p) p.day ≡ L.Fix f → (r : Refusal) → LookupRefuses g nodes p r → ⊥
+  none_refused : (f : Fix) → looked g nodes (point_at p) p.day ≡ Ok f → (r : Refusal) → LookupRefuses g nodes p r → ⊥
   none_refused f h r w = w.1 (sym ((refused_exactly g nodes (point_at p) p.day r).1 w.0) ∙ ap lookup_refusal h)
 
   stands : Outcome g nodes p out → RefusesLine (written_refusal (line_written g nodes p (length out)))
@@ -138,7 +135,7 @@ module _ (g : Group) (nodes : List ℤ) (p : Position) (out : List ℕ) where
 
   -- an accepted writing
   wrote : Outcome g nodes p out → written_refusal (line_written g nodes p (length out)) ≡ no_refusal
-      → (f : Fix) × (looked g nodes (point_at p) p.day ≡ L.Fix f) × (line_written g nodes p (length out) ≡ W.Count (length (line_text g p f)))
+      → (f : Fix) × (looked g nodes (point_at p) p.day ≡ Ok f) × (line_written g nodes p (length out) ≡ Ok (length (line_text g p f)))
       × (line_after g nodes p out ≡ put 0 (line_text g p f) out)
   wrote (refusing r h w a) z = absurd (refused_some g nodes p r h (sym (ap written_refusal w) ∙ z))
   wrote (short f h l w a) z = absurd (let q = ap (λ (r : Refusal). r.number) (sym (ap written_refusal w) ∙ z) in omega arith)
@@ -153,7 +150,7 @@ module _ (g : Group) (nodes : List ℤ) (p : Position) (out : List ℕ) where
     abbrev text : List ℕ
     text = line_text g p (wrote (outcome g nodes p out) z).0
 
-    pub written_fix : (f : Fix) × (looked g nodes (point_at p) p.day ≡ L.Fix f)
+    pub written_fix : (f : Fix) × (looked g nodes (point_at p) p.day ≡ Ok f)
     written_fix = let w = wrote (outcome g nodes p out) z in (w.0, w.1)
 
     written_text : written_bytes g nodes p out ≡ text
@@ -173,7 +170,7 @@ module _ (g : Group) (nodes : List ℤ) (p : Position) (out : List ℕ) where
     written_behind : drop (written_count (line_written g nodes p (length out))) (line_after g nodes p out) ≡ drop (written_count (line_written g nodes p (length out))) out
     written_behind =
         let w = wrote (outcome g nodes p out) z in
-        (λ i. drop (written_count (w.2 i)) (w.3 i)) ∙ (put_front text out).behind ∙ ap (λ (x : Written). drop (written_count x) out) (sym w.2)
+        (λ i. drop (written_count (w.2 i)) (w.3 i)) ∙ (put_front text out).behind ∙ ap (λ (x : Result ℕ Refusal). drop (written_count x) out) (sym w.2)
 
   -- ---- its length
 

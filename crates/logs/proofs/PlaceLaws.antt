@@ -12,13 +12,13 @@ use Rattle.text.specs.Number.{number_most, clamp}
 use Rattle.text.proofs.FieldLaws.{clamp_id}
 use Rattle.group.specs.declared.Group.{Group}
 use Rattle.group.specs.declared.Point.{Point}
-use Rattle.group.specs.declared.Verdict.{Verdict}
-use Rattle.group.specs.declared.Verdict.TheVariants.{Accepted, Refused}
 use Rattle.group.specs.Numbers.{lon_most, lat_most, day_most, lon_admitted, lat_admitted, day_fits}
 use Rattle.group.specs.Shapes.{int_at}
 use Rattle.judge.specs.Judge.{judged}
 use Rattle.lookup.specs.Lookup.{point_fits, looked_in, looked}
 use Rattle.lookup.proofs.StageLaws.{looked_group, looked_accepted, looked_6, looked_9}
+use Rattle.std.specs.Prelude.{Result, Ok, Err, ⊤}
+use Rattle.group.specs.declared.Refusal.{Refusal}
 
 -- number k of a list whose numbers are told apart
 pub clamp_at : (zs : List ℤ) (k : ℕ) → int_at (map clamp zs) k ≡ clamp (int_at zs k)
@@ -64,7 +64,7 @@ module _ (g : Group) (nodes : List ℤ) (x y t : ℤ) where
   pub looked_clamped : looked g nodes (point_of (clamp x) (clamp y)) (clamp t) ≡ looked g nodes (point_of x y) t
   looked_clamped = go (judged g) refl
     where
-      go : (v : Verdict) → judged g ≡ v → looked g nodes (point_of (clamp x) (clamp y)) (clamp t) ≡ looked g nodes (point_of x y) t
-      go (Refused r) e = looked_group g nodes (point_of (clamp x) (clamp y)) (clamp t) r e ∙ sym (looked_group g nodes (point_of x y) t r e)
-      go Accepted e =
+      go : (v : Result ⊤ Refusal) → judged g ≡ v → looked g nodes (point_of (clamp x) (clamp y)) (clamp t) ≡ looked g nodes (point_of x y) t
+      go (Err r) e = looked_group g nodes (point_of (clamp x) (clamp y)) (clamp t) r e ∙ sym (looked_group g nodes (point_of x y) t r e)
+      go (Ok tt) e =
           looked_accepted g nodes (point_of (clamp x) (clamp y)) (clamp t) e ∙ in_clamped ∙ sym (looked_accepted g nodes (point_of x y) t e)

@@ -13,38 +13,35 @@ use Rattle.group.proofs.RefusalLaws.{Answers, verdicts, told_accepted, told_by, 
 use Rattle.judge.specs.Judge.{judged}
 use Rattle.judge.proofs.TableLaws.{judged_told}
 use Rattle.fix.specs.declared.Fix.{Fix}
-use Rattle.fix.specs.declared.Lookup.{Lookup}
-use Rattle.fix.specs.declared.Lookup.TheVariants as L
 use Rattle.fix.specs.Answers.{lookup_refusal}
 use Rattle.lookup.specs.Lookup.{nodes_judged, looked}
 use Rattle.lookup.proofs.TableLaws.{looked_told}
 use Rattle.exercise.specs.Exercise.{point_at}
-use Rattle.header.specs.declared.Written.TheVariants as W
 use Rattle.header.specs.Header.{written_refusal}
 use Rattle.header.proofs.TableLaws.{writings}
 use Rattle.logs.specs.declared.Fault.{Fault}
-use Rattle.logs.specs.declared.Judgement.{Judgement}
-use Rattle.logs.specs.declared.Judgement.TheVariants as J
 use Rattle.logs.specs.Log.{log_judged, judgement_refusal}
 use Rattle.logs.specs.Writing.{found_text, found_written, line_written, line_after}
+use Rattle.std.specs.Prelude.{Result, Ok, Err}
+use Rattle.group.specs.declared.Refusal.{Refusal}
 
-judgements : Answers (λ (j : Judgement). (f : Fault) × (j ≡ J.Judged f)) judgement_refusal J.Refused
+judgements : Answers (λ (j : Result Fault Refusal). (f : Fault) × (j ≡ Ok f)) judgement_refusal Err
 judgements = record { back = λ r. refl; never = λ r e. let q = e.1 in let z : ◌≡◌ {A = ℕ} 0 1 = cc in omega arith }
 
-pub log_told : (g : Group) (nodes : List ℤ) (log : List ℕ) → Told ((f : Fault) × (log_judged g nodes log ≡ J.Judged f)) (judgement_refusal (log_judged g nodes log))
+pub log_told : (g : Group) (nodes : List ℤ) (log : List ℕ) → Told ((f : Fault) × (log_judged g nodes log ≡ Ok f)) (judgement_refusal (log_judged g nodes log))
 unfolding log_judged nodes_judged refuse_first
 log_told g nodes log =
     told_verdict judgements (judged g) (judged_told g)
     (told_verdict judgements (nodes_judged g (length nodes)) (told_if verdicts _ 13 _ refl (told_accepted refl)) (told_accepted (_, refl)))
 
 pub line_told : (g : Group) (nodes : List ℤ) (p : Position) (room : ℕ)
-    → Told ((n : ℕ) × (line_written g nodes p room ≡ W.Count n)) (written_refusal (line_written g nodes p room))
+    → Told ((n : ℕ) × (line_written g nodes p room ≡ Ok n)) (written_refusal (line_written g nodes p room))
 unfolding line_written
 line_told g nodes p room = go (looked g nodes (point_at p) p.day) (looked_told g nodes (point_at p) p.day)
   where
-    go : (l : Lookup) → Told ((f : Fix) × (l ≡ L.Fix f)) (lookup_refusal l) → Told ((n : ℕ) × (found_written g p room l ≡ W.Count n)) (written_refusal (found_written g p room l))
-    go (L.Fix f) t = told_if writings _ 12 0 refl (told_accepted (_, refl))
-    go (L.Refused r) t = told_by writings r (t.refused (λ e. let q = e.1 in let z : ◌≡◌ {A = ℕ} 0 1 = cc in omega arith))
+    go : (l : Result Fix Refusal) → Told ((f : Fix) × (l ≡ Ok f)) (lookup_refusal l) → Told ((n : ℕ) × (found_written g p room l ≡ Ok n)) (written_refusal (found_written g p room l))
+    go (Ok f) t = told_if writings _ 12 0 refl (told_accepted (_, refl))
+    go (Err r) t = told_by writings r (t.refused (λ e. let q = e.1 in let z : ◌≡◌ {A = ℕ} 0 1 = cc in omega arith))
 
 -- beside a refusal the output is as it was
 pub line_kept : (g : Group) (nodes : List ℤ) (p : Position) (out : List ℕ) → ((written_refusal (line_written g nodes p (length out))).number ≡ 0 → ⊥) → line_after g nodes p out ≡ out

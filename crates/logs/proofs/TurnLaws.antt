@@ -15,7 +15,6 @@ use Rattle.text.specs.Fields.{same}
 use Rattle.group.specs.declared.Grid.{Grid}
 use Rattle.group.specs.declared.Group.{Group}
 use Rattle.group.specs.declared.Refusal.{Refusal}
-use Rattle.group.specs.declared.Verdict.TheVariants.{Accepted}
 use Rattle.group.specs.Numbers.{name_most, grids_most}
 use Rattle.group.specs.Record.{grid_at}
 use Rattle.group.specs.Shapes.{int_at}
@@ -27,8 +26,6 @@ use Rattle.abi.proofs.EntryLaws.{grid_of_words_lem}
 use Rattle.judge.specs.Judge.{judged}
 use Rattle.judge.proofs.Accepted.{accepted, accepted_head}
 use Rattle.fix.specs.declared.Fix.{Fix}
-use Rattle.fix.specs.declared.Lookup.{Lookup}
-use Rattle.fix.specs.declared.Lookup.TheVariants as L
 use Rattle.fix.specs.Answers.{result_in}
 use Rattle.lookup.specs.Lookup.{looked}
 use Rattle.logs.specs.Line.{form_fault, lookup_fault, grid_fault, shift_fault, grid_name, equal, same_shifts, read_entry, found_kind, entry_kind, line_kind}
@@ -36,6 +33,7 @@ use Rattle.logs.specs.Reading.{Said, FoundIn}
 use Rattle.logs.proofs.EqualLaws.{equal_clamped}
 use Rattle.logs.proofs.PlaceLaws.{clamp_at, point_of, looked_clamped}
 use Rattle.logs.proofs.LengthLaws.{fix_found}
+use Rattle.std.specs.Prelude.{Result, Ok, Err}
 
 -- the results of a fix as a list
 abbrev pub result_list : Fix → List ℤ
@@ -47,12 +45,12 @@ result_at_lem f (suc zero) = refl
 result_at_lem f (suc (suc zero)) = refl
 result_at_lem f (suc (suc (suc q))) = refl
 
-pub kind_refused : (g : Group) (name : List ℕ) (shifts : List ℤ) (l : Lookup) (r : Refusal) → l ≡ L.Refused r → found_kind g name shifts l ≡ lookup_fault
+pub kind_refused : (g : Group) (name : List ℕ) (shifts : List ℤ) (l : Result Fix Refusal) (r : Refusal) → l ≡ Err r → found_kind g name shifts l ≡ lookup_fault
 unfolding found_kind
 kind_refused g name shifts l r e = rw e
 
 -- a fix in an accepted group
-module _ (ns : List ℤ) (l : Lookup) (f : Fix) (e : l ≡ L.Fix f) (h : FoundIn (group_of_words ns) l) where
+module _ (ns : List ℤ) (l : Result Fix Refusal) (f : Fix) (e : l ≡ Ok f) (h : FoundIn (group_of_words ns) l) where
   abbrev g : Group
   g = group_of_words ns
 
@@ -99,7 +97,7 @@ unfolding line_kind
 line_unformed g nodes line e = ap (entry_kind g nodes) e
 
 module _ (g : Group) (nodes : List ℤ) (line cuts : List ℕ) (place values : List ℤ) (s : Said g.parameters line cuts place values) where
-  abbrev at : Lookup
+  abbrev at : Result Fix Refusal
   at = looked g nodes (point_of (number_at place 0) (number_at place 1)) (number_at place 2)
 
   at_is : looked g nodes (point_of (int_at s.zs 0) (int_at s.zs 1)) (int_at s.zs 2) ≡ at
@@ -110,7 +108,7 @@ module _ (g : Group) (nodes : List ℤ) (line cuts : List ℕ) (place values : L
   value_at : (q : ℕ) → q < g.parameters → clamp (int_at s.vs q) ≡ int_at values q
   value_at q l = sym (clamp_at s.vs q) ∙ ap (λ (l : List ℤ). int_at l q) s.valued ∙ get_or-take g.parameters values q (pos 0) l
 
-  shifts_told : (f : Fix) → at ≡ L.Fix f → same_shifts g.parameters s.vs (result_in f) ≡ same_shifts g.parameters values (result_in f)
+  shifts_told : (f : Fix) → at ≡ Ok f → same_shifts g.parameters s.vs (result_in f) ≡ same_shifts g.parameters values (result_in f)
   shifts_told f e =
       ap (λ (n : ℕ). leb g.parameters n)
       (first_same (λ q. not (equal (int_at s.vs q) (result_in f q))) (λ q. not (equal (int_at values q) (result_in f q))) g.parameters
@@ -118,17 +116,17 @@ module _ (g : Group) (nodes : List ℤ) (line cuts : List ℕ) (place values : L
       let m = (fix_found g nodes (record { lon = record { 0 = number_at place 0 }; lat = record { 0 = number_at place 1 }; day = number_at place 2 }) f e).results q in
       ap not (sym (equal_clamped (int_at s.vs q) (result_in f q) (omega arith)) ∙ ap (λ (z : ℤ). equal z (result_in f q)) (value_at q l))))
 
-  found_told : (l : Lookup) → at ≡ l → found_kind g (field_of line 4) s.vs l ≡ found_kind g (field_of line 4) values l
+  found_told : (l : Result Fix Refusal) → at ≡ l → found_kind g (field_of line 4) s.vs l ≡ found_kind g (field_of line 4) values l
   unfolding found_kind
-  found_told (L.Refused r) e = refl
-  found_told (L.Fix f) e = ap (λ (t : Bool). cond (same (field_of line 4) (grid_name g f.grid)) (cond t 0 shift_fault) grid_fault) (shifts_told f e)
+  found_told (Err r) e = refl
+  found_told (Ok f) e = ap (λ (t : Bool). cond (same (field_of line 4) (grid_name g f.grid)) (cond t 0 shift_fault) grid_fault) (shifts_told f e)
 
   pub line_formed : line_kind g nodes line ≡ found_kind g (field_of line 4) values at
   unfolding line_kind
   line_formed = ap (entry_kind g nodes) s.entry ∙ ap (found_kind g (field_of line 4) s.vs) at_is ∙ found_told at refl
 
 -- a fix is in one of an accepted group's grids
-pub found_in : (g : Group) (nodes : List ℤ) (x y t : ℤ) (l : Lookup) → judged g ≡ Accepted → l ≡ looked g nodes (point_of x y) t → FoundIn g l
+pub found_in : (g : Group) (nodes : List ℤ) (x y t : ℤ) (l : Result Fix Refusal) → judged g ≡ Ok tt → l ≡ looked g nodes (point_of x y) t → FoundIn g l
 found_in g nodes x y t l a e =
     record {
       accepted = a;

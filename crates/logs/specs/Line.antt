@@ -1,5 +1,5 @@
 -- A line of a log, `fix` LON LAT DAY GRID V1 .. VNP: its form, what it says, and its verdict by the lookup.
-use Rattle.std.specs.Prelude.{ℕ, ◌+◌, ◌-◌, Bool, cond, ◌&&◌, List, [], ◌∷◌, map, eqb, ℤ, length, get_or, take, drop}
+use Rattle.std.specs.Prelude.{ℕ, ◌+◌, ◌-◌, Bool, cond, ◌&&◌, List, [], ◌∷◌, map, eqb, ℤ, length, get_or, take, drop, Result, Ok, Err}
 use Rattle.std.proofs.Math.Option.{Option, none, some}
 use Rattle.std.specs.Int.Signed.{le_z}
 use Rattle.numbers.specs.First.{every}
@@ -11,11 +11,11 @@ use Rattle.group.specs.declared.Position.{Position}
 use Rattle.group.specs.Record.{grid_at}
 use Rattle.group.specs.Shapes.{int_at}
 use Rattle.line.specs.Names.{is_name, name_text}
-use Rattle.fix.specs.declared.Lookup.{Lookup}
-use Rattle.fix.specs.declared.Lookup.TheVariants as L
 use Rattle.fix.specs.Answers.{result_in}
 use Rattle.lookup.specs.Lookup.{looked}
 use Rattle.exercise.specs.Exercise.{point_at}
+use Rattle.group.specs.declared.Refusal.{Refusal}
+use Rattle.fix.specs.declared.Fix.{Fix}
 
 -- what a line says: a position, a grid's name and the shifts in steps
 pub record Entry : Type 0 where
@@ -79,9 +79,9 @@ abbrev pub same_shifts : ℕ → List ℤ → (ℕ → ℤ) → Bool
 same_shifts np shifts result = every (λ q. equal (int_at shifts q) (result q)) np
 
 -- of a line of the form, which names a grid and shifts, by what the lookup answers: refused, another grid, another shift
-unfoldable pub found_kind : Group → List ℕ → List ℤ → Lookup → ℕ
-found_kind g name shifts (L.Refused r) = lookup_fault
-found_kind g name shifts (L.Fix f) =
+unfoldable pub found_kind : Group → List ℕ → List ℤ → Result Fix Refusal → ℕ
+found_kind g name shifts (Err r) = lookup_fault
+found_kind g name shifts (Ok f) =
     cond (same name (grid_name g f.grid))
     (cond (same_shifts g.parameters shifts (result_in f)) 0 shift_fault)
     grid_fault

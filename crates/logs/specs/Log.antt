@@ -1,5 +1,5 @@
 -- Document 02's order 4, the judge of a log: refusals 2 to 5, then 13; else the first bad line and its kind.
-use Rattle.std.specs.Prelude.{ℕ, suc, cond, List, [], ◌∷◌, eqb, ℤ, length}
+use Rattle.std.specs.Prelude.{ℕ, suc, cond, List, [], ◌∷◌, eqb, ℤ, length, Result, Ok, Err}
 use Rattle.text.specs.Parts.{split}
 use Rattle.group.specs.declared.Group.{Group}
 use Rattle.group.specs.declared.Refusal.{Refusal}
@@ -7,8 +7,6 @@ use Rattle.group.specs.Refusals.{no_refusal, unless_refused}
 use Rattle.judge.specs.Judge.{judged}
 use Rattle.lookup.specs.Lookup.{nodes_judged}
 use Rattle.logs.specs.declared.Fault.{Fault}
-use Rattle.logs.specs.declared.Judgement.{Judgement}
-use Rattle.logs.specs.declared.Judgement.TheVariants as J
 use Rattle.logs.specs.Line.{form_fault, line_kind}
 
 abbrev pub fault : ℕ → ℕ → Fault
@@ -33,17 +31,17 @@ unfoldable pub log_fault : Group → List ℤ → List ℕ → Fault
 log_fault g nodes log = first_fault (line_kind g nodes) 1 (split 10 log)
 
 -- the whole call
-unfoldable pub log_judged : Group → List ℤ → List ℕ → Judgement
+unfoldable pub log_judged : Group → List ℤ → List ℕ → Result Fault Refusal
 log_judged g nodes log =
-    unless_refused J.Refused (judged g)
-    (unless_refused J.Refused (nodes_judged g (length nodes))
-    (J.Judged (log_fault g nodes log)))
+    unless_refused Err (judged g)
+    (unless_refused Err (nodes_judged g (length nodes))
+    (Ok (log_fault g nodes log)))
 
 -- its refusal, and the fault, which is 0 and 0 beside one
-abbrev pub judgement_refusal : Judgement → Refusal
-judgement_refusal (J.Judged f) = no_refusal
-judgement_refusal (J.Refused r) = r
+abbrev pub judgement_refusal : Result Fault Refusal → Refusal
+judgement_refusal (Ok f) = no_refusal
+judgement_refusal (Err r) = r
 
-abbrev pub judgement_fault : Judgement → Fault
-judgement_fault (J.Judged f) = f
-judgement_fault (J.Refused r) = no_fault
+abbrev pub judgement_fault : Result Fault Refusal → Fault
+judgement_fault (Ok f) = f
+judgement_fault (Err r) = no_fault

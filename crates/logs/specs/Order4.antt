@@ -1,6 +1,6 @@
 -- Order 4 of document 02 in its own words, of what judging a log and writing a line answer and leave: exactly when a line passes and which test
 -- it fails first, exactly when a log passes, which line is named, that a log can be judged in parts, and that our own lines pass.
-use Rattle.std.specs.Prelude.{ℕ, zero, suc, ◌+◌, ◌-◌, ◌≤◌, ◌<◌, ◌≡◌, true, cond, List, [], ◌∷◌, ◌++◌, ◌⊎◌, ◌↔◌, eqb, ℤ, length, get_or, take, drop}
+use Rattle.std.specs.Prelude.{ℕ, zero, suc, ◌+◌, ◌-◌, ◌≤◌, ◌<◌, ◌≡◌, true, cond, List, [], ◌∷◌, ◌++◌, ◌⊎◌, ◌↔◌, eqb, ℤ, length, get_or, take, drop, Result}
 use Rattle.text.specs.Parts.{split, Lacks}
 use Rattle.group.specs.declared.Group.{Group}
 use Rattle.group.specs.declared.Position.{Position}
@@ -10,7 +10,6 @@ use Rattle.group.specs.Refusals.{no_refusal}
 use Rattle.group.specs.Shapes.{int_at}
 use Rattle.line.specs.Names.{is_name, name_text}
 use Rattle.abi.specs.Abi.{joined}
-use Rattle.fix.specs.declared.Lookup.{Lookup}
 use Rattle.fix.specs.Answers.{lookup_refusal, lookup_grid, results_of}
 use Rattle.lookup.specs.Lookup.{looked}
 use Rattle.lookup.specs.Demand2.{Refuses, Judged, TableRow, ShortList, NothingRefused, ◌then◌}
@@ -21,6 +20,7 @@ use Rattle.logs.specs.declared.Fault.{Fault}
 use Rattle.logs.specs.Line.{Entry, entry_text, line_kind}
 use Rattle.logs.specs.Log.{fault, no_fault, log_judged, judgement_refusal, judgement_fault}
 use Rattle.logs.specs.Writing.{line_most, line_written, line_after}
+use Rattle.fix.specs.declared.Fix.{Fix}
 
 -- ---- a line
 
@@ -32,7 +32,7 @@ pub record Says (np : ℕ) (line : List ℕ) (e : Entry) : Type 0 where
   pub values : length e.shifts ≡ np
 
 -- the lookup of its position on its day
-abbrev pub found_for : Group → List ℤ → Entry → Lookup
+abbrev pub found_for : Group → List ℤ → Entry → Result Fix Refusal
 found_for g nodes e = looked g nodes (point_at e.position) e.position.day
 
 -- 'the lookup is accepted'

@@ -1,5 +1,5 @@
 -- What the inner functions of the judge and of the writer answer, and may rely on.
-use Rattle.std.specs.Prelude.{ℕ, ◌≤◌, ◌<◌, ◌≡◌, Bool, true, false, List, map, ℤ, nat_abs, take}
+use Rattle.std.specs.Prelude.{ℕ, ◌≤◌, ◌<◌, ◌≡◌, Bool, true, false, List, map, ℤ, nat_abs, take, Result, Ok}
 use Rattle.std.proofs.Math.Option.{none, some}
 use Rattle.text.specs.Parts.{field_of}
 use Rattle.text.specs.Cuts.{Cut}
@@ -7,16 +7,14 @@ use Rattle.text.specs.Number.{clamp}
 use Rattle.group.specs.declared.Group.{Group}
 use Rattle.group.specs.declared.Position.{Position}
 use Rattle.group.specs.Numbers.{lon_most, lat_most, day_most, result_most}
-use Rattle.group.specs.declared.Verdict.TheVariants.{Accepted}
 use Rattle.judge.specs.Judge.{judged}
 use Rattle.fix.specs.declared.Fix.{Fix}
-use Rattle.fix.specs.declared.Lookup.{Lookup}
-use Rattle.fix.specs.declared.Lookup.TheVariants as L
 use Rattle.fix.specs.Answers.{result_in}
 use Rattle.exercise.specs.declared.Scale.{Scale}
 use Rattle.exercise.specs.Tables.{CallReady, scale_for}
 use Rattle.logs.specs.declared.Turn.{Turn}
 use Rattle.logs.specs.Line.{position_of, read_entry, line_kind}
+use Rattle.group.specs.declared.Refusal.{Refusal}
 
 -- what a line of the form says: the numbers of its position and its shifts, and its name's field
 pub record Said (np : ℕ) (line cuts : List ℕ) (place values : List ℤ) : Type 0 where
@@ -32,9 +30,9 @@ pub record EntryRead (np : ℕ) (line : List ℕ) (r : Bool) (cuts : List ℕ) (
   pub bad : r ≡ false → read_entry np line ≡ none
 
 -- an accepted group, and a fix in one of its grids
-pub record FoundIn (g : Group) (l : Lookup) : Type 0 where
-  pub accepted : judged g ≡ Accepted
-  pub grid : (f : Fix) → l ≡ L.Fix f → (0 < f.grid) × (f.grid ≤ g.grids)
+pub record FoundIn (g : Group) (l : Result Fix Refusal) : Type 0 where
+  pub accepted : judged g ≡ Ok tt
+  pub grid : (f : Fix) → l ≡ Ok f → (0 < f.grid) × (f.grid ≤ g.grids)
 
 -- the scale of a day is that of its group
 abbrev pub Scaled : Group → Scale → Type 0
@@ -51,7 +49,7 @@ pub record TurnTaken (g : Group) (nodes : List ℤ) (line : List ℕ) (t : Turn)
 
 -- what the writer of a fix may rely on: its grid is one of an accepted group's, and no number is longer than a lookup's can be
 pub record FixFound (g : Group) (p : Position) (f : Fix) : Type 0 where
-  pub accepted : judged g ≡ Accepted
+  pub accepted : judged g ≡ Ok tt
   pub some : 0 < f.grid
   pub among : f.grid ≤ g.grids
   pub lon : nat_abs p.lon.0 ≤ lon_most

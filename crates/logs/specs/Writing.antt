@@ -1,20 +1,17 @@
 -- Document 02's order 4, our own writer: the one line of a position, refused as the lookup is, then by 12.
-use Rattle.std.specs.Prelude.{ℕ, List, [], ◌∷◌, ◌++◌, ltb, ℤ, length}
+use Rattle.std.specs.Prelude.{ℕ, List, [], ◌∷◌, ◌++◌, ltb, ℤ, length, Result, Ok, Err}
 use Rattle.text.specs.Put.{put}
 use Rattle.group.specs.declared.Group.{Group}
 use Rattle.group.specs.declared.Position.{Position}
 use Rattle.group.specs.Refusals.{refuse_if, lent_after}
 use Rattle.abi.specs.Abi.{list_of}
 use Rattle.fix.specs.declared.Fix.{Fix}
-use Rattle.fix.specs.declared.Lookup.{Lookup}
-use Rattle.fix.specs.declared.Lookup.TheVariants as L
 use Rattle.fix.specs.Answers.{result_in}
 use Rattle.lookup.specs.Lookup.{looked}
 use Rattle.exercise.specs.Exercise.{point_at}
-use Rattle.header.specs.declared.Written.{Written}
-use Rattle.header.specs.declared.Written.TheVariants as W
 use Rattle.header.specs.Header.{written_refusal}
 use Rattle.logs.specs.Line.{Entry, entry_text, grid_name}
+use Rattle.group.specs.declared.Refusal.{Refusal}
 
 -- what the lookup says of a position
 abbrev pub entry_found : Group → Position → Fix → Entry
@@ -29,21 +26,21 @@ abbrev pub line_most : ℕ
 line_most = 102
 
 -- the bytes of a lookup's line, none beside a refusal
-abbrev pub found_text : Group → Position → Lookup → List ℕ
-found_text g p (L.Fix f) = line_text g p f
-found_text g p (L.Refused r) = []
+abbrev pub found_text : Group → Position → Result Fix Refusal → List ℕ
+found_text g p (Ok f) = line_text g p f
+found_text g p (Err r) = []
 
 -- the lookup's refusal, then 12, else the count of bytes
-abbrev pub found_written : Group → Position → (room : ℕ) → Lookup → Written
-found_written g p room (L.Refused r) = W.Refused r
-found_written g p room (L.Fix f) = refuse_if W.Refused (ltb room (length (line_text g p f))) 12 0 (W.Count (length (line_text g p f)))
+abbrev pub found_written : Group → Position → (room : ℕ) → Result Fix Refusal → Result ℕ Refusal
+found_written g p room (Err r) = Err r
+found_written g p room (Ok f) = refuse_if Err (ltb room (length (line_text g p f))) 12 0 (Ok (length (line_text g p f)))
 
 -- what the lent bytes are then: the line from the first on, and all behind it as it was; after a refusal all is as it was
-abbrev pub found_after : Group → Position → Lookup → List ℕ → List ℕ
+abbrev pub found_after : Group → Position → Result Fix Refusal → List ℕ → List ℕ
 found_after g p found out = lent_after (written_refusal (found_written g p (length out) found)) (put 0 (found_text g p found) out) out
 
 -- of the lookup of the position on its day
-unfoldable pub line_written : Group → List ℤ → Position → (room : ℕ) → Written
+unfoldable pub line_written : Group → List ℤ → Position → (room : ℕ) → Result ℕ Refusal
 line_written g nodes p room = found_written g p room (looked g nodes (point_at p) p.day)
 
 unfoldable pub line_after : Group → List ℤ → Position → List ℕ → List ℕ

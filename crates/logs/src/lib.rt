@@ -1,7 +1,7 @@
 // Logs: the judge of other people's, and the writer of our own lines.
 #![tactic(auto)]
 
-ghost use Rattle.std.specs.Prelude.{◌≡◌, map, ◌+◌, ◌≤◌, ◌<◌, length, take, drop};
+ghost use Rattle.std.specs.Prelude.{◌≡◌, map, ◌+◌, ◌≤◌, ◌<◌, length, take, drop, Ok};
 ghost use Rattle.text.specs.Parts.{split, led};
 ghost use Rattle.text.specs.Cuts.{fields_most, Cuts};
 ghost use Rattle.text.specs.Decimal.{int_text};
@@ -19,9 +19,8 @@ ghost use Rattle.logs.specs.Reading.{EntryRead, FoundIn, TurnReady, TurnTaken, F
 
 use abi::GROUP_WORDS;
 use exercise::{Scale, TABLE_WORDS};
-use fix::{Fix, Lookup};
-use group::{Group, Latitude, Longitude, Point, Position, Refusal, Verdict};
-use header::Written;
+use fix::Fix;
+use group::{Group, Latitude, Longitude, Point, Position, Refusal};
 use line::Form;
 use text::CUTS;
 
@@ -30,13 +29,6 @@ use text::CUTS;
 pub struct Fault {
     pub line: u64,
     pub kind: u64,
-}
-
-// What judging a log answers: the fault, or the refusal.
-#[derive(Clone, Copy)]
-pub enum Judgement {
-    Judged(Fault),
-    Refused(Refusal),
 }
 
 // A line that was judged: its kind, 0 if it passes, and the scale of the day last looked up.
@@ -128,11 +120,11 @@ fn same_shifts(shifts: &[i64], results: &[i64], n: usize) -> bool
 }
 
 // The kind of a line that names a grid and shifts, by what the lookup of its position answers.
-fn kind_of(words: &[i64; GROUP_WORDS], found: Lookup, name: &[u8], shifts: &[i64]) -> u64
+fn kind_of(words: &[i64; GROUP_WORDS], found: Result<Fix, Refusal>, name: &[u8], shifts: &[i64]) -> u64
     requires { FoundIn (group_of_words words.now) found × (length shifts.now ≡ parameters_most) }
     ensures { result ≡ found_kind (group_of_words words.now) name.now shifts.now found }
 {
-    let Lookup::Fix(f) = found else {
+    let Ok(f) = found else {
         return LOOKUP;
     };
     let k = (f.grid - 1) as usize;
@@ -153,18 +145,18 @@ fn look_at(
     nodes: &[i32],
     scale: Scale,
     point: Point,
-) -> Lookup
+) -> Result<Fix, Refusal>
     requires { TurnReady (group_of_words words.now) (length nodes.now) tables.now scale }
     ensures { result ≡ looked (group_of_words words.now) nodes.now point scale.day }
 {
     if !lookup::point_fits(point) {
-        return Lookup::Refused(Refusal {
+        return Err(Refusal {
             number: 6,
             place: 0,
         });
     }
     if !lookup::day_fits(scale.day) {
-        return Lookup::Refused(Refusal {
+        return Err(Refusal {
             number: 9,
             place: 0,
         });
@@ -256,14 +248,14 @@ fn judge_lines(
 }
 
 // `judge_log` over a group handed over as a list of numbers.
-pub fn log_words(words: &[i64; GROUP_WORDS], nodes: &[i32], log: &[u8]) -> Judgement
+pub fn log_words(words: &[i64; GROUP_WORDS], nodes: &[i32], log: &[u8]) -> Result<Fault, Refusal>
     ensures { result ≡ log_judged (group_of_words words.now) nodes.now log.now }
 {
     let mut tables = [0u64; TABLE_WORDS];
     let verdict = exercise::judge_call(words, nodes.len(), true, &mut tables);
     match verdict {
-        Verdict::Refused(r) => Judgement::Refused(r),
-        Verdict::Accepted => Judgement::Judged(judge_lines(words, &tables, nodes, log)),
+        Err(r) => Err(r),
+        Ok(()) => Ok(judge_lines(words, &tables, nodes, log)),
     }
 }
 
@@ -271,7 +263,7 @@ pub fn log_words(words: &[i64; GROUP_WORDS], nodes: &[i32], log: &[u8]) -> Judge
 // Answers the first bad line, from 1, and its kind: 1 not of this form, 2 the lookup is refused, 3 another grid is chosen, 4 the shifts
 // are others; 0 and 0 if the log passes, as an empty one does. Refusals 2 to 5 (the group), then 13 (the node list ends before some
 // grid's range does). With document 01's grid `basin` and no functions, `fix 5 5 0 basin 55` passes, with tabs for the spaces.
-pub fn judge_log(group: Group, nodes: &[i32], log: &[u8]) -> Judgement
+pub fn judge_log(group: Group, nodes: &[i32], log: &[u8]) -> Result<Fault, Refusal>
     ensures { result ≡ log_judged group nodes.now log.now }
 {
     let words = abi::numbers_of(group);
@@ -296,21 +288,21 @@ fn put_line(words: &[i64; GROUP_WORDS], position: Position, f: Fix, out: &mut [u
 }
 
 // Writes the line of a fix, or nothing where the output is too short for it.
-fn write_fix(words: &[i64; GROUP_WORDS], position: Position, f: Fix, out: &mut [u8]) -> Written
+fn write_fix(words: &[i64; GROUP_WORDS], position: Position, f: Fix, out: &mut [u8]) -> Result<usize, Refusal>
     requires { FixFound (group_of_words words.now) position f }
-    ensures answer { result ≡ found_written (group_of_words words.now) position (length out.old) (Lookup.Fix f) }
-    ensures bytes { out.new ≡ found_after (group_of_words words.now) position (Lookup.Fix f) out.old }
+    ensures answer { result ≡ found_written (group_of_words words.now) position (length out.old) (Ok f) }
+    ensures bytes { out.new ≡ found_after (group_of_words words.now) position (Ok f) out.old }
 {
     let mut bytes = [0u8; LINE_MOST];
     let n = put_line(words, position, f, &mut bytes);
     if out.len() < n {
-        return Written::Refused(Refusal {
+        return Err(Refusal {
             number: 12,
             place: 0,
         });
     }
     line::put_front(&bytes, n, out, 0);
-    Written::Count(n)
+    Ok(n)
 }
 
 // `write_log_line` over a group handed over as a list of numbers.
@@ -319,7 +311,7 @@ pub fn line_words(
     nodes: &[i32],
     position: Position,
     out: &mut [u8],
-) -> Written
+) -> Result<usize, Refusal>
     ensures answer { result ≡ line_written (group_of_words words.now) nodes.now position (length out.old) }
     ensures bytes { out.new ≡ line_after (group_of_words words.now) nodes.now position out.old }
 {
@@ -328,15 +320,15 @@ pub fn line_words(
     let point = Point { lon, lat };
     let found = lookup::look_words(words, nodes, point, position.day);
     match found {
-        Lookup::Refused(r) => Written::Refused(r),
-        Lookup::Fix(f) => write_fix(words, position, f, out),
+        Err(r) => Err(r),
+        Ok(f) => write_fix(words, position, f, out),
     }
 }
 
 // Writes the one line of a position, `fix` LON LAT DAY GRID V1 .. VNP with its line feed, and answers the count of bytes, at most 102;
 // what stands behind them stays. Refused as the lookup is, then by 12 if the output is too short; nothing is written then. Under the
 // same group and nodes the line passes `judge_log`.
-pub fn write_log_line(group: Group, nodes: &[i32], position: Position, out: &mut [u8]) -> Written
+pub fn write_log_line(group: Group, nodes: &[i32], position: Position, out: &mut [u8]) -> Result<usize, Refusal>
     ensures answer { result ≡ line_written group nodes.now position (length out.old) }
     ensures bytes { out.new ≡ line_after group nodes.now position out.old }
 {

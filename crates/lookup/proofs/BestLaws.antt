@@ -8,7 +8,6 @@ use Rattle.numbers.proofs.Bools.{and_left, and_right}
 use Rattle.group.specs.Numbers.{lon_admitted, lat_admitted}
 use Rattle.group.specs.declared.Group.{Group}
 use Rattle.group.specs.declared.Point.{Point}
-use Rattle.group.specs.declared.Verdict.TheVariants.{Accepted}
 use Rattle.group.specs.Record.{grid_at}
 use Rattle.extent.specs.Extent.{holds}
 use Rattle.judge.specs.Judge.{judged}
@@ -17,9 +16,10 @@ use Rattle.ingroup.specs.InGroup.{chosen_in}
 use Rattle.choice.proofs.ChoiceLaws.{chosen_best}
 use Rattle.lookup.specs.Lookup.{point_fits}
 use Rattle.lookup.specs.Demand2.{BestGrid}
+use Rattle.std.specs.Prelude.{Ok}
 
 module _ (g : Group) (p : Point) where
-  pub chosen_is_best : judged g ≡ Accepted → point_fits p ≡ true → (k : ℕ) → chosen_in g p.lon.0 p.lat.0 ≡ suc k → BestGrid g p k
+  pub chosen_is_best : judged g ≡ Ok tt → point_fits p ≡ true → (k : ℕ) → chosen_in g p.lon.0 p.lat.0 ≡ suc k → BestGrid g p k
   unfolding chosen_in
   chosen_is_best a f k c =
       let b = chosen_best (λ i. holds (grid_at g i) p.lon.0 p.lat.0) (λ i. (grid_at g i).rank) g.grids k c in

@@ -7,7 +7,6 @@ use Rattle.group.specs.declared.Point.{Point}
 use Rattle.group.specs.declared.Refusal.{Refusal}
 use Rattle.group.specs.Refusals.{no_refusal}
 use Rattle.fix.specs.declared.Fix.{Fix}
-use Rattle.fix.specs.declared.Lookup.TheVariants as L
 use Rattle.fix.specs.Answers.{lookup_refusal}
 use Rattle.lookup.specs.Lookup.{looked}
 use Rattle.lookup.specs.Demand2.{LookedUp, Demand2}
@@ -16,8 +15,9 @@ use Rattle.lookup.proofs.RefusedLaws.{refused_exactly}
 use Rattle.lookup.proofs.FoundLaws.{found}
 use Rattle.lookup.proofs.ResultLaws.{best, answered, at_node, rest_zero}
 use Rattle.lookup.proofs.SameLaws.{same_answer}
+use Rattle.std.specs.Prelude.{Ok}
 
-fix_looked : (g : Group) (nodes : List ℤ) (p : Point) (t : ℤ) (f : Fix) → looked g nodes p t ≡ L.Fix f → LookedUp g nodes p t (L.Fix f)
+fix_looked : (g : Group) (nodes : List ℤ) (p : Point) (t : ℤ) (f : Fix) → looked g nodes p t ≡ Ok f → LookedUp g nodes p t (Ok f)
 fix_looked g nodes p t f e =
     let w = found g nodes p t f e in
     record {

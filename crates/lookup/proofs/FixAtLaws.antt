@@ -5,12 +5,12 @@ use mathlib.Core.List.{List}
 use native.Mathlib.Omega.{arith}
 use lib.IntN.{ℤ}
 use Rattle.fix.specs.declared.Offset.{Offset}
-use Rattle.fix.specs.declared.Lookup.TheVariants as L
 use Rattle.fix.specs.Fix.{fix_in}
 use Rattle.lookup.specs.Lookup.{fix_at}
+use Rattle.std.specs.Prelude.{Err}
 
 module _ (c : ℕ) (offset : ℕ → Offset) (nodes : List ℤ) (factor : ℤ) where
-  pub fix_at_none : c ≡ 0 → fix_at c offset nodes factor ≡ L.Refused (record { number = 7; place = 0 })
+  pub fix_at_none : c ≡ 0 → fix_at c offset nodes factor ≡ Err (record { number = 7; place = 0 })
   unfolding fix_at
   fix_at_none e = ap (λ (n : ℕ). fix_at n offset nodes factor) e
 

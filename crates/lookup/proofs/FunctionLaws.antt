@@ -6,7 +6,6 @@ use native.Mathlib.Omega.{arith}
 use lib.IntN.{ℤ, pos}
 use lib.ListN.{get_or, drop}
 use lib.Seq.{get_or-take, get_or-drop}
-use Rattle.group.specs.declared.Verdict.TheVariants.{Accepted}
 use Rattle.group.specs.Numbers.{functions_most}
 use Rattle.group.specs.Record.{function_at}
 use Rattle.group.specs.Limits.{function_fits}
@@ -20,6 +19,7 @@ use Rattle.day.specs.Day.{factor_of}
 use Rattle.day.specs.Flat.{factor_in}
 use Rattle.day.proofs.DayLaws.{flat_factor}
 use Rattle.lookup.specs.Flat.{function_rows, FunctionsFit}
+use Rattle.std.specs.Prelude.{Ok}
 
 module _ (ns : List ℤ) where
   number : (k j i : ℕ) → k < functions_most → j < function_words → i ≡ k * function_words + j → signed_at (function_rows ns) i ≡ get_or ns (function_index k j) (pos 0)
@@ -37,7 +37,7 @@ module _ (ns : List ℤ) where
       let d = number k 4 (k * function_words + 4) l (omega arith) (omega arith) in
       (λ i. function_of (kind i) (a i) (b i) (c i) (d i)) ∙ sym (function_of_words_lem ns k l)
 
-  module _ (e : judged (group_of_words ns) ≡ Accepted) where
+  module _ (e : judged (group_of_words ns) ≡ Ok tt) where
     few : (group_of_words ns).functions ≤ functions_most
     few = (accepted_head (group_of_words ns) e).functions
 

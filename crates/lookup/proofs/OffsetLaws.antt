@@ -17,7 +17,6 @@ use Rattle.numbers.proofs.Machine.{raised_apart}
 use Rattle.group.specs.declared.Grid.{Grid}
 use Rattle.group.specs.declared.Group.{Group}
 use Rattle.group.specs.declared.Point.{Point}
-use Rattle.group.specs.declared.Verdict.TheVariants.{Accepted}
 use Rattle.group.specs.Numbers.{lon_most, lat_most, lon_zero, lat_zero, lon_admitted, lat_admitted, spacing_most}
 use Rattle.group.specs.Limits.{spacing_fits}
 use Rattle.group.specs.Record.{grid_at}
@@ -32,6 +31,7 @@ use Rattle.lookup.specs.Lookup.{point_fits, offset_of}
 use Rattle.flat.specs.Frames.{frame_of}
 use Rattle.lookup.specs.Flat.{offset_in}
 use Rattle.extent.specs.Sides.{lon_from_least, lat_from_least}
+use Rattle.std.specs.Prelude.{Ok}
 
 -- ---- along one axis
 
@@ -79,7 +79,7 @@ module _ (g : Grid) (x y : ℤ) (h : holds g x y ≡ true) where
 
 -- ---- in an accepted group
 
-module _ (g : Group) (a : judged g ≡ Accepted) (p : Point) (k : ℕ) (l : k < g.grids) where
+module _ (g : Group) (a : judged g ≡ Ok tt) (p : Point) (k : ℕ) (l : k < g.grids) where
   pub offset_inside : holds (grid_at g k) p.lon.0 p.lat.0 ≡ true → InsideGrid (offset_of (grid_at g k) g.parameters p)
   unfolding offset_of
   offset_inside h =

@@ -13,7 +13,6 @@ use Rattle.numbers.proofs.Bools.{and_left, and_right, both}
 use Rattle.numbers.proofs.OrderLaws.{within_size, within_test}
 use Rattle.group.specs.declared.Group.{Group}
 use Rattle.group.specs.declared.Point.{Point}
-use Rattle.group.specs.declared.Verdict.TheVariants.{Accepted}
 use Rattle.group.specs.Numbers.{lon_most, lat_most, lon_turn, lon_admitted, lat_admitted, day_fits}
 use Rattle.group.specs.Record.{grid_at}
 use Rattle.group.proofs.RefusalLaws.{if_same, stage_same}
@@ -29,13 +28,13 @@ use Rattle.ingroup.specs.Order5.{WrittenTurned, TurnInvisible}
 use Rattle.ingroup.proofs.InGroupLaws.{chosen_holds}
 use Rattle.ingroup.proofs.Order5.{by_grid, turn_invisible}
 use Rattle.day.specs.Day.{factor_of}
-use Rattle.fix.specs.declared.Lookup.TheVariants as L
 use Rattle.lookup.specs.Lookup.{point_fits, ends_early, offset_of, fix_at, fix_of, looked_in}
 use Rattle.lookup.specs.Demand2.{seen_from}
 use Rattle.lookup.specs.Order5.{PointLimits, UsesFirst, SameValues}
 use Rattle.lookup.proofs.BridgeLaws.{fix_at_same}
 use Rattle.lookup.proofs.StageLaws.{looked_accepted}
 use Rattle.lookup.proofs.SameLaws.{named_chosen, in_grid}
+use Rattle.std.specs.Prelude.{Ok, Err}
 
 -- ---- the limits of points
 
@@ -64,7 +63,7 @@ uses_first g nodes p t a k c =
 
 -- ---- turning is invisible in values
 
-module _ (g h : Group) (k t : ℕ) (e : judged g ≡ Accepted) (w : WrittenTurned g h k t) (narrow : width (grid_at g k) < lon_turn) where
+module _ (g h : Group) (k t : ℕ) (e : judged g ≡ Ok tt) (w : WrittenTurned g h k t) (narrow : width (grid_at g k) < lon_turn) where
   abbrev same : TurnInvisible g h
   same = turn_invisible g h k t e w
 
@@ -122,11 +121,11 @@ module _ (g h : Group) (k t : ℕ) (e : judged g ≡ Accepted) (w : WrittenTurne
   same_answer : (nodes : List ℤ) (p : Point) (d : ℤ) → looked_in h nodes p d ≡ looked_in g nodes p d
   unfolding looked_in
   same_answer nodes p d =
-      if_same L.Refused (not (point_fits p)) (not (point_fits p)) 6 0 _ _ refl
+      if_same Err (not (point_fits p)) (not (point_fits p)) 6 0 _ _ refl
       (λ a.
-      if_same L.Refused (not (day_fits d)) (not (day_fits d)) 9 0 _ _ refl
+      if_same Err (not (day_fits d)) (not (day_fits d)) 9 0 _ _ refl
       (λ b.
-      stage_same L.Refused (ends_early h (length nodes)) (ends_early g (length nodes)) h.grids g.grids 13 1 1 _ _ w.grids refl
+      stage_same Err (ends_early h (length nodes)) (ends_early g (length nodes)) h.grids g.grids 13 1 1 _ _ w.grids refl
       (λ j l. ap (ltb (length nodes)) (same_end j))
       (λ c. same_fix p (not-false (point_fits p) a) nodes d)))
 

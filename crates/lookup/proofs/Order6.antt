@@ -11,7 +11,6 @@ use lib.ListN.{get_or}
 use Rattle.group.specs.declared.Group.{Group}
 use Rattle.group.specs.declared.Point.{Point}
 use Rattle.group.specs.declared.Refusal.{Refusal}
-use Rattle.group.specs.declared.Verdict.{Verdict}
 use Rattle.group.specs.Numbers.{value_most, result_most, mark, is_mark}
 use Rattle.group.specs.Refusals.{refusal, verdict_refusal}
 use Rattle.judge.specs.Judge.{judged}
@@ -19,8 +18,6 @@ use Rattle.judge.proofs.TableLaws.{judged_most}
 use Rattle.cell.specs.Cell.{is_beyond}
 use Rattle.cell.specs.Order6.{in_word}
 use Rattle.cell.proofs.ValueLaws.{is_mark_lem, is_beyond_lem, used_some_lem, some_used}
-use Rattle.fix.specs.declared.Lookup.{Lookup}
-use Rattle.fix.specs.declared.Lookup.TheVariants as L
 use Rattle.fix.specs.Answers.{lookup_refusal, results_of}
 use Rattle.fix.specs.Fix.{cell_of, corners_of}
 use Rattle.fix.proofs.FixLaws.{corner_words}
@@ -29,6 +26,8 @@ use Rattle.lookup.specs.Demand2.{seen_from, UsedCorner, TableRow, NothingRefused
 use Rattle.lookup.specs.Order6.{WordNodes, NoLookupBy11, RefusesBut11, AllButElevenRefused, ResultsFit}
 use Rattle.lookup.proofs.RefusedLaws.{refused_exactly}
 use Rattle.lookup.proofs.ResultLaws.{answered, rest_zero}
+use Rattle.std.specs.Prelude.{Result, Ok, Err, ⊤}
+use Rattle.fix.specs.declared.Fix.{Fix}
 
 -- ---- 11 is never met
 
@@ -86,7 +85,7 @@ all_but_eleven = exactly
 other_number : (g : Group) (nodes : List ℤ) (p : Point) (t : ℤ) (r : Refusal) → RefusesBut11 g nodes p t r → r.number ≡ 11 → ⊥
 unfolding RefusesBut11
 other_number g nodes p t r (inl a) e =
-    let m = judged_most g in let k : (verdict_refusal (judged g)).number ≡ r.number = ap (λ (v : Verdict). (verdict_refusal v).number) a in omega arith
+    let m = judged_most g in let k : (verdict_refusal (judged g)).number ≡ r.number = ap (λ (v : Result ⊤ Refusal). (verdict_refusal v).number) a in omega arith
 other_number g nodes p t r (inr (_, inl a)) e = let k = ap (λ (s : Refusal). s.number) a.0 in omega arith
 other_number g nodes p t r (inr (_, inr (_, inl a))) e = let k = ap (λ (s : Refusal). s.number) a.0 in omega arith
 other_number g nodes p t r (inr (_, inr (_, inr (_, inl a)))) e = let k = ap (λ (s : Refusal). s.number) a.1 in omega arith
@@ -103,10 +102,10 @@ no_lookup_by_11 g nodes p t h e =
 pub results_fit : (g : Group) (nodes : List ℤ) (p : Point) (t : ℤ) (q : ℕ) → ResultsFit g nodes p t q
 results_fit g nodes p t q = let m = most (looked g nodes p t) refl in record { range = m; word = omega arith; shown = omega arith }
   where
-    most : (x : Lookup) → looked g nodes p t ≡ x → nat_abs (results_of (looked g nodes p t) q) ≤ result_most
-    most (L.Refused r) e = subst (λ (x : Lookup). nat_abs (results_of x q) ≤ result_most) (sym e) (omega arith)
-    most (L.Fix f) e =
-        subst (λ (x : Lookup). nat_abs (results_of x q) ≤ result_most) (sym e)
+    most : (x : Result Fix Refusal) → looked g nodes p t ≡ x → nat_abs (results_of (looked g nodes p t) q) ≤ result_most
+    most (Err r) e = subst (λ (x : Result Fix Refusal). nat_abs (results_of x q) ≤ result_most) (sym e) (omega arith)
+    most (Ok f) e =
+        subst (λ (x : Result Fix Refusal). nat_abs (results_of x q) ≤ result_most) (sym e)
         (elim (dec_lt q g.parameters) [
           | yes l ↦ (answered g nodes p t f e q l).small
           | no l ↦ subst (λ (z : ℤ). nat_abs z ≤ result_most) (sym (rest_zero g nodes p t f e q (omega arith))) (omega arith)

@@ -7,7 +7,6 @@ use Rattle.group.specs.declared.Ramp2.{Ramp2}
 use Rattle.group.specs.declared.Shape.{Shape}
 use Rattle.group.specs.declared.Group.{Group}
 use Rattle.group.specs.declared.Point.{Point}
-use Rattle.group.specs.declared.Verdict.TheVariants.{Accepted}
 use Rattle.group.specs.Record.{function_at}
 use Rattle.judge.specs.Judge.{judged}
 use Rattle.judge.specs.Order7.{WrittenAsRamp}
@@ -19,8 +18,9 @@ use Rattle.ingroup.specs.InGroup.{chosen_in}
 use Rattle.lookup.specs.Lookup.{looked_in}
 use Rattle.lookup.specs.Order7.{OldRampLooked}
 use Rattle.lookup.proofs.StageLaws.{looked_accepted}
+use Rattle.std.specs.Prelude.{Ok}
 
-module _ (g h : Group) (k : ℕ) (r : Ramp2) (e : judged g ≡ Accepted) (w : WrittenAsRamp g h k r) where
+module _ (g h : Group) (k : ℕ) (r : Ramp2) (e : judged g ≡ Ok tt) (w : WrittenAsRamp g h k r) where
   -- each function has the same factor
   factor_each : (t : ℤ) (j : ℕ) → function_factor (function_at h j) t ≡ function_factor (function_at g j) t
   factor_each t j = by_function g h k r e w (λ f. function_factor f t ≡ function_factor (function_at g j) t) j refl same

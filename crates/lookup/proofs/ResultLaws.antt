@@ -18,7 +18,6 @@ use Rattle.day.specs.Day.{factor_of, result_of}
 use Rattle.day.proofs.DayLaws.{factor_none, factor_bound, result_plain, result_bound}
 use Rattle.fix.specs.declared.Offset.{Offset}
 use Rattle.fix.specs.declared.Fix.{Fix}
-use Rattle.fix.specs.declared.Lookup.TheVariants as L
 use Rattle.fix.specs.Answers.{result_in}
 use Rattle.fix.specs.Fix.{node_at, corners_of, value_in, result_at}
 use Rattle.fix.specs.Inside.{InsideGrid}
@@ -29,13 +28,14 @@ use Rattle.lookup.specs.Demand2.{seen_from, BestGrid, Answered}
 use Rattle.lookup.proofs.OffsetLaws.{offset_inside}
 use Rattle.lookup.proofs.BestLaws.{chosen_is_best}
 use Rattle.lookup.proofs.FoundLaws.{Found, found}
+use Rattle.std.specs.Prelude.{Ok}
 
 -- how far a node lies from the first one
 node_distance : (x a s : ℤ) (i : ℕ) → x ≡ a +ℤ pos i *ℤ s → nat_abs (x -ℤ a) ≡ i * nat_abs s
 node_distance x a s i e =
     ap (λ (z : ℤ). nat_abs (z -ℤ a)) (e ∙ +ℤ_comm a (pos i *ℤ s)) ∙ ap nat_abs (+ℤ-neg_ℤ_cancel (pos i *ℤ s) a) ∙ size_mul (pos i) s
 
-module _ (g : Group) (nodes : List ℤ) (p : Point) (t : ℤ) (f : Fix) (e : looked g nodes p t ≡ L.Fix f) where
+module _ (g : Group) (nodes : List ℤ) (p : Point) (t : ℤ) (f : Fix) (e : looked g nodes p t ≡ Ok f) where
   abbrev w : Found g nodes p t f
   w = found g nodes p t f e
 

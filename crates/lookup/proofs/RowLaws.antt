@@ -15,13 +15,12 @@ use Rattle.numbers.proofs.Bools.{true_false}
 use Rattle.numbers.proofs.FirstLaws.{first_before, first_hit, none_at}
 use Rattle.group.specs.declared.Group.{Group}
 use Rattle.group.specs.declared.Refusal.{Refusal}
-use Rattle.group.specs.declared.Verdict.{Verdict}
-use Rattle.group.specs.declared.Verdict.TheVariants.{Accepted, Refused}
 use Rattle.group.specs.Refusals.{refusal, verdict_refusal, refuse_if, refuse_first, unless_refused}
 use Rattle.group.proofs.RefusalLaws.{no_acceptance}
 use Rattle.judge.specs.Judge.{judged}
 use Rattle.lookup.specs.Lookup.{ends_early}
 use Rattle.lookup.specs.Demand2.{EndsBefore, Judged, TableRow, ShortList, NothingRefused, ◌then◌}
+use Rattle.std.specs.Prelude.{Result, Ok, Err, ⊤}
 
 -- ---- rows in their order refuse in one way
 
@@ -113,10 +112,10 @@ module _ {A : Type 0} (refused : Refusal → A) (refusalOf : A → Refusal) (bac
       (λ e. (first (early g nodes) g.grids, ap (refusal 13) (omega arith), first_ends g nodes e))
       (none_ends g nodes) on
 
-  pub judge_stage : (Next : Refusal → Type 0) (g : Group) (next : A) → (judged g ≡ Accepted → Next (refusalOf next))
+  pub judge_stage : (Next : Refusal → Type 0) (g : Group) (next : A) → (judged g ≡ Ok tt → Next (refusalOf next))
       → (Judged g then Next) (refusalOf (unless_refused refused (judged g) next))
   judge_stage Next g next on = go (judged g) refl
     where
-      go : (v : Verdict) → judged g ≡ v → (Judged g then Next) (refusalOf (unless_refused refused v next))
-      go Accepted e = inr (λ r h. no_acceptance r (sym h ∙ e), on e)
-      go (Refused r) e = inl (subst (Judged g) (sym (back r)) e)
+      go : (v : Result ⊤ Refusal) → judged g ≡ v → (Judged g then Next) (refusalOf (unless_refused refused v next))
+      go (Ok tt) e = inr (λ r h. no_acceptance r (sym h ∙ e), on e)
+      go (Err r) e = inl (subst (Judged g) (sym (back r)) e)

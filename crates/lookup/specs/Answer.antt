@@ -1,13 +1,14 @@
 -- A lookup's answer as one record: the refusal's number and place, 0 and 0 where there is none, and the grid's number and the results, which
 -- are 0 beside a refusal.
-use Rattle.std.specs.Prelude.{ℕ, ℤ, pos}
-use Rattle.fix.specs.declared.Lookup.{Lookup}
+use Rattle.std.specs.Prelude.{ℕ, ℤ, pos, Result}
 use Rattle.fix.specs.Answers.{lookup_refusal, lookup_grid, results_of}
 use Rattle.abi.specs.Abi.{stored}
 use Rattle.lookup.specs.declared.Answer.{Answer}
+use Rattle.group.specs.declared.Refusal.{Refusal}
+use Rattle.fix.specs.declared.Fix.{Fix}
 
 -- with the grid's number as it is written
-abbrev pub record_with : (ℕ → ℤ) → Lookup → Answer
+abbrev pub record_with : (ℕ → ℤ) → Result Fix Refusal → Answer
 record_with number l =
     record {
       number = (lookup_refusal l).number;
@@ -18,9 +19,9 @@ record_with number l =
       third = results_of l 2;
     }
 
-abbrev pub answer_record : Lookup → Answer
+abbrev pub answer_record : Result Fix Refusal → Answer
 answer_record = record_with (λ n. pos n)
 
 -- the same as the code stores it
-abbrev pub stored_record : Lookup → Answer
+abbrev pub stored_record : Result Fix Refusal → Answer
 stored_record = record_with stored

@@ -1,10 +1,9 @@
 -- Demand 2 in its own words, and the table's rows for a lookup, of what `looked` answers: exactly when it refuses, by which number and with
 -- which place, and what it promises where it doesn't: where the number of its refusal is 0.
-use Rattle.std.specs.Prelude.{ℕ, suc, ◌*◌, ◌≤◌, ◌<◌, ◌≡◌, true, List, ◌⊎◌, ◌↔◌, ℤ, pos, ◌+ℤ◌, ◌-ℤ◌, ◌*ℤ◌, nat_abs, length, ◌≤ℤ◌}
+use Rattle.std.specs.Prelude.{ℕ, suc, ◌*◌, ◌≤◌, ◌<◌, ◌≡◌, true, List, ◌⊎◌, ◌↔◌, ℤ, pos, ◌+ℤ◌, ◌-ℤ◌, ◌*ℤ◌, nat_abs, length, ◌≤ℤ◌, Result, Ok, Err}
 use Rattle.group.specs.declared.Group.{Group}
 use Rattle.group.specs.declared.Point.{Point}
 use Rattle.group.specs.declared.Refusal.{Refusal}
-use Rattle.group.specs.declared.Verdict.TheVariants.{Refused}
 use Rattle.group.specs.Numbers.{lon_most, lat_most, day_most, value_most, result_most, mark}
 use Rattle.group.specs.Record.{grid_at}
 use Rattle.group.specs.Refusals.{refusal, no_refusal}
@@ -15,8 +14,6 @@ use Rattle.cell.specs.Used.{EachUsed, SomeUsed}
 use Rattle.day.specs.Day.{factor_of, result_of}
 use Rattle.fix.specs.declared.Offset.{Offset}
 use Rattle.fix.specs.declared.Fix.{Fix}
-use Rattle.fix.specs.declared.Lookup.{Lookup}
-use Rattle.fix.specs.declared.Lookup.TheVariants as L
 use Rattle.fix.specs.Answers.{lookup_refusal, lookup_grid, results_of}
 use Rattle.fix.specs.Fix.{cell_of, node_at, corners_of, value_in, SameNodes}
 use Rattle.lookup.specs.Lookup.{offset_of, looked}
@@ -64,7 +61,7 @@ pub record EndsBefore (g : Group) (nodes : List ℤ) (k : ℕ) : Type 0 where
 
 -- the judge's refusal, 2 to 5
 abbrev pub Judged : Group → Refusal → Type 0
-Judged g r = judged g ≡ Refused r
+Judged g r = judged g ≡ Err r
 
 -- a row whose place is 0
 abbrev pub TableRow : ℕ → Type 0 → Refusal → Type 0
@@ -113,7 +110,7 @@ pub record Answered (g : Group) (nodes : List ℤ) (p : Point) (t : ℤ) (l : Of
   pub small : nat_abs r ≤ result_most
 
 -- r answers the lookup: the best grid that holds the point, NP results in it, the rest 0
-pub record LookedUp (g : Group) (nodes : List ℤ) (p : Point) (t : ℤ) (r : Lookup) : Type 0 where
+pub record LookedUp (g : Group) (nodes : List ℤ) (p : Point) (t : ℤ) (r : Result Fix Refusal) : Type 0 where
   pub k : ℕ
   pub number : lookup_grid r ≡ suc k
   pub grid : BestGrid g p k
@@ -144,9 +141,9 @@ pub record Demand2 (g : Group) (nodes : List ℤ) (p : Point) (t : ℤ) : Type 0
   -- each refusal exactly when its row applies and none before it does
   pub refused : (r : Refusal) → (lookup_refusal (looked g nodes p t) ≡ r) ↔ Refuses g nodes p t r
   -- where no row applies, and only there, there is a fix
-  pub fixed : Refuses g nodes p t no_refusal ↔ ((f : Fix) × (looked g nodes p t ≡ L.Fix f))
+  pub fixed : Refuses g nodes p t no_refusal ↔ ((f : Fix) × (looked g nodes p t ≡ Ok f))
   -- the number is 0 exactly for a fix, which then keeps these promises
-  pub zero : ((lookup_refusal (looked g nodes p t)).number ≡ 0) ↔ ((f : Fix) × (looked g nodes p t ≡ L.Fix f))
+  pub zero : ((lookup_refusal (looked g nodes p t)).number ≡ 0) ↔ ((f : Fix) × (looked g nodes p t ≡ Ok f))
   pub accepted : (lookup_refusal (looked g nodes p t)).number ≡ 0 → LookedUp g nodes p t (looked g nodes p t)
   -- what is neither in a used corner of the chosen grid nor in its record changes nothing
   pub same : (other : Group) (others : List ℤ) → SameChoice g other nodes others p t → looked g nodes p t ≡ looked other others p t

@@ -1,5 +1,5 @@
 -- The lookup of one point over a group's flat lists, and what it may rely on.
-use Rattle.std.specs.Prelude.{ℕ, zero, suc, ◌+◌, ◌-◌, ◌*◌, ◌^◌, ◌≤◌, ◌<◌, ◌≡◌, true, List, ℤ, length, take, drop}
+use Rattle.std.specs.Prelude.{ℕ, zero, suc, ◌+◌, ◌-◌, ◌*◌, ◌^◌, ◌≤◌, ◌<◌, ◌≡◌, true, List, ℤ, length, take, drop, Result, Err}
 use Rattle.group.specs.declared.Group.{Group}
 use Rattle.group.specs.Numbers.{lon_turn, nodes_most, start_most, grids_most}
 use Rattle.group.specs.Limits.{function_fits}
@@ -14,11 +14,11 @@ use Rattle.choice.specs.Holder.{held_by}
 use Rattle.choice.specs.declared.Held.{Held}
 use Rattle.choice.specs.declared.Held.TheVariants.{By, Nothing}
 use Rattle.fix.specs.declared.Offset.{Offset}
-use Rattle.fix.specs.declared.Lookup.{Lookup}
-use Rattle.fix.specs.declared.Lookup.TheVariants as L
 use Rattle.group.specs.Refusals.{refusal}
 use Rattle.fix.specs.Inside.{InsideGrid, RangeListed}
 use Rattle.lookup.specs.Lookup.{fix_at}
+use Rattle.group.specs.declared.Refusal.{Refusal}
+use Rattle.fix.specs.declared.Fix.{Fix}
 
 -- the distance of two numbers
 abbrev pub distance : ℕ → ℕ → ℕ
@@ -68,8 +68,8 @@ used_at sides zero x y = x
 used_at sides (suc k) x y = turn_used lon_turn sides k x y
 
 -- 7 where nothing holds the point, else 8 or 11, or the fix in the owner of the row that does, for its turn
-abbrev pub fix_held : (frames : List ℕ) → Held → (np : ℕ) → List ℤ → ℤ → (x y : ℕ) → Lookup
-fix_held frames Nothing np nodes factor x y = L.Refused (refusal 7 0)
+abbrev pub fix_held : (frames : List ℕ) → Held → (np : ℕ) → List ℤ → ℤ → (x y : ℕ) → Result Fix Refusal
+fix_held frames Nothing np nodes factor x y = Err (refusal 7 0)
 fix_held frames (By owner shift) np nodes factor x y = fix_at (suc owner) (λ k. offset_in (frame_at frames k) np (x + shift - lon_turn) y) nodes factor
 
 -- what that may rely on: the row's owner holds the point for the row's turn
@@ -86,7 +86,7 @@ HeldChosen frames (By owner shift) np nodes x y = TurnChosen frames owner shift 
 abbrev pub held_in : (rows owners shifts : List ℕ) (count x y : ℕ) → Held
 held_in rows owners shifts count x y = held_by (λ r. rect_holds rows r x y) (at owners) (at shifts) count
 
-abbrev pub fix_ranked : (rows owners shifts frames : List ℕ) (count np : ℕ) → List ℤ → ℤ → (x y : ℕ) → Lookup
+abbrev pub fix_ranked : (rows owners shifts frames : List ℕ) (count np : ℕ) → List ℤ → ℤ → (x y : ℕ) → Result Fix Refusal
 fix_ranked rows owners shifts frames count np nodes factor x y = fix_held frames (held_in rows owners shifts count x y) np nodes factor x y
 
 -- what that lookup may rely on

@@ -1,9 +1,8 @@
 -- Order 5 of document 02 in its own words, of what `looked` answers: which points it admits, which longitude it uses for the cell, and that
 -- turning is invisible in its values.
-use Rattle.std.specs.Prelude.{ℕ, suc, ◌≤◌, ◌<◌, ◌≡◌, true, List, ◌↔◌, ℤ, ◌-ℤ◌, nat_abs}
+use Rattle.std.specs.Prelude.{ℕ, suc, ◌≤◌, ◌<◌, ◌≡◌, true, List, ◌↔◌, ℤ, ◌-ℤ◌, nat_abs, Ok}
 use Rattle.group.specs.declared.Group.{Group}
 use Rattle.group.specs.declared.Point.{Point}
-use Rattle.group.specs.declared.Verdict.TheVariants.{Accepted}
 use Rattle.group.specs.Numbers.{lon_most, lat_most, lon_turn}
 use Rattle.group.specs.Record.{grid_at}
 use Rattle.extent.specs.Extent.{lon_span, lon_used, width}
@@ -42,5 +41,5 @@ UsesFirst g nodes p t = (lookup_refusal (looked g nodes p t)).number ≡ 0 → (
 -- turning is invisible in values: with a grid narrower than a turn written a whole turn farther east or west, where the limits allow it, every
 -- lookup in an accepted group answers the same, refusals included
 abbrev pub SameValues : Group → Type 0
-SameValues g = judged g ≡ Accepted → (h : Group) (k t : ℕ) → WrittenTurned g h k t → width (grid_at g k) < lon_turn
+SameValues g = judged g ≡ Ok tt → (h : Group) (k t : ℕ) → WrittenTurned g h k t → width (grid_at g k) < lon_turn
     → (nodes : List ℤ) (p : Point) (d : ℤ) → looked h nodes p d ≡ looked g nodes p d

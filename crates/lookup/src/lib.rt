@@ -1,7 +1,7 @@
 // The lookup: what a group of grids says of a point on a day.
 #![tactic(auto)]
 
-ghost use Rattle.std.specs.Prelude.{◌≡◌, true, ◌+◌, ◌*◌, ◌^◌, ◌<◌, ◌≤◌, ltb, nat_abs, length};
+ghost use Rattle.std.specs.Prelude.{◌≡◌, true, ◌+◌, ◌*◌, ◌^◌, ◌<◌, ◌≤◌, ltb, nat_abs, length, Ok};
 ghost use Rattle.numbers.specs.First.{first};
 ghost use Rattle.group.specs.Numbers.{lon_turn, parameters_most, functions_most, grids_most, day_fits, factor_most};
 ghost use Rattle.abi.specs.Words.{group_words};
@@ -20,9 +20,9 @@ ghost use Rattle.lookup.specs.Flat.{used_at, fix_held, HeldChosen, fix_ranked, L
 
 use abi::GROUP_WORDS;
 use choice::Held;
-use fix::{Lookup, Offset};
+use fix::{Fix, Offset};
 use flat::Frame;
-use group::{Group, LON_TURN, Point, Refusal, Verdict};
+use group::{Group, LON_TURN, Point, Refusal};
 
 // A lookup's answer as C has it: the number and the place of its refusal, 0 and 0 if there is none, and the chosen grid's number and
 // its results in steps, zeros beside a refusal.
@@ -38,11 +38,11 @@ pub struct Answer {
 }
 
 // A lookup's answer as a record.
-pub fn answer_of(found: Lookup) -> Answer
+pub fn answer_of(found: Result<Fix, Refusal>) -> Answer
     ensures { result ≡ stored_record found }
 {
     match found {
-        Lookup::Fix(f) => Answer {
+        Ok(f) => Answer {
             number: 0,
             place: 0,
             grid: abi::as_stored(f.grid),
@@ -50,7 +50,7 @@ pub fn answer_of(found: Lookup) -> Answer
             second: f.second,
             third: f.third,
         },
-        Lookup::Refused(r) => Answer {
+        Err(r) => Answer {
             number: r.number,
             place: r.place,
             grid: 0,
@@ -96,12 +96,12 @@ pub fn fix_chosen(
     factor: i64,
     x: u64,
     y: u64,
-) -> Lookup
+) -> Result<Fix, Refusal>
     requires { Chosen frames.now c np (length nodes.now) x y × (nat_abs factor ≤ factor_most) }
     ensures { result ≡ fix_at c (λ k. offset_in (frame_at frames.now k) np x y) nodes.now factor }
 {
     if c == 0 {
-        return Lookup::Refused(Refusal {
+        return Err(Refusal {
             number: 7,
             place: 0,
         });
@@ -140,12 +140,12 @@ pub fn fix_held(
     factor: i64,
     x: u64,
     y: u64,
-) -> Lookup
+) -> Result<Fix, Refusal>
     requires { HeldChosen frames.now held np (length nodes.now) x y × (nat_abs factor ≤ factor_most) }
     ensures { result ≡ fix_held frames.now held np nodes.now factor x y }
 {
     match held {
-        Held::Nothing => Lookup::Refused(Refusal {
+        Held::Nothing => Err(Refusal {
             number: 7,
             place: 0,
         }),
@@ -170,7 +170,7 @@ pub fn look_ranked(
     factor: i64,
     x: u64,
     y: u64,
-) -> Lookup
+) -> Result<Fix, Refusal>
     requires { LaidRows rows.now owners.now shifts.now frames.now count np (length nodes.now) x y × (nat_abs factor ≤ factor_most) }
     ensures { result ≡ fix_ranked rows.now owners.now shifts.now frames.now count np
         nodes.now factor x y }
@@ -231,7 +231,7 @@ fn look_in(
     nodes: &[i32],
     point: Point,
     day: i64,
-) -> Lookup
+) -> Result<Fix, Refusal>
     requires { LookupReady (group_of_words words.now) (length nodes.now) point day
         × Laid (group_of_words words.now) sides.now ranks.now frames.now }
     ensures { result ≡ fix_of (group_of_words words.now) nodes.now point day }
@@ -245,20 +245,20 @@ fn look_in(
 }
 
 // Refusal 13 of so many nodes, for an accepted group with these frames.
-pub fn judge_nodes(words: &[i64; GROUP_WORDS], frames: &[u64], nodes: usize) -> Verdict
-    requires { (judged (group_of_words words.now) ≡ Verdict.Accepted) × Framed (group_of_words words.now) (group_of_words words.now).grids frames.now
+pub fn judge_nodes(words: &[i64; GROUP_WORDS], frames: &[u64], nodes: usize) -> Result<(), Refusal>
+    requires { (judged (group_of_words words.now) ≡ Ok tt) × Framed (group_of_words words.now) (group_of_words words.now).grids frames.now
         × (grids_most * 7 ≤ length frames.now) }
     ensures { result ≡ nodes_judged (group_of_words words.now) nodes }
 {
     let n = abi::grid_count(words);
     let short = first_short(frames, n, abi::parameter_count(words), nodes as u64);
     if short < n {
-        return Verdict::Refused(Refusal {
+        return Err(Refusal {
             number: 13,
             place: short + 1,
         });
     }
-    Verdict::Accepted
+    Ok(())
 }
 
 // The lookup in an accepted group, whose flat lists are these: refusal 6, 9, 13, 7 or 8, or the fix.
@@ -270,31 +270,31 @@ pub fn look_accepted(
     nodes: &[i32],
     point: Point,
     day: i64,
-) -> Lookup
-    requires { (judged (group_of_words words.now) ≡ Verdict.Accepted) × Laid (group_of_words words.now) sides.now ranks.now frames.now }
+) -> Result<Fix, Refusal>
+    requires { (judged (group_of_words words.now) ≡ Ok tt) × Laid (group_of_words words.now) sides.now ranks.now frames.now }
     ensures { result ≡ looked_in (group_of_words words.now) nodes.now point day }
 {
     if !point_fits(point) {
-        return Lookup::Refused(Refusal {
+        return Err(Refusal {
             number: 6,
             place: 0,
         });
     }
     if !day_fits(day) {
-        return Lookup::Refused(Refusal {
+        return Err(Refusal {
             number: 9,
             place: 0,
         });
     }
     let verdict = judge_nodes(words, frames, nodes.len());
     match verdict {
-        Verdict::Refused(r) => Lookup::Refused(r),
-        Verdict::Accepted => look_in(words, sides, ranks, frames, nodes, point, day),
+        Err(r) => Err(r),
+        Ok(()) => look_in(words, sides, ranks, frames, nodes, point, day),
     }
 }
 
 // What a group handed over as a list of numbers says of a point on a day, as `lookup` says.
-pub fn look_words(words: &[i64; GROUP_WORDS], nodes: &[i32], point: Point, day: i64) -> Lookup
+pub fn look_words(words: &[i64; GROUP_WORDS], nodes: &[i32], point: Point, day: i64) -> Result<Fix, Refusal>
     ensures { result ≡ looked (group_of_words words.now) nodes.now point day }
 {
     let mut sides = [0u64; flat::SIDES];
@@ -302,8 +302,8 @@ pub fn look_words(words: &[i64; GROUP_WORDS], nodes: &[i32], point: Point, day: 
     let mut frames = [0u64; flat::FRAMES];
     let verdict = judge::judge_into(words, &mut sides, &mut ranks, &mut frames);
     match verdict {
-        Verdict::Refused(r) => Lookup::Refused(r),
-        Verdict::Accepted => look_accepted(words, &sides, &ranks, &frames, nodes, point, day),
+        Err(r) => Err(r),
+        Ok(()) => look_accepted(words, &sides, &ranks, &frames, nodes, point, day),
     }
 }
 
@@ -311,7 +311,7 @@ pub fn look_words(words: &[i64; GROUP_WORDS], nodes: &[i32], point: Point, day: 
 // (the group), 6 (the point is outside the limits), 9 (the day is), 13 (the node list ends before some grid's range does), 7 (no
 // grid holds the point) and 8 (a used corner is the mark). With document 01's grid `basin`, no functions and the nodes
 // 0 10 20 / 100 110 120, the point (5, 5) on any day answers grid 1 and 55, 0, 0.
-pub fn lookup(group: Group, nodes: &[i32], point: Point, day: i64) -> Lookup
+pub fn lookup(group: Group, nodes: &[i32], point: Point, day: i64) -> Result<Fix, Refusal>
     ensures { result ≡ looked group nodes.now point day }
 {
     let words = abi::numbers_of(group);

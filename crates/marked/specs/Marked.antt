@@ -1,5 +1,5 @@
 -- Document 01's marked cases M1 to M12: one statement over one table, in document 01's numbers.
-use Rattle.std.specs.Prelude.{ℕ, ◌-◌, ◌≡◌, List, [], ◌∷◌, ◌++◌, ℤ, pos, neg_ℤ, replicate, length}
+use Rattle.std.specs.Prelude.{ℕ, ◌-◌, ◌≡◌, List, [], ◌∷◌, ◌++◌, ℤ, pos, neg_ℤ, replicate, length, Result}
 use Rattle.group.specs.declared.Name.{Name}
 use Rattle.group.specs.declared.Unit.TheVariants.{Metre}
 use Rattle.group.specs.declared.Shape.TheVariants as S
@@ -12,13 +12,13 @@ use Rattle.group.specs.Refusals.{refusal, no_refusal, verdict_refusal}
 use Rattle.group.specs.Blank.{blank_function, blank_grid}
 use Rattle.group.specs.Numbers.{mark}
 use Rattle.day.specs.Day.{factor_of}
-use Rattle.fix.specs.declared.Lookup.{Lookup}
 use Rattle.fix.specs.Answers.{lookup_refusal, lookup_grid, results_of}
 use Rattle.lookup.specs.Lookup.{looked}
 use Rattle.inforce.specs.declared.Area.{Area}
 use Rattle.inforce.specs.declared.GridInForce.{GridInForce}
 use Rattle.inforce.specs.declared.InForce.{InForce}
 use Rattle.inforce.specs.InForce.{blank_entry, in_force_of}
+use Rattle.fix.specs.declared.Fix.{Fix}
 
 -- ---- the groups
 
@@ -75,7 +75,7 @@ pub record CaseAnswer : Type 0 where
   pub grid : ℕ
   pub results : List ℤ
 
-abbrev pub case_answer_of : Lookup → CaseAnswer
+abbrev pub case_answer_of : Result Fix Refusal → CaseAnswer
 case_answer_of l = record { refused = lookup_refusal l; grid = lookup_grid l; results = results_of l 0 ∷ results_of l 1 ∷ results_of l 2 ∷ [] }
 
 -- a result in grid 1; a refusal with no place

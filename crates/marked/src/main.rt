@@ -3,8 +3,7 @@
 #![tactic(auto)]
 
 use extent::{LatSpan, LonSpan};
-use fix::Lookup;
-use group::{Group, Latitude, Longitude, MARK, Point, Refusal, Verdict};
+use group::{Group, Latitude, Longitude, MARK, Point, Refusal};
 use inforce::{Area, GridInForce, InForce, Uncovered};
 use nodes::Loaded;
 use std::io;
@@ -100,8 +99,8 @@ fn header(rt: &impl Print, label: &str, text: &[u8]) -> io::Result<()> {
     let reading = header::read_header(text);
     let verdict = reading.verdict;
     match verdict {
-        Verdict::Accepted => say(rt, "accepted")?,
-        Verdict::Refused(r) => say_refused(rt, r)?,
+        Ok(()) => say(rt, "accepted")?,
+        Err(r) => say_refused(rt, r)?,
     }
     say(rt, "\n")
 }
@@ -125,13 +124,13 @@ fn looked(
     say_point(rt, p.lon, p.lat)?;
     say(rt, ": ")?;
     match lookup::lookup(group, nodes, p, day) {
-        Lookup::Fix(f) => {
+        Ok(f) => {
             say(rt, "grid ")?;
             say_count(rt, f.grid)?;
             say(rt, ", ")?;
             say_number(rt, f.first)?;
         }
-        Lookup::Refused(r) => say_refused(rt, r)?,
+        Err(r) => say_refused(rt, r)?,
     }
     say(rt, "\n")
 }
@@ -172,8 +171,8 @@ fn in_force(rt: &impl Print, label: &str, group: Group, a: Area) -> io::Result<(
     let list = inforce::grids_in_force(group, a);
     let verdict = list.verdict;
     match verdict {
-        Verdict::Accepted => say_list(rt, list)?,
-        Verdict::Refused(r) => say_refused(rt, r)?,
+        Ok(()) => say_list(rt, list)?,
+        Err(r) => say_refused(rt, r)?,
     }
     say(rt, "\n")
 }
@@ -194,8 +193,8 @@ fn hole(rt: &impl Print, label: &str, group: Group, a: Area) -> io::Result<()> {
     let found = inforce::hole(group, a);
     let verdict = found.verdict;
     match verdict {
-        Verdict::Accepted => say_hole(rt, found)?,
-        Verdict::Refused(r) => say_refused(rt, r)?,
+        Ok(()) => say_hole(rt, found)?,
+        Err(r) => say_refused(rt, r)?,
     }
     say(rt, "\n")
 }
@@ -272,7 +271,7 @@ fn days_at_once(rt: &impl Print) -> io::Result<()> {
     let verdict = exercise::lookup_columns(basin(), &nodes, &[5; 4], &[5; 4], &days, &mut results);
     say(rt, "M10, its days and 1000001 at once: ")?;
     match verdict {
-        Verdict::Accepted => {
+        Ok(()) => {
             say_answer(rt, results[0], results[2], results[3])?;
             say(rt, "; ")?;
             say_answer(rt, results[6], results[8], results[9])?;
@@ -281,7 +280,7 @@ fn days_at_once(rt: &impl Print) -> io::Result<()> {
             say(rt, "; ")?;
             say_answer(rt, results[18], results[20], results[21])?;
         }
-        Verdict::Refused(r) => say_refused(rt, r)?,
+        Err(r) => say_refused(rt, r)?,
     }
     say(rt, "\n")
 }

@@ -5,8 +5,6 @@ use Rattle.numbers.proofs.Bools.{both}
 use Rattle.group.specs.declared.Point.{Point}
 use Rattle.group.proofs.RefusalLaws.{if_past}
 use Rattle.fix.specs.declared.Fix.{Fix}
-use Rattle.fix.specs.declared.Lookup.{Lookup}
-use Rattle.fix.specs.declared.Lookup.TheVariants as L
 use Rattle.fix.specs.Answers.{result_in}
 use Rattle.screen.specs.declared.ScreenAnswer.{ScreenAnswer}
 use Rattle.screen.specs.declared.ScreenAnswer.TheVariants as S
@@ -14,6 +12,8 @@ use Rattle.screen.specs.Screen.{plus_zero, shown_shift, degrees_of, admitted, sh
 use Rattle.screen.specs.Shown.{below_zero, Times, nearest_to, shift_at, ShowsResults, ShowsPoint}
 use Rattle.screen.proofs.Exact.{div_at, cast_exact, like, shift_exact}
 use Rattle.screen.proofs.TableLaws.{answer_told}
+use Rattle.std.specs.Prelude.{Result, Ok}
+use Rattle.group.specs.declared.Refusal.{Refusal}
 
 -- ---- results
 
@@ -27,31 +27,31 @@ unfolding shown_shift
 shift_missing q np p n l = rw (le-ltb p np l) refl
 
 module _ (f : Fix) (q np : ℕ) (k : q ≤ 20) (m : np ≤ 3) where
-  each : ((p : ℕ) → p < np → nat_abs (result_in f p) ≤ 2 ^ 53) → (p : ℕ) → p < np → Times (shift_at (shown (L.Fix f) q np) p) (2 ^ q) (result_in f p)
+  each : ((p : ℕ) → p < np → nat_abs (result_in f p) ≤ 2 ^ 53) → (p : ℕ) → p < np → Times (shift_at (shown (Ok f) q np) p) (2 ^ q) (result_in f p)
   unfolding shown
   each h zero l = shift_shown q np 0 f.first k (h 0 l) l
   each h (suc zero) l = shift_shown q np 1 f.second k (h 1 l) l
   each h (suc (suc zero)) l = shift_shown q np 2 f.third k (h 2 l) l
   each h (suc (suc (suc p))) l = absurd (omega arith)
 
-  none : (p : ℕ) → np ≤ p → shift_at (shown (L.Fix f) q np) p ≡ plus_zero
+  none : (p : ℕ) → np ≤ p → shift_at (shown (Ok f) q np) p ≡ plus_zero
   unfolding shown
   none zero l = shift_missing q np 0 f.first l
   none (suc zero) l = shift_missing q np 1 f.second l
   none (suc (suc zero)) l = shift_missing q np 2 f.third l
   none (suc (suc (suc p))) l = refl
 
-  by_fix : ((p : ℕ) → p < np → nat_abs (result_in f p) ≤ 2 ^ 53) → ShowsResults (result_in f) q np (shown (L.Fix f) q np)
+  by_fix : ((p : ℕ) → p < np → nat_abs (result_in f p) ≤ 2 ^ 53) → ShowsResults (result_in f) q np (shown (Ok f) q np)
   unfolding shown
   by_fix h = record { accepted = refl; exact = each h; missing = none }
 
 -- each of the first NP results of a fix, up to 2^53 in size, is shown exactly
 pub shown_exactly : (f : Fix) (q np : ℕ) → q ≤ 20 → 1 ≤ np → np ≤ 3 → ((p : ℕ) → p < np → nat_abs (result_in f p) ≤ 2 ^ 53)
-    → ShowsResults (result_in f) q np (answer_of (L.Fix f) q np)
+    → ShowsResults (result_in f) q np (answer_of (Ok f) q np)
 unfolding answer_of
 shown_exactly f q np k l m h =
     let t : admitted q np ≡ true = both (le-leb q 20 k) (both (le-leb 1 np l) (le-leb np 3 m)) in
-    subst (ShowsResults (result_in f) q np) (sym (if_past S.Refused (not (admitted q np)) 2 0 (shown (L.Fix f) q np) (ap not t))) (by_fix f q np k m h)
+    subst (ShowsResults (result_in f) q np) (sym (if_past S.Refused (not (admitted q np)) 2 0 (shown (Ok f) q np) (ap not t))) (by_fix f q np k m h)
 
 -- ---- degrees
 
@@ -64,7 +64,7 @@ degrees_rounded mas h =
     ∙ ap (λ (a : ℕ). round binary64 (below_zero mas) a 3600000) (mul-one (nat_abs mas))
 
 -- the record of an answer that is no refusal
-pub record_shown : (point : Point) (found : Lookup) (q np : ℕ) → (screen_refusal (answer_of found q np)).number ≡ 0
+pub record_shown : (point : Point) (found : Result Fix Refusal) (q np : ℕ) → (screen_refusal (answer_of found q np)).number ≡ 0
     → ShowsPoint point (answer_of found q np) (record_of point (answer_of found q np))
 unfolding record_of
 record_shown point found q np z =

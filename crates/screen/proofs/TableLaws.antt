@@ -4,11 +4,10 @@ use lib.Ieee.{Float}
 use Rattle.group.specs.declared.Refusal.{Refusal}
 use Rattle.group.specs.Refusals.{refusal, in_table, Told}
 use Rattle.group.proofs.RefusalLaws.{Answers, told_accepted, told_by, told_if}
-use Rattle.fix.specs.declared.Lookup.{Lookup}
-use Rattle.fix.specs.declared.Lookup.TheVariants as L
 use Rattle.screen.specs.declared.ScreenAnswer.{ScreenAnswer}
 use Rattle.screen.specs.declared.ScreenAnswer.TheVariants.{Fix, Refused}
 use Rattle.screen.specs.Screen.{handed_on, shown, answer_of, screen_refusal}
+use Rattle.std.specs.Prelude.{Result, Ok, Err}
 
 abbrev Shows : ScreenAnswer → Type 0
 Shows s = (a b c : Float) × (s ≡ Fix a b c)
@@ -20,11 +19,11 @@ handed : (r : Refusal) (b : Bool) → in_table r.number ≡ b → in_table (cond
 handed r true h = h
 handed r false h = refl
 
-of_shown : (found : Lookup) (q np : ℕ) → Told (Shows (shown found q np)) (screen_refusal (shown found q np))
+of_shown : (found : Result Fix Refusal) (q np : ℕ) → Told (Shows (shown found q np)) (screen_refusal (shown found q np))
 unfolding shown
-of_shown (L.Fix f) q np = told_accepted (_, _, _, refl)
-of_shown (L.Refused r) q np = told_by answers (handed_on r) (handed r (in_table r.number) refl)
+of_shown (Ok f) q np = told_accepted (_, _, _, refl)
+of_shown (Err r) q np = told_by answers (handed_on r) (handed r (in_table r.number) refl)
 
-pub answer_told : (found : Lookup) (q np : ℕ) → Told ((a b c : Float) × (answer_of found q np ≡ Fix a b c)) (screen_refusal (answer_of found q np))
+pub answer_told : (found : Result Fix Refusal) (q np : ℕ) → Told ((a b c : Float) × (answer_of found q np ≡ Fix a b c)) (screen_refusal (answer_of found q np))
 unfolding answer_of
 answer_told found q np = told_if answers _ 2 0 refl (of_shown found q np)

@@ -1,13 +1,11 @@
 -- What the screen shows, as 64-bit floats: document 01, 'Loading and showing'.
-use Rattle.std.specs.Prelude.{ℕ, ◌^◌, Bool, false, cond, not, ◌&&◌, List, [], ◌∷◌, ℤ, pos, nat_le, nat_lt, Float}
+use Rattle.std.specs.Prelude.{ℕ, ◌^◌, Bool, false, cond, not, ◌&&◌, List, [], ◌∷◌, ℤ, pos, nat_le, nat_lt, Float, Result, Ok, Err}
 use Rattle.std.specs.Float.{fin, binary64}
 use Rattle.std.specs.Float.Ieee.{of_int, mul, div}
 use Rattle.group.specs.declared.Point.{Point}
 use Rattle.group.specs.declared.Refusal.{Refusal}
 use Rattle.group.specs.Numbers.{mas_in_degree, quantum_most, parameters_most}
 use Rattle.group.specs.Refusals.{refusal, no_refusal, in_table, refuse_if}
-use Rattle.fix.specs.declared.Lookup.{Lookup}
-use Rattle.fix.specs.declared.Lookup.TheVariants as lookup
 use Rattle.screen.specs.declared.ScreenAnswer.{ScreenAnswer}
 use Rattle.screen.specs.declared.ScreenAnswer.TheVariants.{Fix, Refused}
 use Rattle.screen.specs.declared.ScreenRecord.{ScreenRecord}
@@ -40,12 +38,12 @@ abbrev pub handed_on : Refusal → Refusal
 handed_on r = cond (in_table r.number) r (refusal 2 0)
 
 -- a lookup's answer for the screen
-unfoldable pub shown : Lookup → ℕ → ℕ → ScreenAnswer
-shown (lookup.Fix f) q np = Fix (shown_shift q np 0 f.first) (shown_shift q np 1 f.second) (shown_shift q np 2 f.third)
-shown (lookup.Refused r) q np = Refused (handed_on r)
+unfoldable pub shown : Result Fix Refusal → ℕ → ℕ → ScreenAnswer
+shown (Ok f) q np = Fix (shown_shift q np 0 f.first) (shown_shift q np 1 f.second) (shown_shift q np 2 f.third)
+shown (Err r) q np = Refused (handed_on r)
 
 -- the same, with Q and NP judged first: 2 with place 0
-unfoldable pub answer_of : Lookup → ℕ → ℕ → ScreenAnswer
+unfoldable pub answer_of : Result Fix Refusal → ℕ → ℕ → ScreenAnswer
 answer_of found q np =
     refuse_if Refused (not (admitted q np)) 2 0
     (shown found q np)

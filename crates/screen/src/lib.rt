@@ -79,7 +79,7 @@ fn handed_on(r: group::Refusal) -> group::Refusal
 // The shifts of a fix in the unit, each the whole result times 2 to the power -quantum, +0 for a parameter that the group doesn't have; or
 // the lookup's refusal with its place. A quantum above QUANTUM_MOST, parameters other than 1 to PARAMETERS_MOST, or a
 // refusal's number outside the table are refused by 2 with place 0.
-pub fn screen_answer(found: fix::Lookup, quantum: u64, parameters: u64) -> ScreenAnswer
+pub fn screen_answer(found: Result<fix::Fix, group::Refusal>, quantum: u64, parameters: u64) -> ScreenAnswer
     ensures { result ≡ answer_of found quantum parameters }
 {
     if !admits(quantum, parameters) {
@@ -89,12 +89,12 @@ pub fn screen_answer(found: fix::Lookup, quantum: u64, parameters: u64) -> Scree
         });
     }
     match found {
-        fix::Lookup::Fix(f) => ScreenAnswer::Fix(
+        Ok(f) => ScreenAnswer::Fix(
             shown_shift(parameters, 0, f.first, quantum),
             shown_shift(parameters, 1, f.second, quantum),
             shown_shift(parameters, 2, f.third, quantum),
         ),
-        fix::Lookup::Refused(r) => ScreenAnswer::Refused(handed_on(r)),
+        Err(r) => ScreenAnswer::Refused(handed_on(r)),
     }
 }
 
@@ -123,7 +123,7 @@ pub fn record_of(point: group::Point, answer: ScreenAnswer) -> ScreenRecord
 // The point in degrees and its shifts as `screen_answer` has them; five times +0 after a refusal.
 pub fn screen_record(
     point: group::Point,
-    found: fix::Lookup,
+    found: Result<fix::Fix, group::Refusal>,
     quantum: u64,
     parameters: u64,
 ) -> ScreenRecord

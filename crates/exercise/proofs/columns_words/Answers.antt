@@ -10,8 +10,6 @@ use mir.Syntax.{w64}
 use mir.Val.{to_z, of_z}
 use mir.ValLaws.{to_z-of_z}
 use Rattle.group.specs.declared.Group.{Group}
-use Rattle.group.specs.declared.Verdict.{Verdict}
-use Rattle.group.specs.declared.Verdict.TheVariants.{Accepted}
 use Rattle.abi.specs.Abi.{group_of_words, number_at, joined}
 use Rattle.abi.proofs.ListLaws.{run_none, run_length, run_more, run_all}
 use Rattle.exercise.specs.Exercise.{many_verdict, answer_words, answer_numbers, answer_at, columns_agree, position_at}
@@ -22,22 +20,24 @@ use Rattle.exercise.proofs.CallLaws.{call_judged, call_agree, call_ends, call_re
 use Rattle.exercise.proofs.SmallLaws.{numbers_stored}
 use Rattle.exercise.proofs.ColumnLaws.{columns_lengths, columns_all}
 use Rattle.exercise.proofs.columns_words.Goals as goal
+use Rattle.std.specs.Prelude.{Result, Ok, ⊤}
+use Rattle.group.specs.declared.Refusal.{Refusal}
 
 -- what the turn i may rely on, in a call with the verdict v over columns of these lengths
-record Turn (g : Group) (nodes : ℕ) (agree : Bool) (lons lats days results : ℕ) (v : Verdict) (i : ℕ) : Type 0 where
-  pub accepted : v ≡ Accepted
-  pub told : many_verdict g nodes agree ≡ Accepted
+record Turn (g : Group) (nodes : ℕ) (agree : Bool) (lons lats days results : ℕ) (v : Result ⊤ Refusal) (i : ℕ) : Type 0 where
+  pub accepted : v ≡ Ok tt
+  pub told : many_verdict g nodes agree ≡ Ok tt
   pub lon : i < lons
   pub lat : i < lats
   pub day : i < days
   pub result : results ≡ lons * answer_words
 
-turn : (g : Group) (nodes : ℕ) (agree : Bool) (lons lats days results : ℕ) (v : Verdict) (m i : ℕ)
+turn : (g : Group) (nodes : ℕ) (agree : Bool) (lons lats days results : ℕ) (v : Result ⊤ Refusal) (m i : ℕ)
     → v ≡ many_verdict g nodes agree → agree ≡ columns_agree lons lats days results → m ≡ counted v lons → i < m
     → Turn g nodes agree lons lats days results v i
 turn g nodes agree lons lats days results v m i e b c h =
-    let a : v ≡ Accepted = counted_some v lons i (subst (λ (n : ℕ). i < n) c h) in
-    let t : many_verdict g nodes agree ≡ Accepted = sym e ∙ a in
+    let a : v ≡ Ok tt = counted_some v lons i (subst (λ (n : ℕ). i < n) c h) in
+    let t : many_verdict g nodes agree ≡ Ok tt = sym e ∙ a in
     let s = columns_lengths lons lats days results (sym b ∙ call_agree g nodes agree t) in
     let l : i < lons = omega (arith, counted_most v lons) in
     record { accepted = a; told = t; lon = l; lat = omega (arith, s.0); day = omega (arith, s.1); result = s.2 }
@@ -117,7 +117,7 @@ pub returns : goal.returns
 returns c =
     let a = c.args in let x = group_of_words a.words.now in let n = length a.lons.now in
     let v = c.judge_call-verdict.ensures.0 ∙ ap (many_verdict x (length a.nodes.now)) c.columns_agree-agree.ensures in
-    let k = c.counted-count.ensures ∙ ap (λ (w : Verdict). counted w n) v in (
+    let k = c.counted-count.ensures ∙ ap (λ (w : Result ⊤ Refusal). counted w n) v in (
       v,
       run_all _ _ _ 0 _ _ c.loop-i.invariant.run c.loop-i-test.false
           ∙ ap (λ (m : ℕ). sets a.results.now 0 (joined (λ i. answer_numbers (answer_at x a.nodes.now (position_at a.lons.now a.lats.now a.days.now i))) m)) k

@@ -7,7 +7,6 @@ use lib.ListN.{length, set, take, drop}
 use lib.Seq.{sets, length-take-le}
 use borrow.Rule.Slice.PartMut.{put_mid}
 use Rattle.group.specs.declared.Group.{Group}
-use Rattle.group.specs.declared.Verdict.TheVariants.{Accepted}
 use Rattle.group.specs.Numbers.{grids_most}
 use Rattle.abi.specs.Abi.{group_of_words}
 use Rattle.flat.specs.Turned.{SidesTurnable}
@@ -17,6 +16,7 @@ use Rattle.ingroup.proofs.InGroupLaws.{flat_turnable}
 use Rattle.exercise.specs.Tables.{rows_most, owners_from, shifts_from, count_index, table_words, Tabled}
 use Rattle.exercise.proofs.TableLaws.{rows_length, shifted, shifted_length, finished_length, tabled}
 use Rattle.exercise.proofs.fill_tables.Goals as goal
+use Rattle.std.specs.Prelude.{Ok}
 
 -- the tables with the owners a and the shifts b in their places, whatever is said of them
 stored : (t r o v : List ℕ) (long : length t ≡ table_words) (er : length r ≡ owners_from) (eo : length o ≡ rows_most) (ev : length v ≡ rows_most)
@@ -29,10 +29,10 @@ stored t r o v long er eo ev P a b ea eb h =
     (subst (λ (l : List ℕ). P (put_mid shifts_from rows_most (put_mid owners_from rows_most (r ++ drop owners_from t) l) (sets (take rows_most (drop shifts_from (put_mid owners_from rows_most (r ++ drop owners_from t) l))) 0 v))) (sym ea) h)
 
 -- what an accepted group's ranks and sides have room for
-ranked : (g : Group) (n ranks : ℕ) → judged g ≡ Accepted → n ≡ g.grids → grids_most ≤ ranks → n ≤ ranks
+ranked : (g : Group) (n ranks : ℕ) → judged g ≡ Ok tt → n ≡ g.grids → grids_most ≤ ranks → n ≤ ranks
 ranked g n ranks e h m = omega (arith, (accepted_head g e).grids)
 
-sided : (g : Group) (sides : ℕ) → judged g ≡ Accepted → grids_most * 4 ≤ sides → g.grids * 4 ≤ sides
+sided : (g : Group) (sides : ℕ) → judged g ≡ Ok tt → grids_most * 4 ≤ sides → g.grids * 4 ≤ sides
 sided g sides e m = omega (arith, (accepted_head g e).grids)
 
 pub slice_bounds-rank_rows-end : goal.slice_bounds-rank_rows-end

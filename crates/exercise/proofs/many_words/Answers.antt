@@ -12,8 +12,6 @@ use mir.Syntax.{w64}
 use mir.ValLaws.{to_z-of_z}
 use Rattle.group.specs.declared.Group.{Group}
 use Rattle.group.specs.declared.Position.{Position}
-use Rattle.group.specs.declared.Verdict.{Verdict}
-use Rattle.group.specs.declared.Verdict.TheVariants.{Accepted}
 use Rattle.abi.specs.Abi.{group_of_words}
 use Rattle.lookup.specs.declared.Answer.{Answer}
 use Rattle.exercise.specs.declared.Scale.{Scale}
@@ -23,19 +21,21 @@ use Rattle.exercise.proofs.FilledLaws.{filled, filled_suc}
 use Rattle.exercise.proofs.ScaleLaws.{scale_none, scale_same}
 use Rattle.exercise.proofs.CallLaws.{call_judged, call_agree, call_ready, counted_some, counted_most, results_all}
 use Rattle.exercise.proofs.many_words.Goals as goal
+use Rattle.std.specs.Prelude.{Result, Ok, ⊤}
+use Rattle.group.specs.declared.Refusal.{Refusal}
 
 -- what the turn i of m may rely on, in a call with the verdict v
-record Turn (g : Group) (nodes : ℕ) (xs : List Position) (ys : List Answer) (v : Verdict) (i : ℕ) : Type 0 where
-  pub accepted : v ≡ Accepted
-  pub told : many_verdict g nodes (eqb (length xs) (length ys)) ≡ Accepted
+record Turn (g : Group) (nodes : ℕ) (xs : List Position) (ys : List Answer) (v : Result ⊤ Refusal) (i : ℕ) : Type 0 where
+  pub accepted : v ≡ Ok tt
+  pub told : many_verdict g nodes (eqb (length xs) (length ys)) ≡ Ok tt
   pub point : i < length xs
   pub result : i < length ys
 
-turn : (g : Group) (nodes : ℕ) (xs : List Position) (ys : List Answer) (v : Verdict) (m i : ℕ)
+turn : (g : Group) (nodes : ℕ) (xs : List Position) (ys : List Answer) (v : Result ⊤ Refusal) (m i : ℕ)
     → v ≡ many_verdict g nodes (eqb (length xs) (length ys)) → m ≡ counted v (length xs) → i < m → Turn g nodes xs ys v i
 turn g nodes xs ys v m i e c h =
-    let a : v ≡ Accepted = counted_some v (length xs) i (subst (λ (n : ℕ). i < n) c h) in
-    let t : many_verdict g nodes (eqb (length xs) (length ys)) ≡ Accepted = sym e ∙ a in
+    let a : v ≡ Ok tt = counted_some v (length xs) i (subst (λ (n : ℕ). i < n) c h) in
+    let t : many_verdict g nodes (eqb (length xs) (length ys)) ≡ Ok tt = sym e ∙ a in
     let s : length xs ≡ length ys = eqb-true (length xs) (length ys) (call_agree g nodes (eqb (length xs) (length ys)) t) in
     let p : i < length xs = omega (arith, counted_most v (length xs)) in
     record { accepted = a; told = t; point = p; result = omega arith }
@@ -96,7 +96,7 @@ returns c =
     let a = c.args in
     let n = length a.points.now in
     let e : c.loop-i.i ≡ c.counted-count.result = omega arith in
-    let k = e ∙ c.counted-count.ensures ∙ ap (λ (v : Verdict). counted v n) c.judge_call-verdict.ensures.0 in (
+    let k = e ∙ c.counted-count.ensures ∙ ap (λ (v : Result ⊤ Refusal). counted v n) c.judge_call-verdict.ensures.0 in (
       c.judge_call-verdict.ensures.0,
       c.loop-i.invariant.written
           ∙ ap (filled (map (answer_at (group_of_words a.words.now) a.nodes.now) a.points.now) a.results.now) k

@@ -1,12 +1,12 @@
 -- `header::read_entries` meets its contract.
 use mathlib.Core.Path.{sym, ap, ◌∙◌}
 use Rattle.group.specs.Numbers.{functions_most, grids_most}
-use Rattle.group.specs.declared.Verdict.TheVariants.{Accepted}
 use Rattle.group.specs.Blank.{blank_function, blank_grid}
 use Rattle.line.specs.Lines.{function_line}
 use Rattle.header.specs.Whole.{grid_lines, lines_reading}
 use Rattle.header.proofs.WholeLaws.{functions_stop, grids_stop, more_stops, entries_done}
 use Rattle.header.proofs.read_entries.Goals as goal
+use Rattle.std.specs.Prelude.{Ok}
 
 pub returns-in-Refused : goal.returns-in-Refused
 returns-in-Refused c =
@@ -32,7 +32,7 @@ returns c =
     let a = c.read_functions-functions.ensures in
     let b = c.read_grids-grids.ensures in
     (λ i. record {
-      verdict = Accepted;
+      verdict = Ok tt;
       group = record {
         name = h.name;
         unit = h.unit;

@@ -5,11 +5,11 @@ use mathlib.Core.List.{List}
 use native.Mathlib.Omega.{arith}
 use lib.ListN.{length}
 use Rattle.text.specs.Put.{put}
-use Rattle.group.specs.declared.Verdict.TheVariants.{Accepted}
 use Rattle.judge.specs.Judge.{judged}
 use Rattle.header.proofs.LengthLaws.{length_most}
 use Rattle.header.proofs.HeaderLaws.{front_of, front_le, refused_answer, short_answer, count_answer}
 use Rattle.header.proofs.write_judged.Goals as goal
+use Rattle.std.specs.Prelude.{Ok}
 
 pub returns-in-Refused : goal.returns-in-Refused
 returns-in-Refused c =
@@ -18,12 +18,12 @@ returns-in-Refused c =
 
 pub put_group-n-requires : goal.put_group-n-requires
 put_group-n-requires c =
-    let fine : judged c.args.group ≡ Accepted = sym c.requires ∙ c.in_default.is in
+    let fine : judged c.args.group ≡ Ok tt = sym c.requires ∙ c.in_default.is in
     (fine, length_most c.args.group fine)
 
 pub returns-then-out-n : goal.returns-then-out-n
 returns-then-out-n c =
-    let fine : judged c.args.group ≡ Accepted = sym c.requires ∙ c.in_default.is in
+    let fine : judged c.args.group ≡ Ok tt = sym c.requires ∙ c.in_default.is in
     let s = c.args in
     let w = c.put_group-n.ensures.place in
     let l = c.if-out-n.true in
@@ -40,7 +40,7 @@ put_front-requires c =
 
 pub returns : goal.returns
 returns c =
-    let fine : judged c.args.group ≡ Accepted = sym c.requires ∙ c.in_default.is in
+    let fine : judged c.args.group ≡ Ok tt = sym c.requires ∙ c.in_default.is in
     let s = c.args in
     let k = c.put_group-n in
     let l = c.if-out-n.false in

@@ -1,9 +1,9 @@
 -- `shown_hole` meets its contract: the coordinate is in mas.
 use mathlib.Core.Path.{sym, ◌∙◌, ap}
 use mathlib.Core.Bool.{true}
-use Rattle.group.specs.declared.Verdict.TheVariants.{Accepted}
 use Rattle.inforce.specs.Hole.{accepted_hole}
 use Rattle.inforce.proofs.shown_hole.Goals as goal
+use Rattle.std.specs.Prelude.{Ok}
 
 pub lon_at-requires : goal.lon_at-requires
 lon_at-requires c = (c.requires _ _ c.in-At.is).0
@@ -13,7 +13,7 @@ lat_at-requires c = (c.requires _ _ c.in-At.is).1
 
 pub returns-in-At : goal.returns-in-At
 returns-in-At c =
-    (λ i. record { verdict = Accepted; found = true; lon = record { 0 = c.lon_at.ensures i }; lat = record { 0 = c.lat_at.ensures i } })
+    (λ i. record { verdict = Ok tt; found = true; lon = record { 0 = c.lon_at.ensures i }; lat = record { 0 = c.lat_at.ensures i } })
     ∙ ap accepted_hole (sym c.in-At.is)
 
 pub returns-in-Nothing : goal.returns-in-Nothing

@@ -3,7 +3,6 @@ use mathlib.Core.Path.{◌≡◌, sym, ap, ◌∙◌}
 use lib.ListN.{length}
 use mir.Facts.{to_z-of_z}
 use Rattle.abi.specs.Abi.{group_of_words}
-use Rattle.fix.specs.declared.Lookup.{Lookup}
 use Rattle.lookup.specs.Lookup.{looked}
 use Rattle.exercise.specs.Exercise.{point_at}
 use Rattle.logs.specs.Writing.{found_written, found_after, line_written, line_after}
@@ -12,6 +11,9 @@ use Rattle.logs.proofs.WrittenLaws.{lookup_refused}
 use borrow.Author.Rules.{rules}
 use mir.Syntax.{w64}
 use Rattle.logs.proofs.line_words.Goals as goal
+use Rattle.std.specs.Prelude.{Result}
+use Rattle.group.specs.declared.Refusal.{Refusal}
+use Rattle.fix.specs.declared.Fix.{Fix}
 
 pub write_fix-requires : goal.write_fix-requires
 write_fix-requires c =
@@ -44,5 +46,5 @@ returns-in-Fix c =
     let w = c.write_fix.ensures in
     record {
       answer = w.answer ∙ ap (found_written g a.position (length a.out.now)) e;
-      bytes = w.bytes ∙ ap (λ (l : Lookup). found_after g a.position l a.out.now) e;
+      bytes = w.bytes ∙ ap (λ (l : Result Fix Refusal). found_after g a.position l a.out.now) e;
     }

@@ -7,7 +7,6 @@ use lib.Dec.{ltb}
 use Rattle.numbers.specs.First.{first}
 use Rattle.numbers.proofs.FirstLaws.{first_same}
 use Rattle.group.specs.declared.Group.{Group}
-use Rattle.group.specs.declared.Verdict.TheVariants.{Accepted, Refused}
 use Rattle.group.proofs.RefusalLaws.{at_here, at_past}
 use Rattle.abi.specs.Abi.{group_of_words}
 use Rattle.flat.specs.declared.Frame.{Frame}
@@ -18,6 +17,7 @@ use Rattle.judge.proofs.Accepted.{accepted_head, accepted_sized}
 use Rattle.lookup.specs.Lookup.{ends_early, nodes_judged}
 use Rattle.lookup.specs.Flat.{FramesSized}
 use Rattle.lookup.proofs.judge_nodes.Goals as goal
+use Rattle.std.specs.Prelude.{Ok, Err}
 
 module _ (g : Group) (frames : List ℕ) (f : Framed g g.grids frames) where
   -- the first short range, by the frames
@@ -27,7 +27,7 @@ module _ (g : Group) (frames : List ℕ) (f : Framed g g.grids frames) where
       (λ i. first (λ k. ltb count (frame_end (ep i) (frame_at frames k))) (en i))
       ∙ first_same _ _ g.grids (λ k l. ap (λ (d : Frame). ltb count (frame_end g.parameters d)) (f k l))
 
-  sized : judged g ≡ Accepted → FramesSized frames g.grids
+  sized : judged g ≡ Ok tt → FramesSized frames g.grids
   sized e k l = let z = accepted_sized g e k l in rw (f k l) (z.lon.most, z.lat.most, z.first)
 
 pub first_short-short-requires : goal.first_short-short-requires
@@ -46,7 +46,7 @@ pub returns-then-short-n : goal.returns-then-short-n
 unfolding nodes_judged
 returns-then-short-n c =
     let g = group_of_words c.args.words.now in
-    at_here Refused (ends_early g c.args.nodes) g.grids 13 1 Accepted c.first_short-short.result
+    at_here Err (ends_early g c.args.nodes) g.grids 13 1 (Ok tt) c.first_short-short.result
     (c.first_short-short.ensures ∙ short g c.args.frames.now c.requires.1 _ c.grid_count-n.ensures c.parameter_count.ensures)
     (omega (arith, c.if-short-n.true, c.grid_count-n.ensures))
 
@@ -55,6 +55,6 @@ unfolding nodes_judged
 returns c =
     let g = group_of_words c.args.words.now in
     sym
-    (at_past Refused (ends_early g c.args.nodes) g.grids 13 1 Accepted c.first_short-short.result
+    (at_past Err (ends_early g c.args.nodes) g.grids 13 1 (Ok tt) c.first_short-short.result
     (c.first_short-short.ensures ∙ short g c.args.frames.now c.requires.1 _ c.grid_count-n.ensures c.parameter_count.ensures)
     (omega (arith, c.if-short-n.false, c.grid_count-n.ensures)))

@@ -8,29 +8,28 @@ use Rattle.group.specs.Refusals.{refusal}
 use Rattle.group.proofs.RefusalLaws.{if_here, if_past}
 use Rattle.group.specs.Numbers.{quantum_most, parameters_most}
 use Rattle.fix.specs.declared.Fix.{Fix}
-use Rattle.fix.specs.declared.Lookup.{Lookup}
-use Rattle.fix.specs.declared.Lookup.TheVariants as lookup
 use Rattle.screen.specs.declared.ScreenAnswer.TheVariants as answer
 use Rattle.screen.specs.Screen.{admitted, shown_shift, handed_on, shown, answer_of}
 use Rattle.screen.proofs.screen_answer.Goals as goal
+use Rattle.std.specs.Prelude.{Result, Ok, Err}
 
-module _ (q np : ℕ) (found : Lookup) where
+module _ (q np : ℕ) (found : Result Fix Refusal) where
   is_outside : admitted q np ≡ false → answer.Refused (refusal 2 0) ≡ answer_of found q np
   unfolding answer_of
   is_outside h = sym (if_here answer.Refused (not (admitted q np)) 2 0 (shown found q np) (ap not h))
 
-  is_shown : (l : Lookup) → admitted q np ≡ true → found ≡ l → shown l q np ≡ answer_of found q np
+  is_shown : (l : Result Fix Refusal) → admitted q np ≡ true → found ≡ l → shown l q np ≡ answer_of found q np
   unfolding answer_of
   is_shown l h e =
-      ap (λ (m : Lookup). shown m q np) (sym e) ∙ sym (if_past answer.Refused (not (admitted q np)) 2 0 (shown found q np) (ap not h))
+      ap (λ (m : Result Fix Refusal). shown m q np) (sym e) ∙ sym (if_past answer.Refused (not (admitted q np)) 2 0 (shown found q np) (ap not h))
 
-  is_fix : (f : Fix) (a b c : Float) → admitted q np ≡ true → found ≡ lookup.Fix f → a ≡ shown_shift q np 0 f.first → b ≡ shown_shift q np 1 f.second → c ≡ shown_shift q np 2 f.third → answer.Fix a b c ≡ answer_of found q np
+  is_fix : (f : Fix) (a b c : Float) → admitted q np ≡ true → found ≡ Ok f → a ≡ shown_shift q np 0 f.first → b ≡ shown_shift q np 1 f.second → c ≡ shown_shift q np 2 f.third → answer.Fix a b c ≡ answer_of found q np
   unfolding shown
-  is_fix f a b c h e x y z = rw (x, y, z) (is_shown (lookup.Fix f) h e)
+  is_fix f a b c h e x y z = rw (x, y, z) (is_shown (Ok f) h e)
 
-  is_refused : (r s : Refusal) → admitted q np ≡ true → found ≡ lookup.Refused r → s ≡ handed_on r → answer.Refused s ≡ answer_of found q np
+  is_refused : (r s : Refusal) → admitted q np ≡ true → found ≡ Err r → s ≡ handed_on r → answer.Refused s ≡ answer_of found q np
   unfolding shown
-  is_refused r s h e t = rw t (is_shown (lookup.Refused r) h e)
+  is_refused r s h e t = rw t (is_shown (Err r) h e)
 
 -- an admitted quantum
 quantum_limit : (q np : ℕ) → admitted q np ≡ true → q ≤ quantum_most
