@@ -10,8 +10,7 @@ use native.Mathlib.Omega.{arith}
 use lib.Dec.{eqb, leb}
 use lib.ListN.{length, length-append}
 use lib.IntN.{ℤ, pos, negsuc, nat_abs}
-use lib.Signed.{lt_z}
-use borrow.Author.Tests.{eqb-true, eqb-false, ne_eqb, lt-ltb, le-ltb, le-leb, leb-true, ltb-true}
+use borrow.Author.Tests.{eqb-true, eqb-false, ne_eqb, lt-ltb, le-ltb, le-leb, leb-true}
 use Rattle.numbers.proofs.Bools.{and_left, and_right}
 use Rattle.text.specs.Decimal.{is_digit, digits_from, read_nat, above, below, read_int, decimal_in, decimal, int_text}
 use Rattle.text.proofs.PartLaws.{Free, Free-append}
@@ -208,12 +207,3 @@ int_text_length d (negsuc n) h = let k = length_below d (suc n) h in omega arith
 
 pub pos_text_length : (d n : ℕ) → n < 10 ^ suc d → length (int_text (pos n)) ≤ suc d
 pos_text_length = length_below
-
--- the text of a number by its sign and its size
-pub int_text_below : (z : ℤ) → lt_z z (pos 0) ≡ true → int_text z ≡ 45 ∷ decimal (nat_abs z)
-int_text_below (pos n) e = absurd (let h = ltb-true n 0 e in omega arith)
-int_text_below (negsuc n) e = refl
-
-pub int_text_above : (z : ℤ) → lt_z z (pos 0) ≡ false → int_text z ≡ decimal (nat_abs z)
-int_text_above (pos n) e = refl
-int_text_above (negsuc n) e = let q : ◌≡◌ {A = ℕ} 0 1 = cc in absurd (omega arith)

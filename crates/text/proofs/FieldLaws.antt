@@ -4,6 +4,7 @@ use mathlib.Core.Path.{◌≡◌, refl, sym, ap, ◌∙◌}
 use mathlib.Core.Bool.{true, false}
 use mathlib.Core.List.{List, [], ◌∷◌, map}
 use mathlib.Core.Option.{Option, none, some}
+use Rattle.std.specs.Prelude as R
 use native.Mathlib.Numerals.{add-one}
 use native.Mathlib.Omega.{arith}
 use lib.Dec.{eqb}
@@ -16,8 +17,6 @@ use Rattle.text.specs.Parts.{split, field_of}
 use Rattle.text.specs.Decimal.{read_int, int_text}
 use Rattle.text.specs.Number.{number_most, clamp, number_of}
 use Rattle.text.specs.Fields.{same, both, read_ints}
-use Rattle.text.specs.declared.Number.{Number}
-use Rattle.text.specs.declared.Number.TheVariants.{Malformed, Whole}
 use Rattle.text.proofs.PartLaws.{AllFree, field_split}
 use Rattle.text.proofs.DecimalLaws.{read_int_int_text, int_text_read_int, int_text_free}
 
@@ -77,14 +76,14 @@ ints_cons ps k z zs h e f = rw (drop-cons ps k [] h, e, f)
 -- ---- what read_number tells
 
 -- an answer about field k of the line
-pub answer : (line : List ℕ) (k : ℕ) (f : List ℕ) (r : Number) → r ≡ number_of (read_int f) → f ≡ field_of line k → number_of (read_int (get_or (split 9 line) k [])) ≡ r
+pub answer : (line : List ℕ) (k : ℕ) (f : List ℕ) (r : R.Option ℤ) → r ≡ number_of (read_int f) → f ≡ field_of line k → number_of (read_int (get_or (split 9 line) k [])) ≡ r
 answer line k f r e g = sym (e ∙ ap (λ (l : List ℕ). number_of (read_int l)) (g ∙ field_split line k))
 
-pub malformed : (o : Option ℤ) → number_of o ≡ Malformed → o ≡ none
+pub malformed : (o : Option ℤ) → number_of o ≡ R.None → o ≡ none
 malformed none e = refl
 malformed (some z) e = let q : ◌≡◌ {A = ℕ} 0 1 = cc in absurd (omega arith)
 
-pub whole : (o : Option ℤ) (y : ℤ) → number_of o ≡ Whole y → (z : ℤ) × ((o ≡ some z) × (clamp z ≡ y))
+pub whole : (o : Option ℤ) (y : ℤ) → number_of o ≡ R.Some y → (z : ℤ) × ((o ≡ some z) × (clamp z ≡ y))
 whole none y e = let q : ◌≡◌ {A = ℕ} 0 1 = cc in absurd (omega arith)
 whole (some z) y e = (z, (refl, cc))
 
@@ -97,7 +96,7 @@ clamp_id (negsuc n) h = ap negsuc (omega arith)
 -- the fields from index k on are these numbers, as the code tells them apart
 abbrev pub Numbers : List (List ℕ) → ℕ → List ℤ → Type 0
 Numbers ps k [] = Unit {0}
-Numbers ps k (y ∷ ys) = (number_of (read_int (get_or ps k [])) ≡ Whole y) × Numbers ps (suc k) ys
+Numbers ps k (y ∷ ys) = (number_of (read_int (get_or ps k [])) ≡ R.Some y) × Numbers ps (suc k) ys
 
 pub numbers_read : (ps : List (List ℕ)) (k : ℕ) (ys : List ℤ) → length ps ≡ k + length ys → Numbers ps k ys → (zs : List ℤ) × ((read_ints (drop k ps) ≡ some zs) × (map clamp zs ≡ ys))
 numbers_read ps k [] h n = ([], (ints_end ps k (omega arith), refl))

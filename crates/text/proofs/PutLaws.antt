@@ -1,18 +1,21 @@
 -- Laws of put, and of writers one after the other.
 use Prim.Native.Nat.{ℕ, ◌+◌, ◌<◌, ◌≤◌}
 use mathlib.Core.Path.{◌≡◌, refl, sym, ap, subst, ◌∙◌}
+use mathlib.Core.Bool.{true, false}
 use mathlib.Core.List.{List, [], ◌∷◌, ◌++◌, append_assoc, append-nil}
 use native.Mathlib.Nat.{add-zero}
 use native.Mathlib.Numerals.{add-one}
 use native.Mathlib.Omega.{arith}
-use lib.ListN.{length, take, drop, set, get_or, length-append, length-take, length-drop, take-append-drop}
-use lib.Seq.{length-take-le, take-suc, set_split, take_at, drop_at, drop-drop}
-use lib.IntN.{ℤ}
+use lib.ListN.{length, take, drop, set, length-append, length-take, length-drop, take-append-drop}
+use lib.Seq.{length-take-le, set_split, take_at, drop_at, drop-drop}
+use lib.IntN.{ℤ, pos, negsuc, nat_abs}
+use lib.Signed.{lt_z}
+use borrow.Author.Tests.{ltb-true}
 use mir.Syntax.{w64}
 use mir.Val.{to_z, of_z, SFits}
 use mir.Facts.{to_z-of_z}
 use Rattle.text.specs.Parts.{led, join}
-use Rattle.text.specs.Decimal.{int_text}
+use Rattle.text.specs.Decimal.{decimal, int_text}
 use Rattle.text.specs.Put.{put}
 use Rattle.text.specs.Wrote.{Wrote}
 
@@ -52,13 +55,6 @@ put_snoc at x p t out h e =
     ∙ put_one (at + length t) x (put at t out) (omega arith)
     ∙ put_put at t (x ∷ []) out (omega arith)
 
--- a step of a copy
-pub put_step : (at i : ℕ) (s out : List ℕ) → at + length s ≤ length out → i < length s → set (put at (take i s) out) (at + i) (get_or s i 0) ≡ put at (take (i + 1) s) out
-put_step at i s out h k =
-    let l = length-take-le i s (omega arith) in
-    put_snoc at (get_or s i 0) (at + i) (take i s) out (omega arith) (omega arith)
-    ∙ ap (λ (t : List ℕ). put at t out) (sym (take-suc s i 0 k) ∙ ap (λ (j : ℕ). take j s) (sym (add-one i)))
-
 -- a text behind a text, as two calls leave it
 pub put_more : (at p : ℕ) (a b out out₁ out₂ : List ℕ) → out₁ ≡ put at a out → p ≡ at + length a → out₂ ≡ put p b out₁ → at + length a + length b ≤ length out → out₂ ≡ put at (a ++ b) out
 put_more at p a b out out₁ out₂ e q f h =
@@ -90,6 +86,22 @@ wrote_both at a b out p mid q after v w h =
     let l = v.place in
     let m = w.place in
     record { place = omega arith; holds = put_more at p a b out mid after v.holds v.place w.holds (omega arith) }
+
+-- a tab and a number, by its sign and its size's digits
+module _ (at n : ℕ) (out : List ℕ) (p : ℕ) (after : List ℕ) where
+  pub wrote_below : (z : ℤ) → lt_z z (pos 0) ≡ true → n ≡ nat_abs z → at + length (9 ∷ int_text z) ≤ length out
+      → Wrote (at + 2) (decimal n) (set (set out at 9) (at + 1) 45) p after → Wrote at (9 ∷ int_text z) out p after
+  wrote_below (pos m) l e h w = absurd (let b = ltb-true m 0 l in omega arith)
+  wrote_below (negsuc m) l e h w =
+      rw (← e)
+      (wrote_both at (9 ∷ 45 ∷ []) (decimal n) out (at + 2) _ p after (record { place = refl; holds = put_two at 9 45 out (omega arith) }) w (rw e h))
+
+  pub wrote_above : (z : ℤ) → lt_z z (pos 0) ≡ false → n ≡ nat_abs z → at + length (9 ∷ int_text z) ≤ length out
+      → Wrote (at + 1) (decimal n) (set out at 9) p after → Wrote at (9 ∷ int_text z) out p after
+  wrote_above (pos m) l e h w =
+      rw (← e)
+      (wrote_both at (9 ∷ []) (decimal n) out (at + 1) _ p after (record { place = refl; holds = put_one at 9 out (omega arith) }) w (rw e h))
+  wrote_above (negsuc m) l e h w = let q : ◌≡◌ {A = ℕ} 0 1 = cc in absurd (omega arith)
 
 -- ---- a text written piece by piece: some of it stands in the bytes, and the rest is left
 

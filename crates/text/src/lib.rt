@@ -20,10 +20,8 @@ fn lacks(s: &[u8], a: usize, e: usize, c: u8) -> bool
     ensures { result ≡ true → Lacks c s.now a e }
 {
     let mut none = true;
-    let mut k = a;
-    while k < e {
+    for k in a..e {
         none = none & (s[k] != c);
-        k += 1;
     }
     none
 }
@@ -33,13 +31,7 @@ fn past_blocks(s: &[u8], a: usize, c: u8) -> usize
     ensures { result + up_to c (drop result s.now) ≡ a + up_to c (drop a s.now) }
 {
     let mut i = a;
-    while i < s.len() {
-        if s.len() - i < FAR {
-            return i;
-        }
-        if !lacks(s, i, i + BLOCK, c) {
-            return i;
-        }
+    while i < s.len() && FAR <= s.len() - i && lacks(s, i, i + BLOCK, c) {
         i += BLOCK;
     }
     i
@@ -49,29 +41,26 @@ fn past_blocks(s: &[u8], a: usize, c: u8) -> usize
 pub fn find_from(s: &[u8], a: usize, c: u8) -> usize
     ensures { result ≡ a + up_to c (drop a s.now) }
 {
-    let mut i = past_blocks(s, a, c);
-    while i < s.len() {
+    let start = past_blocks(s, a, c);
+    for i in start..s.len() {
         if s[i] == c {
             return i;
         }
-        i += 1;
     }
-    i
+    start.max(s.len())
 }
 
 // Where part k of s, parted at c, starts: behind the k-th c, or at the end.
 pub fn part_start(s: &[u8], k: usize, c: u8) -> usize
     ensures { result ≡ start_of c s.now k }
 {
-    let mut seps = k;
     let mut i = 0;
-    while 0 < seps {
+    for _ in 0..k {
         let e = find_from(s, i, c);
         if s.len() <= e {
             return e;
         }
         i = e + 1;
-        seps -= 1;
     }
     i
 }
@@ -82,8 +71,8 @@ pub fn field(line: &[u8], number: usize) -> &[u8]
     ensures result_value { result.now ≡ field_of line.now number }
     ensures ref_ptr_value { result.ref_ptr ≡ behind line.entry.ref_ptr (start_of 9 line.now number) }
 {
-    let a = part_start(line, number, 9);
-    let e = find_from(line, a, 9);
+    let a = part_start(line, number, b'\t');
+    let e = find_from(line, a, b'\t');
     &line[a..e]
 }
 
@@ -101,7 +90,7 @@ pub fn cut_fields(line: &[u8], cuts: &mut [usize; CUTS]) -> usize
     let mut i = 0;
     cuts[0] = 0;
     loop {
-        let e = find_from(line, i, 9);
+        let e = find_from(line, i, b'\t');
         i = e + 1;
         n += 1;
         if n < CUTS {
@@ -126,65 +115,37 @@ pub fn cut_field<'a>(line: &'a [u8], cuts: &[usize; CUTS], number: usize) -> &'a
 // Sizes are told apart up to here, which is beyond every limit.
 const NUMBER_MOST: u64 = 1000000000000000000;
 
-// A field as a number; NUMBER_MOST and -NUMBER_MOST stand for all that is beyond them.
-#[derive(Clone, Copy)]
-pub enum Number {
-    Malformed,
-    Whole(i64),
-}
-
-// Digits as a number; NUMBER_MOST stands for all that is beyond it.
-#[derive(Clone, Copy)]
-enum Natural {
-    Bad,
-    Value(u64),
-}
-
 // The number m with the digit b behind it, or NUMBER_MOST.
 fn push_digit(m: u64, b: u8) -> u64
     requires { (m ≤ number_most) × ((48 ≤ b) × (b ≤ 57)) }
     ensures { result ≡ min (m * 10 + (b - 48)) number_most }
 {
-    let n = m * 10 + (b - 48) as u64;
-    if n < NUMBER_MOST { n } else { NUMBER_MOST }
+    let n = m * 10 + u64::from(b - b'0');
+    n.min(NUMBER_MOST)
 }
 
-// The digits from a to the end.
-fn read_digits(s: &[u8], a: usize) -> Natural
-    requires { a ≤ length s.now }
-    ensures { result ≡ natural_of (digits_from 0 (drop a s.now)) }
+// Digits as a number; NUMBER_MOST stands for all that is beyond it.
+fn read_digits(s: &[u8]) -> Option<u64>
+    ensures { result ≡ natural_of (digits_from 0 s.now) }
 {
-    let mut m: u64 = 0;
-    let mut i = a;
-    while i < s.len() {
-        let b = s[i];
-        if b < 48 {
-            return Natural::Bad;
+    let mut m = 0;
+    for b in s {
+        if !b.is_ascii_digit() {
+            return None;
         }
-        if 57 < b {
-            return Natural::Bad;
-        }
-        m = push_digit(m, b);
-        i += 1;
+        m = push_digit(m, *b);
     }
-    Natural::Value(m)
+    Some(m)
 }
 
-// The number without a sign from a to the end.
-fn read_natural(s: &[u8], a: usize) -> Natural
-    requires { a ≤ length s.now }
-    ensures { result ≡ natural_of (read_nat (drop a s.now)) }
+// A number without a sign.
+fn read_natural(s: &[u8]) -> Option<u64>
+    ensures { result ≡ natural_of (read_nat s.now) }
 {
-    let n = s.len() - a;
-    if n == 0 {
-        return Natural::Bad;
+    match s {
+        [] | [b'0', _, ..] => None,
+        _ => read_digits(s),
     }
-    if 1 < n {
-        if s[a] == 48 {
-            return Natural::Bad;
-        }
-    }
-    read_digits(s, a)
 }
 
 // m as a signed number.
@@ -200,47 +161,30 @@ fn minus(m: u64) -> i64
     requires { m ≤ number_most }
     ensures { result ≡ neg_ℤ (pos m) }
 {
-    let z = plus(m);
-    -z
+    -plus(m)
 }
 
-// A field as a decimal number, below zero led by `-`, with no plus, no leading zero and no -0.
-pub fn read_number(s: &[u8]) -> Number
+// A field as a decimal number, below zero led by `-`, with no plus, no leading zero and no -0;
+// NUMBER_MOST and -NUMBER_MOST stand for all that is beyond them.
+pub fn read_number(s: &[u8]) -> Option<i64>
     ensures { result ≡ number_of (read_int s.now) }
 {
-    if s.len() == 0 {
-        return Number::Malformed;
-    }
-    if s[0] == 45 {
-        let Natural::Value(m) = read_natural(s, 1) else {
-            return Number::Malformed;
-        };
-        if m == 0 {
-            return Number::Malformed;
-        }
-        return Number::Whole(minus(m));
-    }
-    let Natural::Value(m) = read_natural(s, 0) else {
-        return Number::Malformed;
+    let [b'-', digits @ ..] = s else {
+        let m = read_natural(s)?;
+        return Some(plus(m));
     };
-    Number::Whole(plus(m))
+    let m = read_natural(digits)?;
+    if m == 0 {
+        return None;
+    }
+    Some(minus(m))
 }
 
 // Whether s holds the bytes of w.
 pub fn same_bytes(s: &[u8], w: &[u8]) -> bool
     ensures { result ≡ same s.now w.now }
 {
-    if s.len() != w.len() {
-        return false;
-    }
-    let mut i = 0;
-    while i < s.len() {
-        if s[i] != w[i] {
-            return false;
-        }
-        i += 1;
-    }
-    true
+    s == w
 }
 
 // Writes s into out from `at` on, and answers the place behind it.
@@ -248,12 +192,9 @@ pub fn put_bytes(s: &[u8], out: &mut [u8], at: usize) -> usize
     requires { at + length s.now ≤ length out.old }
     ensures { Wrote at s.now out.old result out.new }
 {
-    let mut i = 0;
-    while i < s.len() {
-        out[at + i] = s[i];
-        i += 1;
-    }
-    at + i
+    let next = at + s.len();
+    out[at..next].copy_from_slice(s);
+    next
 }
 
 // Writes one byte.
@@ -271,11 +212,11 @@ fn put_digits(n: u64, out: &mut [u8], at: usize) -> usize
     ensures { Wrote at (decimal n) out.old result out.new }
 {
     if n < 10 {
-        out[at] = 48 + n as u8;
+        out[at] = b'0' + n as u8;
         return at + 1;
     }
     let p = put_digits(n / 10, out, at);
-    out[p] = 48 + (n % 10) as u8;
+    out[p] = b'0' + (n % 10) as u8;
     p + 1
 }
 
@@ -284,12 +225,12 @@ pub fn put_number(z: i64, out: &mut [u8], at: usize) -> usize
     requires { at + length (9 ∷ int_text z) ≤ length out.old }
     ensures { Wrote at (9 ∷ int_text z) out.old result out.new }
 {
-    out[at] = 9;
-    if numbers::negative(z) {
-        out[at + 1] = 45;
-        return put_digits(numbers::magnitude(z), out, at + 2);
+    out[at] = b'\t';
+    if z < 0 {
+        out[at + 1] = b'-';
+        return put_digits(z.unsigned_abs(), out, at + 2);
     }
-    put_digits(numbers::magnitude(z), out, at + 1)
+    put_digits(z.unsigned_abs(), out, at + 1)
 }
 
 // Writes a tab and a count.
@@ -297,6 +238,6 @@ pub fn put_count(n: u64, out: &mut [u8], at: usize) -> usize
     requires { at + length (9 ∷ int_text (pos n)) ≤ length out.old }
     ensures { Wrote at (9 ∷ int_text (pos n)) out.old result out.new }
 {
-    let p = put_byte(9, out, at);
+    let p = put_byte(b'\t', out, at);
     put_digits(n, out, p)
 }

@@ -1,6 +1,6 @@
 -- `text::find_from` meets its contract.
 use native.Mathlib.Omega.{arith}
-use Rattle.text.proofs.PartLaws.{up_to_here, up_to_more, up_to_end}
+use Rattle.text.proofs.PartLaws.{up_to_here, up_to_more}
 use Rattle.text.proofs.find_from.Goals as goal
 
 pub returns-then-s-i : goal.returns-then-s-i
@@ -12,8 +12,3 @@ pub loop-i-preserved : goal.loop-i-preserved
 loop-i-preserved c =
     let a = c.args in
     omega (arith, up_to_more a.c a.s.now c.loop-i.i c.loop-i-test.true c.if-s-i.false)
-
-pub returns : goal.returns
-returns c =
-    let a = c.args in
-    omega (arith, up_to_end a.c a.s.now c.loop-i.i c.loop-i-test.false)

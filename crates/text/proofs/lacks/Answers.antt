@@ -20,12 +20,9 @@ more c s a i none f t k h l e =
     (λ m. omega arith)
 
 pub loop-k-init : goal.loop-k-init
-loop-k-init c = (omega arith, omega arith, λ t k h l. absurd (omega arith))
+loop-k-init c = λ t k h l. absurd (omega arith)
 
 pub loop-k-preserved : goal.loop-k-preserved
 loop-k-preserved c =
     let a = c.args in
-    (omega arith, omega arith, more a.c a.s.now a.a c.loop-k.k c.loop-k.none c.loop-k.invariant.2)
-
-pub returns : goal.returns
-returns c = λ t k h l. c.loop-k.invariant.2 t k h (omega arith)
+    more a.c a.s.now a.a c.loop-k.k c.loop-k.none c.loop-k.invariant

@@ -7,5 +7,5 @@ pub loop-i-preserved : goal.loop-i-preserved
 loop-i-preserved c =
     let a = c.args in
     let v = c.loop-i.invariant in
-    let p = up_to_past a.c a.s.now c.loop-i.i 16 (omega arith) (c.lacks.ensures c.if-not-lacks.false) in
+    let p = up_to_past a.c a.s.now c.loop-i.i 16 (omega arith) (c.lacks.ensures c.if-lacks.true) in
     omega arith
