@@ -15,7 +15,7 @@ use Rattle.text.specs.Parts.{split, join}
 use Rattle.text.specs.Decimal.{read_int, int_text}
 use Rattle.text.specs.Number.{number_most, clamp, number_of}
 use Rattle.text.specs.Fields.{same, read_ints}
-use Rattle.text.specs.declared.Number.TheVariants as N
+use Rattle.std.specs.Prelude as R
 use Rattle.text.proofs.PartLaws.{Free, AllFree, join_split, split_join, Free-join, first_part}
 use Rattle.text.proofs.FieldLaws.{same_refl, same_true, ints_bad, ints_text, text_ints, length_ints, ints_free, malformed, Numbers, numbers_read, clamp_id}
 use Rattle.line.specs.Line.{Line, bad, good}
@@ -155,7 +155,7 @@ module _ {B A : Type 0} (texts numbers : ℕ) (read : List (List ℕ) → Option
       fields_text r = opened ∙ ap (λ (o : Option B). form_of o (read_ints (drop (suc texts) ps))) r
 
       -- a field that is no number
-      pub fields_bad : (k : ℕ) → suc texts ≤ k → k ≤ texts + numbers → number_of (read_int (get_or ps k [])) ≡ N.Malformed → of (drop 1 ps) ≡ bad form
+      pub fields_bad : (k : ℕ) → suc texts ≤ k → k ≤ texts + numbers → number_of (read_int (get_or ps k [])) ≡ R.None → of (drop 1 ps) ≡ bad form
       fields_bad k l u f =
           opened ∙ ap (form_of (read (drop 1 ps))) (ints_bad ps (suc texts) k l (omega arith) (malformed (read_int (get_or ps k [])) f))
           ∙ unnumbered (read (drop 1 ps))

@@ -15,7 +15,7 @@ use Rattle.numbers.proofs.Nearest.{three_ways}
 use Rattle.text.specs.Decimal.{read_int}
 use Rattle.text.specs.Number.{clamp, number_of}
 use Rattle.text.specs.Fields.{read_ints}
-use Rattle.text.specs.declared.Number.TheVariants as N
+use Rattle.std.specs.Prelude as R
 use Rattle.text.proofs.FieldLaws.{Numbers, numbers_read, ints_bad, length_ints, malformed}
 use Rattle.line.specs.Numbers.{read_count, NumbersRead}
 
@@ -23,7 +23,7 @@ use Rattle.line.specs.Numbers.{read_count, NumbersRead}
 
 -- field j of them is number j
 abbrev pub NumbersTo : List (List ℕ) → (first n : ℕ) → List ℤ → Type 0
-NumbersTo ps first n ys = (j : ℕ) → j < n → number_of (read_int (get_or ps (first + j) [])) ≡ N.Whole (get_or ys j (pos 0))
+NumbersTo ps first n ys = (j : ℕ) → j < n → number_of (read_int (get_or ps (first + j) [])) ≡ R.Some (get_or ys j (pos 0))
 
 each_number : (ps : List (List ℕ)) (k : ℕ) (ys : List ℤ) → NumbersTo ps k (length ys) ys → Numbers ps k ys
 each_number ps k [] h = tt
@@ -54,7 +54,7 @@ module _ (ps : List (List ℕ)) (first n : ℕ) (h : first + n ≤ length ps) wh
       zero_add : (j : ℕ) → 0 + j ≡ j
       zero_add j = omega arith
 
-  numbers_bad : (k : ℕ) → k < n → number_of (read_int (get_or ps (first + k) [])) ≡ N.Malformed → read_ints taken ≡ none
+  numbers_bad : (k : ℕ) → k < n → number_of (read_int (get_or ps (first + k) [])) ≡ R.None → read_ints taken ≡ none
   numbers_bad k l f =
       let m = taken_length in
       ints_bad taken 0 k (omega arith) (omega arith) (malformed (read_int (get_or taken k [])) (ap (λ (t : List ℕ). number_of (read_int t)) (taken_at k l) ∙ f))
@@ -62,16 +62,16 @@ module _ (ps : List (List ℕ)) (first n : ℕ) (h : first + n ≤ length ps) wh
   pub numbers_read_good : (ys : List ℤ) (k : ℕ) → length ys ≡ n → n ≤ k → NumbersTo ps first k ys → NumbersRead (read_ints taken) true ys
   numbers_read_good ys k l h f = record { good = λ e. numbers_good ys l (λ j b. f j (omega arith)); bad = λ e. absurd (true_false refl e) }
 
-  pub numbers_read_bad : (ys : List ℤ) (k : ℕ) → k < n → number_of (read_int (get_or ps (first + k) [])) ≡ N.Malformed → NumbersRead (read_ints taken) false ys
+  pub numbers_read_bad : (ys : List ℤ) (k : ℕ) → k < n → number_of (read_int (get_or ps (first + k) [])) ≡ R.None → NumbersRead (read_ints taken) false ys
   numbers_read_bad ys k l f = record { good = λ e. absurd (true_false e refl); bad = λ e. numbers_bad k l f }
 
 -- one number more
 pub numbers_more : (ps : List (List ℕ)) (first k : ℕ) (ys : List ℤ) (y : ℤ) → k < length ys → NumbersTo ps first k ys
-    → number_of (read_int (get_or ps (first + k) [])) ≡ N.Whole y → NumbersTo ps first (k + 1) (set ys k y)
+    → number_of (read_int (get_or ps (first + k) [])) ≡ R.Some y → NumbersTo ps first (k + 1) (set ys k y)
 numbers_more ps first k ys y l f e j h =
     three_ways j k
-    (λ b. f j b ∙ ap N.Whole (sym (get_or-set_other ys k j y (pos 0) (λ q. omega arith))))
-    (λ q. ap (λ (i : ℕ). number_of (read_int (get_or ps (first + i) []))) q ∙ e ∙ ap N.Whole (sym (get_or-set_same ys k y (pos 0) l) ∙ ap (λ (i : ℕ). get_or (set ys k y) i (pos 0)) (sym q)))
+    (λ b. f j b ∙ ap R.Some (sym (get_or-set_other ys k j y (pos 0) (λ q. omega arith))))
+    (λ q. ap (λ (i : ℕ). number_of (read_int (get_or ps (first + i) []))) q ∙ e ∙ ap R.Some (sym (get_or-set_same ys k y (pos 0) l) ∙ ap (λ (i : ℕ). get_or (set ys k y) i (pos 0)) (sym q)))
     (λ b. absurd (omega arith))
 
 -- ---- all fields

@@ -18,8 +18,7 @@ use Rattle.text.specs.Parts.{split, field_of}
 use Rattle.text.specs.Fields.{same, read_ints}
 use Rattle.text.specs.Decimal.{read_int}
 use Rattle.text.specs.Number.{number_of}
-use Rattle.text.specs.declared.Number.{Number}
-use Rattle.text.specs.declared.Number.TheVariants as N
+use Rattle.std.specs.Prelude as R
 use Rattle.text.proofs.PartLaws.{field_split}
 use Rattle.text.proofs.FieldLaws.{answer}
 use Rattle.group.specs.Limits.{function_fits}
@@ -144,12 +143,12 @@ module _ (line : List ℕ) where
 abbrev pub bits : ℤ → ℤ
 bits z = to_z w64 (of_z w64 z)
 
-module _ (line : List ℕ) (k : ℕ) (f : List ℕ) (r : Number) (e : r ≡ number_of (read_int f)) (g : f ≡ field_of line k) where
-  pub field_bad : r ≡ N.Malformed → number_of (read_int (get_or (split 9 line) k [])) ≡ N.Malformed
+module _ (line : List ℕ) (k : ℕ) (f : List ℕ) (r : R.Option ℤ) (e : r ≡ number_of (read_int f)) (g : f ≡ field_of line k) where
+  pub field_bad : r ≡ R.None → number_of (read_int (get_or (split 9 line) k [])) ≡ R.None
   field_bad h = answer line k f r e g ∙ h
 
-  pub field_number : (z : ℤ) → r ≡ N.Whole z → SFits w64 z → number_of (read_int (get_or (split 9 line) k [])) ≡ N.Whole (bits z)
-  field_number z h s = answer line k f r e g ∙ h ∙ ap N.Whole (sym (to_z-of_z s))
+  pub field_number : (z : ℤ) → r ≡ R.Some z → SFits w64 z → number_of (read_int (get_or (split 9 line) k [])) ≡ R.Some (bits z)
+  field_number z h s = answer line k f r e g ∙ h ∙ ap R.Some (sym (to_z-of_z s))
 
 -- ---- a function line, by what the reading of its numbers tells
 

@@ -23,7 +23,6 @@ use group::{
     Function, Grid, Latitude, Longitude, Name, Ramp, Ramp2, Refusal, Shape, Step, Unit,
     blank_function, blank_grid, blank_name,
 };
-use text::Number;
 
 // A group line: all of a group but its functions and grids.
 #[derive(Clone, Copy)]
@@ -159,7 +158,7 @@ pub fn read_numbers(
 {
     let mut k = 0;
     while k < numbers.len() {
-        let Number::Whole(z) = text::read_number(text::cut_field(line, cuts, first + k)) else {
+        let Some(z) = text::read_number(text::cut_field(line, cuts, first + k)) else {
             return false;
         };
         numbers[k] = z;
@@ -296,16 +295,16 @@ pub fn group_line(line: &[u8]) -> HeadRead
     let UnitRead::Known(unit) = read_unit(text::cut_field(line, &cuts, 2)) else {
         return refused_head(1, 1);
     };
-    let Number::Whole(q) = text::read_number(text::cut_field(line, &cuts, 3)) else {
+    let Some(q) = text::read_number(text::cut_field(line, &cuts, 3)) else {
         return refused_head(1, 1);
     };
-    let Number::Whole(np) = text::read_number(text::cut_field(line, &cuts, 4)) else {
+    let Some(np) = text::read_number(text::cut_field(line, &cuts, 4)) else {
         return refused_head(1, 1);
     };
-    let Number::Whole(functions) = text::read_number(text::cut_field(line, &cuts, 5)) else {
+    let Some(functions) = text::read_number(text::cut_field(line, &cuts, 5)) else {
         return refused_head(1, 1);
     };
-    let Number::Whole(grids) = text::read_number(text::cut_field(line, &cuts, 6)) else {
+    let Some(grids) = text::read_number(text::cut_field(line, &cuts, 6)) else {
         return refused_head(1, 1);
     };
     let name = read_name(text::cut_field(line, &cuts, 1));
@@ -408,28 +407,28 @@ pub fn grid_line(line: &[u8], n: u64) -> GridRead
     let Form::Named = name_form(text::cut_field(line, &cuts, 1)) else {
         return refused_grid(1, n);
     };
-    let Number::Whole(lon) = text::read_number(text::cut_field(line, &cuts, 2)) else {
+    let Some(lon) = text::read_number(text::cut_field(line, &cuts, 2)) else {
         return refused_grid(1, n);
     };
-    let Number::Whole(lat) = text::read_number(text::cut_field(line, &cuts, 3)) else {
+    let Some(lat) = text::read_number(text::cut_field(line, &cuts, 3)) else {
         return refused_grid(1, n);
     };
-    let Number::Whole(dlon) = text::read_number(text::cut_field(line, &cuts, 4)) else {
+    let Some(dlon) = text::read_number(text::cut_field(line, &cuts, 4)) else {
         return refused_grid(1, n);
     };
-    let Number::Whole(dlat) = text::read_number(text::cut_field(line, &cuts, 5)) else {
+    let Some(dlat) = text::read_number(text::cut_field(line, &cuts, 5)) else {
         return refused_grid(1, n);
     };
-    let Number::Whole(ni) = text::read_number(text::cut_field(line, &cuts, 6)) else {
+    let Some(ni) = text::read_number(text::cut_field(line, &cuts, 6)) else {
         return refused_grid(1, n);
     };
-    let Number::Whole(nj) = text::read_number(text::cut_field(line, &cuts, 7)) else {
+    let Some(nj) = text::read_number(text::cut_field(line, &cuts, 7)) else {
         return refused_grid(1, n);
     };
-    let Number::Whole(rank) = text::read_number(text::cut_field(line, &cuts, 8)) else {
+    let Some(rank) = text::read_number(text::cut_field(line, &cuts, 8)) else {
         return refused_grid(1, n);
     };
-    let Number::Whole(start) = text::read_number(text::cut_field(line, &cuts, 9)) else {
+    let Some(start) = text::read_number(text::cut_field(line, &cuts, 9)) else {
         return refused_grid(1, n);
     };
     let name = read_name(text::cut_field(line, &cuts, 1));

@@ -1,4 +1,5 @@
 -- `line::grid_line` meets its contract.
+use Rattle.std.specs.Prelude.{Some, None}
 use Prim.Native.Nat.{ℕ, ◌<◌, ◌≤◌}
 use mathlib.Core.Path.{◌≡◌, refl, sym, ap, ◌∙◌}
 use mathlib.Core.Bool.{Bool, true, false, cond, ◌&&◌}
@@ -14,7 +15,6 @@ use Rattle.text.specs.Cuts.{fields_most, Cut, Cuts}
 use Rattle.text.specs.Decimal.{read_int}
 use Rattle.text.specs.Fields.{same}
 use Rattle.text.specs.Number.{number_of}
-use Rattle.text.specs.declared.Number.TheVariants.{Malformed, Whole}
 use Rattle.group.specs.Limits.{grid_fits}
 use Rattle.group.specs.declared.Name.{Name}
 use Rattle.group.specs.declared.Grid.{Grid}
@@ -32,7 +32,7 @@ use Rattle.line.proofs.grid_line.Goals as goal
 
 -- field k of the line is the number z
 abbrev Is : List ℕ → ℕ → ℤ → Type 0
-Is line k z = number_of (read_int (get_or (split 9 line) k [])) ≡ Whole (bits z)
+Is line k z = number_of (read_int (get_or (split 9 line) k [])) ≡ Some (bits z)
 
 -- behind the test of the line's kind: its fields, and how many they are
 module _ (line : List ℕ) (n : ℕ) (r : Bool) (e : r ≡ (same (field_of line 0) grid_keyword && eqb (length (split 9 line)) 10)) (t : r ≡ true) where
@@ -48,7 +48,7 @@ module _ (line : List ℕ) (n : ℕ) (r : Bool) (e : r ≡ (same (field_of line 
   textless : grid_texts (drop 1 (split 9 line)) ≡ none → grid_answer (bad (refusal 1 n)) ≡ grid_answer (grid_line n line)
   textless q = sym (ap grid_answer (opened ∙ fields_text 1 8 grid_texts grid_fit grid_of (refusal 1 n) (refusal 2 n) (split 9 line) counted q))
 
-  unread : (k : ℕ) → 2 ≤ k → k ≤ 9 → number_of (read_int (get_or (split 9 line) k [])) ≡ Malformed → grid_answer (bad (refusal 1 n)) ≡ grid_answer (grid_line n line)
+  unread : (k : ℕ) → 2 ≤ k → k ≤ 9 → number_of (read_int (get_or (split 9 line) k [])) ≡ None → grid_answer (bad (refusal 1 n)) ≡ grid_answer (grid_line n line)
   unread k l u m = sym (ap grid_answer (opened ∙ fields_bad 1 8 grid_texts grid_fit grid_of (refusal 1 n) (refusal 2 n) (split 9 line) counted k l u m))
 
   -- where each field is read
@@ -175,17 +175,17 @@ returns c =
     c.grid_judged.ensures
     ∙ ap (λ (g : Grid). grid_answer (cond (grid_fits g) (good g) (bad (refusal 2 c.args.n))))
     (c.grid_made-grid.ensures
-    ∙ ap (λ (m : Name). counted_grid m (bits c.in-Whole.lon) (bits c.in-Whole-read_number.lat) (bits c.in-Whole-read_number-2.dlon) (bits c.in-Whole-read_number-3.dlat) (bits c.in-Whole-read_number-4.ni) (bits c.in-Whole-read_number-5.nj) (bits c.in-Whole-read_number-6.rank) (bits c.in-Whole-read_number-7.start))
+    ∙ ap (λ (m : Name). counted_grid m (bits c.in-Some.lon) (bits c.in-Some-read_number.lat) (bits c.in-Some-read_number-2.dlon) (bits c.in-Some-read_number-3.dlat) (bits c.in-Some-read_number-4.ni) (bits c.in-Some-read_number-5.nj) (bits c.in-Some-read_number-6.rank) (bits c.in-Some-read_number-7.start))
     (c.read_name-name.ensures ∙ ap name_of c.cut_field-10.ensures))
-    ∙ made_of f c.args.n m (bits c.in-Whole.lon) (bits c.in-Whole-read_number.lat) (bits c.in-Whole-read_number-2.dlon) (bits c.in-Whole-read_number-3.dlat) (bits c.in-Whole-read_number-4.ni) (bits c.in-Whole-read_number-5.nj) (bits c.in-Whole-read_number-6.rank) (bits c.in-Whole-read_number-7.start)
+    ∙ made_of f c.args.n m (bits c.in-Some.lon) (bits c.in-Some-read_number.lat) (bits c.in-Some-read_number-2.dlon) (bits c.in-Some-read_number-3.dlat) (bits c.in-Some-read_number-4.ni) (bits c.in-Some-read_number-5.nj) (bits c.in-Some-read_number-6.rank) (bits c.in-Some-read_number-7.start)
     ∙ sym (ap grid_answer
     (judged c.args.line.now c.args.n _ c.cut_as.ensures.value c.if-not-cut_as.false m
-    c.in-Whole.lon c.in-Whole-read_number.lat c.in-Whole-read_number-2.dlon c.in-Whole-read_number-3.dlat c.in-Whole-read_number-4.ni c.in-Whole-read_number-5.nj c.in-Whole-read_number-6.rank c.in-Whole-read_number-7.start
-    (field_number c.args.line.now 2 _ _ c.read_number.ensures c.cut_field-2.ensures _ c.in-Whole.is (search rules))
-    (field_number c.args.line.now 3 _ _ c.read_number-2.ensures c.cut_field-3.ensures _ c.in-Whole-read_number.is (search rules))
-    (field_number c.args.line.now 4 _ _ c.read_number-3.ensures c.cut_field-4.ensures _ c.in-Whole-read_number-2.is (search rules))
-    (field_number c.args.line.now 5 _ _ c.read_number-4.ensures c.cut_field-5.ensures _ c.in-Whole-read_number-3.is (search rules))
-    (field_number c.args.line.now 6 _ _ c.read_number-5.ensures c.cut_field-6.ensures _ c.in-Whole-read_number-4.is (search rules))
-    (field_number c.args.line.now 7 _ _ c.read_number-6.ensures c.cut_field-7.ensures _ c.in-Whole-read_number-5.is (search rules))
-    (field_number c.args.line.now 8 _ _ c.read_number-7.ensures c.cut_field-8.ensures _ c.in-Whole-read_number-6.is (search rules))
-    (field_number c.args.line.now 9 _ _ c.read_number-8.ensures c.cut_field-9.ensures _ c.in-Whole-read_number-7.is (search rules))))
+    c.in-Some.lon c.in-Some-read_number.lat c.in-Some-read_number-2.dlon c.in-Some-read_number-3.dlat c.in-Some-read_number-4.ni c.in-Some-read_number-5.nj c.in-Some-read_number-6.rank c.in-Some-read_number-7.start
+    (field_number c.args.line.now 2 _ _ c.read_number.ensures c.cut_field-2.ensures _ c.in-Some.is (search rules))
+    (field_number c.args.line.now 3 _ _ c.read_number-2.ensures c.cut_field-3.ensures _ c.in-Some-read_number.is (search rules))
+    (field_number c.args.line.now 4 _ _ c.read_number-3.ensures c.cut_field-4.ensures _ c.in-Some-read_number-2.is (search rules))
+    (field_number c.args.line.now 5 _ _ c.read_number-4.ensures c.cut_field-5.ensures _ c.in-Some-read_number-3.is (search rules))
+    (field_number c.args.line.now 6 _ _ c.read_number-5.ensures c.cut_field-6.ensures _ c.in-Some-read_number-4.is (search rules))
+    (field_number c.args.line.now 7 _ _ c.read_number-6.ensures c.cut_field-7.ensures _ c.in-Some-read_number-5.is (search rules))
+    (field_number c.args.line.now 8 _ _ c.read_number-7.ensures c.cut_field-8.ensures _ c.in-Some-read_number-6.is (search rules))
+    (field_number c.args.line.now 9 _ _ c.read_number-8.ensures c.cut_field-9.ensures _ c.in-Some-read_number-7.is (search rules))))

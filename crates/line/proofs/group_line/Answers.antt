@@ -1,4 +1,5 @@
 -- `line::group_line` meets its contract.
+use Rattle.std.specs.Prelude.{Some, None}
 use Prim.Native.Nat.{ℕ, ◌<◌, ◌≤◌}
 use mathlib.Core.Path.{◌≡◌, refl, sym, ap, ◌∙◌}
 use mathlib.Core.Bool.{Bool, true, false, cond, ◌&&◌}
@@ -14,7 +15,6 @@ use Rattle.text.specs.Cuts.{fields_most, Cut, Cuts}
 use Rattle.text.specs.Decimal.{read_int}
 use Rattle.text.specs.Fields.{same}
 use Rattle.text.specs.Number.{number_of}
-use Rattle.text.specs.declared.Number.TheVariants.{Malformed, Whole}
 use Rattle.group.specs.Limits.{head_numbers_fit}
 use Rattle.group.specs.declared.Name.{Name}
 use Rattle.group.specs.declared.Unit as U
@@ -33,7 +33,7 @@ use Rattle.line.proofs.group_line.Goals as goal
 
 -- field k of the line is the number z
 abbrev Is : List ℕ → ℕ → ℤ → Type 0
-Is line k z = number_of (read_int (get_or (split 9 line) k [])) ≡ Whole (bits z)
+Is line k z = number_of (read_int (get_or (split 9 line) k [])) ≡ Some (bits z)
 
 -- behind the test of the line's kind: its fields, and how many they are
 module _ (line : List ℕ) (r : Bool) (e : r ≡ (same (field_of line 0) group_keyword && eqb (length (split 9 line)) 7)) (t : r ≡ true) where
@@ -49,7 +49,7 @@ module _ (line : List ℕ) (r : Bool) (e : r ≡ (same (field_of line 0) group_k
   textless : head_texts (drop 1 (split 9 line)) ≡ none → head_answer (bad (refusal 1 1)) ≡ head_answer (head_line 1 line)
   textless q = sym (ap head_answer (opened ∙ fields_text 2 4 head_texts head_fit head_of (refusal 1 1) (refusal 2 1) (split 9 line) counted q))
 
-  unread : (k : ℕ) → 3 ≤ k → k ≤ 6 → number_of (read_int (get_or (split 9 line) k [])) ≡ Malformed → head_answer (bad (refusal 1 1)) ≡ head_answer (head_line 1 line)
+  unread : (k : ℕ) → 3 ≤ k → k ≤ 6 → number_of (read_int (get_or (split 9 line) k [])) ≡ None → head_answer (bad (refusal 1 1)) ≡ head_answer (head_line 1 line)
   unread k l u m = sym (ap head_answer (opened ∙ fields_bad 2 4 head_texts head_fit head_of (refusal 1 1) (refusal 2 1) (split 9 line) counted k l u m))
 
   -- where each field is read
@@ -157,27 +157,27 @@ returns-then-not-head_numbers_fit c =
     ∙ head_out c.args.line.now _ c.cut_as.ensures.value c.if-not-cut_as.false c.in-Known.unit
     (form_good _ _ _ c.cut_field.ensures c.name_form.ensures c.in-Named.is)
     (unit_good _ _ _ _ c.cut_field-2.ensures c.read_unit.ensures c.in-Known.is)
-    c.in-Whole.q c.in-Whole-read_number.np c.in-Whole-read_number-2.functions c.in-Whole-read_number-3.grids
+    c.in-Some.q c.in-Some-read_number.np c.in-Some-read_number-2.functions c.in-Some-read_number-3.grids
     _ _ (c.head_made-head.ensures
-    ∙ ap (λ (m : Name). counted_head m c.in-Known.unit (bits c.in-Whole.q) (bits c.in-Whole-read_number.np) (bits c.in-Whole-read_number-2.functions) (bits c.in-Whole-read_number-3.grids))
+    ∙ ap (λ (m : Name). counted_head m c.in-Known.unit (bits c.in-Some.q) (bits c.in-Some-read_number.np) (bits c.in-Some-read_number-2.functions) (bits c.in-Some-read_number-3.grids))
     (c.read_name-name.ensures ∙ ap name_of c.cut_field-7.ensures))
     c.head_numbers_fit.ensures c.if-not-head_numbers_fit.true
-    (field_number c.args.line.now 3 _ _ c.read_number.ensures c.cut_field-3.ensures _ c.in-Whole.is (search rules))
-    (field_number c.args.line.now 4 _ _ c.read_number-2.ensures c.cut_field-4.ensures _ c.in-Whole-read_number.is (search rules))
-    (field_number c.args.line.now 5 _ _ c.read_number-3.ensures c.cut_field-5.ensures _ c.in-Whole-read_number-2.is (search rules))
-    (field_number c.args.line.now 6 _ _ c.read_number-4.ensures c.cut_field-6.ensures _ c.in-Whole-read_number-3.is (search rules))
+    (field_number c.args.line.now 3 _ _ c.read_number.ensures c.cut_field-3.ensures _ c.in-Some.is (search rules))
+    (field_number c.args.line.now 4 _ _ c.read_number-2.ensures c.cut_field-4.ensures _ c.in-Some-read_number.is (search rules))
+    (field_number c.args.line.now 5 _ _ c.read_number-3.ensures c.cut_field-5.ensures _ c.in-Some-read_number-2.is (search rules))
+    (field_number c.args.line.now 6 _ _ c.read_number-4.ensures c.cut_field-6.ensures _ c.in-Some-read_number-3.is (search rules))
 
 pub returns : goal.returns
 returns c =
     head_in c.args.line.now _ c.cut_as.ensures.value c.if-not-cut_as.false c.in-Known.unit
     (form_good _ _ _ c.cut_field.ensures c.name_form.ensures c.in-Named.is)
     (unit_good _ _ _ _ c.cut_field-2.ensures c.read_unit.ensures c.in-Known.is)
-    c.in-Whole.q c.in-Whole-read_number.np c.in-Whole-read_number-2.functions c.in-Whole-read_number-3.grids
+    c.in-Some.q c.in-Some-read_number.np c.in-Some-read_number-2.functions c.in-Some-read_number-3.grids
     _ _ (c.head_made-head.ensures
-    ∙ ap (λ (m : Name). counted_head m c.in-Known.unit (bits c.in-Whole.q) (bits c.in-Whole-read_number.np) (bits c.in-Whole-read_number-2.functions) (bits c.in-Whole-read_number-3.grids))
+    ∙ ap (λ (m : Name). counted_head m c.in-Known.unit (bits c.in-Some.q) (bits c.in-Some-read_number.np) (bits c.in-Some-read_number-2.functions) (bits c.in-Some-read_number-3.grids))
     (c.read_name-name.ensures ∙ ap name_of c.cut_field-7.ensures))
     c.head_numbers_fit.ensures c.if-not-head_numbers_fit.false
-    (field_number c.args.line.now 3 _ _ c.read_number.ensures c.cut_field-3.ensures _ c.in-Whole.is (search rules))
-    (field_number c.args.line.now 4 _ _ c.read_number-2.ensures c.cut_field-4.ensures _ c.in-Whole-read_number.is (search rules))
-    (field_number c.args.line.now 5 _ _ c.read_number-3.ensures c.cut_field-5.ensures _ c.in-Whole-read_number-2.is (search rules))
-    (field_number c.args.line.now 6 _ _ c.read_number-4.ensures c.cut_field-6.ensures _ c.in-Whole-read_number-3.is (search rules))
+    (field_number c.args.line.now 3 _ _ c.read_number.ensures c.cut_field-3.ensures _ c.in-Some.is (search rules))
+    (field_number c.args.line.now 4 _ _ c.read_number-2.ensures c.cut_field-4.ensures _ c.in-Some-read_number.is (search rules))
+    (field_number c.args.line.now 5 _ _ c.read_number-3.ensures c.cut_field-5.ensures _ c.in-Some-read_number-2.is (search rules))
+    (field_number c.args.line.now 6 _ _ c.read_number-4.ensures c.cut_field-6.ensures _ c.in-Some-read_number-3.is (search rules))

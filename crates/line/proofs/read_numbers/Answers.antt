@@ -41,7 +41,7 @@ loop-k-preserved c =
       omega arith,
       length-set c.loop-k.numbers c.loop-k.k _ ∙ c.loop-k.invariant.1,
       numbers_more (split 9 c.args.line.now) c.args.first c.loop-k.k c.loop-k.numbers _ c.loop-k-test.true c.loop-k.invariant.2
-          (field_number c.args.line.now (c.args.first + c.loop-k.k) _ _ c.read_number.ensures c.cut_field.ensures _ c.in-Whole.is (search rules)),
+          (field_number c.args.line.now (c.args.first + c.loop-k.k) _ _ c.read_number.ensures c.cut_field.ensures _ c.in-Some.is (search rules)),
     )
 
 pub returns : goal.returns
