@@ -8,7 +8,7 @@ ghost use Rattle.numbers.specs.Order.{raised, count_of};
 ghost use Rattle.numbers.specs.Lists.{Indices, Kept};
 
 // What stands for a number below zero where numbers are unsigned: beyond every limit.
-pub const BEYOND: u64 = 18446744073709551615;
+pub const BEYOND: u64 = u64::MAX;
 
 // A quotient q that left r over from a division by d, rounded: one more above half, at a tie the even one.
 fn settle(q: u64, r: u64, d: u64) -> u64
@@ -61,12 +61,7 @@ pub fn nearest_shifted_32(n: u64) -> u64
 pub fn magnitude(x: i64) -> u64
     ensures { result ≡ nat_abs x }
 {
-    if x < 0 {
-        let y = -(x + 1);
-        y as u64 + 1
-    } else {
-        x as u64
-    }
+    x.unsigned_abs()
 }
 
 // Whether x is below zero.
@@ -80,25 +75,16 @@ pub fn negative(x: i64) -> bool
 pub fn count_of(x: i64) -> u64
     ensures { result ≡ count_of x }
 {
-    if negative(x) {
-        return BEYOND;
-    }
-    magnitude(x)
+    u64::try_from(x).unwrap_or(BEYOND)
 }
 
 // x + m, and 0 for an x below -m.
 pub fn raised(m: u32, x: i64) -> u64
     ensures { result ≡ raised m x }
 {
-    let wide = m as u64;
-    let n = magnitude(x);
-    if negative(x) {
-        if n <= wide {
-            return wide - n;
-        }
-        return 0;
-    }
-    wide + n
+    let wide = u64::from(m);
+    let n = x.unsigned_abs();
+    if x < 0 { wide.saturating_sub(n) } else { wide + n }
 }
 
 // x + m, of an x not below -m: one addition, no test of the sign.
@@ -121,21 +107,21 @@ pub fn lowered(a: u64, b: u64) -> i64
 pub fn wide(b: u8) -> u64
     ensures { (result ≡ b) × (result < 256) }
 {
-    b as u64
+    u64::from(b)
 }
 
 // The greater of two numbers.
 pub fn larger(a: u64, b: u64) -> u64
     ensures { result ≡ max a b }
 {
-    if a < b { b } else { a }
+    a.max(b)
 }
 
 // The lesser of two numbers.
 pub fn smaller(a: u64, b: u64) -> u64
     ensures { result ≡ min a b }
 {
-    if a < b { a } else { b }
+    a.min(b)
 }
 
 // Stores in each of the first n places its own index.
@@ -143,9 +129,7 @@ pub fn fill_indices(n: usize, out: &mut [u64])
     requires { n ≤ length out.old }
     ensures { Indices n out.new × Kept n out.old out.new }
 {
-    let mut i = 0;
-    while i < n {
-        out[i] = i as u64;
-        i += 1;
+    for (i, place) in out[..n].iter_mut().enumerate() {
+        *place = i as u64;
     }
 }
