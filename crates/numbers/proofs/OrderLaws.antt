@@ -5,12 +5,12 @@ use mathlib.Core.Bool.{Bool, true, false, cond, ◌&&◌}
 use native.Mathlib.Omega.{arith}
 use lib.Dec.{leb, ltb}
 use lib.IntN.{ℤ, pos, negsuc, nat_abs, neg_ℤ, ◌+ℤ◌, ◌*ℤ◌}
-use lib.Signed.{le_z, lt_z}
+use lib.Signed.{le_z}
 use mir.Syntax.{w64}
 use mir.Val.{SFits}
 use borrow.Author.Tests.{leb-true, leb-false, ltb-true, le-leb, lt-leb}
 use Rattle.numbers.proofs.Bools.{and_left, and_right, both, same_test}
-use Rattle.numbers.specs.Order.{between, within, raised, min_z, max_z, beyond, count_of}
+use Rattle.numbers.specs.Order.{between, within, raised, min_z, max_z}
 
 -- sizes
 pub size_fits : (z : ℤ) → nat_abs z < 2 ^ 63 → SFits w64 z
@@ -125,31 +125,9 @@ min_max_by a b false e = le_z_total a b e
 pub min_max : (a b : ℤ) → le_z (min_z a b) (max_z a b) ≡ true
 min_max a b = min_max_by a b (le_z a b) refl
 
--- a raised number by its sign and size
-pub raised_below : (m : ℕ) (z : ℤ) → lt_z z (pos 0) ≡ true → raised m z ≡ m - nat_abs z
-raised_below m (pos n) e = absurd (let h = ltb-true n 0 e in omega arith)
-raised_below m (negsuc n) e = refl
-
-pub raised_above : (m : ℕ) (z : ℤ) → lt_z z (pos 0) ≡ false → raised m z ≡ m + nat_abs z
-raised_above m (pos n) e = refl
-raised_above m (negsuc n) e = absurd (let z : ◌≡◌ {A = ℕ} 0 1 = cc in omega arith)
-
-pub size_bound : (z : ℤ) → SFits w64 z → nat_abs z ≤ 2 ^ 63
-size_bound (pos n) f = let h : n < 2 ^ 63 = f.sfits in omega arith
-size_bound (negsuc n) f = let h : n < 2 ^ 63 = f.sfits in omega arith
-
 -- a number between two others is no larger in size than their limit
 pub le_z_size : (m : ℕ) (a b z : ℤ) → nat_abs a ≤ m → nat_abs b ≤ m → le_z a z ≡ true → le_z z b ≡ true → nat_abs z ≤ m
 le_z_size m a (pos b) (pos z) f g h k = omega (arith, leb-true z b k)
 le_z_size m a (negsuc b) (pos z) f g h k = absurd (let w : ◌≡◌ {A = ℕ} 0 1 = cc in omega arith)
 le_z_size m (pos a) b (negsuc z) f g h k = absurd (let w : ◌≡◌ {A = ℕ} 0 1 = cc in omega arith)
 le_z_size m (negsuc a) b (negsuc z) f g h k = omega (arith, leb-true z a h)
-
--- a signed number where numbers are unsigned, by the test of its sign
-pub count_below : (z : ℤ) → lt_z z (pos 0) ≡ true → count_of z ≡ beyond
-count_below (pos n) e = absurd (let h = ltb-true n 0 e in omega arith)
-count_below (negsuc n) e = refl
-
-pub count_above : (z : ℤ) → lt_z z (pos 0) ≡ false → count_of z ≡ nat_abs z
-count_above (pos n) e = refl
-count_above (negsuc n) e = absurd (let z : ◌≡◌ {A = ℕ} 0 1 = cc in omega arith)

@@ -84,7 +84,11 @@ pub fn raised(m: u32, x: i64) -> u64
 {
     let wide = u64::from(m);
     let n = x.unsigned_abs();
-    if x < 0 { wide.saturating_sub(n) } else { wide + n }
+    if x < 0 {
+        wide.saturating_sub(n)
+    } else {
+        wide + n
+    }
 }
 
 // x + m, of an x not below -m: one addition, no test of the sign.

@@ -26,9 +26,6 @@ capped (d ∷ ds) m = go (is_digit d) (sym (capped ds (min m number_most * 10 + 
     go false h = refl
 
 module _ (s : List ℕ) (i : ℕ) where
-  pub digits_bad : (m : ℕ) → i < length s → is_digit (get_or s i 0) ≡ false → natural_of (digits_from m (drop i s)) ≡ None
-  digits_bad m h e = rw (drop-cons s i 0 h, e)
-
   pub digits_step : (m : ℕ) → i < length s → is_digit (get_or s i 0) ≡ true → natural_of (digits_from m (drop i s)) ≡ natural_of (digits_from (min (m * 10 + (get_or s i 0 - 48)) number_most) (drop (i + 1) s))
   digits_step m h e =
       rw (drop-cons s i 0 h, e, add-one)

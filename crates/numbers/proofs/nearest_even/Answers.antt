@@ -10,16 +10,6 @@ use Rattle.numbers.proofs.nearest_even.Goals as goal
 pub returns-then-d-eq0 : goal.returns-then-d-eq0
 returns-then-d-eq0 c = sym (ap (nearest c.args.n) c.if-d-eq0.true ∙ nearest_zero c.args.n)
 
-pub overflow_mul-q : goal.overflow_mul-q
-overflow_mul-q c = omega (arith, div-add-mod' c.args.n c.args.d)
-
-pub overflow_sub-n : goal.overflow_sub-n
-overflow_sub-n c = omega (arith, div-add-mod' c.args.n c.args.d)
-
-pub settle-requires : goal.settle-requires
-settle-requires c =
-    quotient_room _ _ (pos_of_ne-zero c.if-d-eq0.false) c.ranges.n.fits
-
 pub returns : goal.returns
 returns c =
     let n = c.args.n in let d = c.args.d in

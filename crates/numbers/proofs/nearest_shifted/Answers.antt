@@ -12,19 +12,8 @@ use Rattle.numbers.proofs.nearest_shifted.Goals as goal
 back : (n k : ℕ) → n < 2 ^ 64 → n / 2 ^ k * 2 ^ k % 2 ^ 64 ≡ n / 2 ^ k * 2 ^ k
 back n k h = mod-eq_of_lt (omega (arith, div-add-mod' n (2 ^ k)))
 
-pub overflow_sub-n : goal.overflow_sub-n
-overflow_sub-n c = let n = c.args.n in let k = c.args.k in omega (arith, back n k c.ranges.n.fits, div-add-mod' n (2 ^ k))
-
-pub settle-requires : goal.settle-requires
-settle-requires c =
-    let n = c.args.n in
-    let k = c.args.k in
-    let f = c.ranges.n.fits in
-    rw (back n k f, one_shifted k c.requires) (quotient_room n (2 ^ k) (pow_pos k) f)
-
 pub returns : goal.returns
 returns c =
-    let s = c in
     let n = c.args.n in
     let k = c.args.k in
     let f = c.ranges.n.fits in

@@ -7,14 +7,8 @@ use Rattle.numbers.proofs.settle.Goals as goal
 pub returns-then-r-s : goal.returns-then-r-s
 returns-then-r-s c = let a = c.args in let g = gain_0 (2 * a.r) a.d a.q (omega arith) in omega arith
 
-pub overflow_add-up : goal.overflow_add-up
-overflow_add-up c = let h = c.requires.1 (omega arith) in omega arith
-
 pub returns-then-s-r : goal.returns-then-s-r
 returns-then-s-r c = let a = c.args in let g = gain_1 (2 * a.r) a.d a.q (omega arith) in omega arith
-
-pub overflow_add-result : goal.overflow_add-result
-overflow_add-result c = let h = c.requires.1 (omega arith) in omega arith
 
 pub returns : goal.returns
 returns c = let a = c.args in let g = gain_tie (2 * a.r) a.d a.q (omega arith) in omega arith
