@@ -46,9 +46,6 @@ module _ (r x d : ℕ) (g : Divides r x d) where
   pub upper_pos : 0 < upper d
   upper_pos = omega arith
 
-  pub first_fits : r / upper d * upper d ≤ r
-  first_fits = omega (arith, div-add-mod' r (upper d))
-
   pub first_estimate : Estimate r x d (r / upper d) (r - r / upper d * upper d)
   first_estimate =
       let q = r / upper d in
@@ -74,9 +71,6 @@ module _ (r x d : ℕ) (g : Divides r x d) where
             let e : q ≡ 0 = omega arith in
             let z : q * lower d ≡ 0 = ap (λ (y : ℕ). y * lower d) e ∙ zero-mul (lower d) in
             absurd (omega arith)
-
-    pub next_fits : number s x < q * lower d → s + upper d < 2 ^ 64
-    next_fits t = omega (arith, lower_fits q d i.short)
 
     pub next_estimate : number s x < q * lower d → Estimate r x d (q - 1) (s + upper d)
     next_estimate t =

@@ -27,7 +27,7 @@ struct Part {
 pub fn product(a: u64, p: u32) -> Pair
     ensures { pair_value result ≡ a * p }
 {
-    let factor = p as u64;
+    let factor = u64::from(p);
     let low = a % BASE * factor;
     let high = (a >> 32) * factor + (low >> 32);
     Pair {
@@ -41,16 +41,10 @@ pub fn added(x: Pair, y: Pair) -> Pair
     requires { pair_value x + pair_value y < 2 ^ 128 }
     ensures { pair_value result ≡ pair_value x + pair_value y }
 {
-    let room = u64::MAX - x.low;
-    if y.low <= room {
-        return Pair {
-            high: x.high + y.high,
-            low: x.low + y.low,
-        };
-    }
+    let (low, carry) = x.low.overflowing_add(y.low);
     Pair {
-        high: x.high + y.high + 1,
-        low: y.low - room - 1,
+        high: x.high + y.high + u64::from(carry),
+        low,
     }
 }
 
@@ -73,21 +67,16 @@ fn short_of(s: u64, x: u64, w: u64) -> bool
     requires { x < 2 ^ 32 }
     ensures { result ≡ ltb (s * 2 ^ 32 + x) w }
 {
-    if s < BASE {
-        return s * BASE + x < w;
-    }
-    false
+    s < BASE && s * BASE + x < w
 }
 
-// What is left of the number of the digits s and x, of which s may be longer, without w, where one word can hold it.
+// What is left of the number of the digits s and x, of which s may be longer, without w, where one word can hold it: what leaves the
+// word on the way comes back.
 fn left_over(s: u64, x: u64, w: u64) -> u64
     requires { (x < 2 ^ 32) × (w ≤ s * 2 ^ 32 + x) × (s * 2 ^ 32 + x < w + 2 ^ 64) }
     ensures { w + result ≡ s * 2 ^ 32 + x }
 {
-    if s < BASE {
-        return s * BASE + x - w;
-    }
-    (s - BASE) * BASE + x + (u64::MAX - w) + 1
+    s.wrapping_mul(BASE).wrapping_add(x).wrapping_sub(w)
 }
 
 // One digit of a quotient, and the rest: of r and one digit x behind it, over a divisor with its top bit set.
@@ -99,6 +88,7 @@ fn digit(r: u64, x: u64, d: u64) -> Part
     let lower = d % BASE;
     let mut q = r / upper;
     let mut s = r - q * upper;
+    // A while and no for: what is left says how often the estimate is lowered.
     while short_of(s, x, q * lower) {
         q -= 1;
         s += upper;
@@ -127,7 +117,7 @@ fn top_shift(d: u64) -> u32
     requires { 0 < d }
     ensures { (2 ^ 63 ≤ d * 2 ^ result) × (d * 2 ^ result < 2 ^ 64) × (result < 64) }
 {
-    u64::leading_zeros(d)
+    d.leading_zeros()
 }
 
 // n times 2 to the power k, where two words can hold it.
@@ -177,7 +167,7 @@ pub fn nearest_pair(n: Pair, d: u64) -> Pair
     let more = gained(part.quotient, part.rest, divisor);
     added(
         Pair {
-            high: high,
+            high,
             low: part.quotient,
         },
         Pair { high: 0, low: more },

@@ -20,6 +20,7 @@ fn lacks(s: &[u8], a: usize, e: usize, c: u8) -> bool
     ensures { result ≡ true → Lacks c s.now a e }
 {
     let mut none = true;
+    // `&` and no `all`: no branch is taken between the bytes of a block.
     for k in a..e {
         none = none & (s[k] != c);
     }
@@ -31,6 +32,7 @@ fn past_blocks(s: &[u8], a: usize, c: u8) -> usize
     ensures { result + up_to c (drop result s.now) ≡ a + up_to c (drop a s.now) }
 {
     let mut i = a;
+    // A while: it goes on by whole blocks.
     while i < s.len() && FAR <= s.len() - i && lacks(s, i, i + BLOCK, c) {
         i += BLOCK;
     }
@@ -89,6 +91,7 @@ pub fn cut_fields(line: &[u8], cuts: &mut [usize; CUTS]) -> usize
     let mut n: usize = 0;
     let mut i = 0;
     cuts[0] = 0;
+    // A loop: only its last turn meets the line's end.
     loop {
         let e = find_from(line, i, b'\t');
         i = e + 1;

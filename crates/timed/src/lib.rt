@@ -1,27 +1,17 @@
 // The rounding alone, over lists, so that the benchmark can time it: no part of the library that users link.
 #![tactic(auto)]
 
-ghost use Rattle.std.specs.Prelude.{◌≡◌, min};
 ghost use Rattle.timed.specs.Timed.{RoundedWords, RoundedPairs};
-
-// The lesser of two lengths.
-fn shorter(a: usize, b: usize) -> usize
-    ensures { result ≡ min a b }
-{
-    let least = numbers::smaller(a as u64, b as u64);
-    least as usize
-}
 
 // Stores each numerator over its divisor, rounded, as far as all three lists go.
 #[unsafe(no_mangle)]
 pub extern "C" fn timed_nearest_even(numerators: &[u64], divisors: &[u64], out: &mut [u64])
     ensures { RoundedWords numerators.now divisors.now out.old out.new }
 {
-    let n = shorter(numerators.len(), shorter(divisors.len(), out.len()));
-    let mut i = 0;
-    while i < n {
+    let n = numerators.len().min(divisors.len()).min(out.len());
+    // By index: of three iterators zipped a proof has to follow each, and the loop says no more.
+    for i in 0..n {
         out[i] = numbers::nearest_even(numerators[i], divisors[i]);
-        i += 1;
     }
 }
 
@@ -35,18 +25,17 @@ pub extern "C" fn timed_nearest_pairs(
 )
     ensures { RoundedPairs highs.now lows.now divisors.now out.old out.new }
 {
-    let n = shorter(
-        highs.len(),
-        shorter(lows.len(), shorter(divisors.len(), out.len())),
-    );
-    let mut i = 0;
-    while i < n {
+    let n = highs
+        .len()
+        .min(lows.len())
+        .min(divisors.len())
+        .min(out.len());
+    for i in 0..n {
         let numerator = pair::Pair {
             high: highs[i],
             low: lows[i],
         };
         let rounded = pair::nearest_pair(numerator, divisors[i]);
         out[i] = rounded.low;
-        i += 1;
     }
 }

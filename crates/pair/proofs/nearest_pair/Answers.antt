@@ -9,7 +9,8 @@ use Rattle.numbers.proofs.Nearest.{nearest_zero, nearest_most}
 use Rattle.pair.specs.declared.Pair.{Pair}
 use Rattle.pair.specs.Pair.{pair_value}
 use Rattle.pair.proofs.PairLaws.{pair_below}
-use Rattle.pair.proofs.ScaleLaws.{room_above, high_under, together, nearest_scaled}
+use Rattle.pair.proofs.ScaleLaws.{high_under, together, nearest_scaled}
+use Rattle.pair.proofs.nearest_pair.Goals.{After-gained-more}
 use Rattle.pair.proofs.nearest_pair.Goals as goal
 
 -- what the high word leaves over
@@ -30,28 +31,22 @@ rounded n m d e k q rest g p s v w l f =
     ∙ nearest_scaled (n.high * 2 ^ 64 + n.low) d (2 ^ k) h q rest p (pow_pos k)
     (together n.high n.low d h (n.high - h * d) (2 ^ k) q rest (over n.high d p).0 u) (omega arith)
 
+answer : (c : After-gained-more) → let a = c.args in
+    pair_value (record { high = a.n.high / a.d; low = c.two_digits-part.result.quotient }) + pair_value (record { high = 0; low = c.gained-more.result })
+    ≡ nearest (pair_value a.n) a.d
+answer c =
+    let a = c.args in
+    let w = c.two_digits-part.ensures in
+    rounded a.n c.shifted_up.result a.d (a.d * 2 ^ c.top_shift-k.result % 2 ^ 64) c.top_shift-k.result _ _ _
+    (pos_of_ne-zero c.if-d-eq0.false) (mod-eq_of_lt c.top_shift-k.ensures.1) c.shifted_up.ensures w.whole w.below c.gained-more.ensures
+
 pub returns-then-d-eq0 : goal.returns-then-d-eq0
 unfolding pair_value
 returns-then-d-eq0 c = let a = c.args in sym (ap (nearest (pair_value a.n)) c.if-d-eq0.true ∙ nearest_zero (pair_value a.n))
 
-pub overflow_mul-top : goal.overflow_mul-top
-overflow_mul-top c = let a = c.args in omega (arith, div-add-mod' a.n.high a.d)
-
-pub overflow_sub-top : goal.overflow_sub-top
-overflow_sub-top c = let a = c.args in omega (arith, div-add-mod' a.n.high a.d)
-
-pub shifted_up-requires : goal.shifted_up-requires
-shifted_up-requires c =
-    let b = c in let a = c.args in
-    let t = c.top_shift-k.ensures in (
-      t.2,
-      room_above (a.n.high - a.n.high / a.d * a.d) a.d c.top_shift-k.result
-          (over a.n.high a.d (pos_of_ne-zero c.if-d-eq0.false)).1 t.1,
-    )
-
 pub two_digits-part-requires : goal.two_digits-part-requires
 two_digits-part-requires c =
-    let t = c in let b = c in let a = c.args in
+    let a = c.args in
     let e = c.top_shift-k.ensures in
     let o = (over a.n.high a.d (pos_of_ne-zero c.if-d-eq0.false)).1 in
     let l : a.n.low < 2 ^ 64 = omega arith in
@@ -59,24 +54,9 @@ two_digits-part-requires c =
 
 pub added-requires : goal.added-requires
 added-requires c =
-    let answer : let p = c in let a = c.args in
-    pair_value (record { high = a.n.high / a.d; low = c.two_digits-part.result.quotient }) + pair_value (record { high = 0; low = c.gained-more.result })
-    ≡ nearest (pair_value a.n) a.d =
-    let p = c in let m = c in let t = c in let b = c in let a = c.args in
-    let w = c.two_digits-part.ensures in
-    rounded a.n c.shifted_up.result a.d (a.d * 2 ^ c.top_shift-k.result % 2 ^ 64) c.top_shift-k.result _ _ _
-    (pos_of_ne-zero c.if-d-eq0.false) (mod-eq_of_lt c.top_shift-k.ensures.1) c.shifted_up.ensures w.whole w.below c.gained-more.ensures in
-    let b = c in let a = c.args in
-    let e = answer in
+    let a = c.args in
+    let e = answer (goal.at.added-requires c).After-gained-more in
     lt_of_le_of_lt (omega (arith, e, nearest_most (pair_value a.n) a.d)) (pair_below a.n (omega arith) (omega arith))
 
 pub returns : goal.returns
-returns c =
-    let answer : let p = c in let a = c.args in
-    pair_value (record { high = a.n.high / a.d; low = c.two_digits-part.result.quotient }) + pair_value (record { high = 0; low = c.gained-more.result })
-    ≡ nearest (pair_value a.n) a.d =
-    let p = c in let m = c in let t = c in let b = c in let a = c.args in
-    let w = c.two_digits-part.ensures in
-    rounded a.n c.shifted_up.result a.d (a.d * 2 ^ c.top_shift-k.result % 2 ^ 64) c.top_shift-k.result _ _ _
-    (pos_of_ne-zero c.if-d-eq0.false) (mod-eq_of_lt c.top_shift-k.ensures.1) c.shifted_up.ensures w.whole w.below c.gained-more.ensures in
-    c.added.ensures ∙ answer
+returns c = c.added.ensures ∙ answer (goal.at.returns c).After-gained-more

@@ -16,20 +16,9 @@ halves a p =
     ap (λ (x : ℕ). x * p) (sym (div-add-mod' a (2 ^ 32))) ∙ add-mul (a / 2 ^ 32 * 2 ^ 32) (a % 2 ^ 32) p
     ∙ ap (λ (x : ℕ). x + a % 2 ^ 32 * p) (mul_right_comm (a / 2 ^ 32) (2 ^ 32) p)
 
-pub overflow_mul-low : goal.overflow_mul-low
-overflow_mul-low c = omega (arith, half (c.args.a % 2 ^ 32) c.args.p (omega arith) (omega arith))
-
-pub overflow_mul-high : goal.overflow_mul-high
-overflow_mul-high c = omega (arith, half (c.args.a / 2 ^ 32) c.args.p (omega arith) (omega arith))
-
-pub overflow_add-high : goal.overflow_add-high
-overflow_add-high c =
-    let a = c.args.a in let p = c.args.p in
-    omega (arith, half (a % 2 ^ 32) p (omega arith) (omega arith), half (a / 2 ^ 32) p (omega arith) (omega arith))
-
 pub returns : goal.returns
 unfolding pair_value
 returns c =
-    let a = c.args.a in let p = c.args.p in
+    let a = c.args.a in let p = c.from-factor.result in
     let l = half (a % 2 ^ 32) p (omega arith) (omega arith) in let u = half (a / 2 ^ 32) p (omega arith) (omega arith) in
-    omega (arith, halves a p)
+    omega (arith, halves a p, ap (λ (x : ℕ). a * x) c.from-factor.ensures)

@@ -1,7 +1,7 @@
 -- `shifted_up`: not at all, and with what leaves the low word.
 use Prim.Native.Nat.{ℕ, ◌+◌, ◌-◌, ◌*◌, ◌/◌, ◌%◌, ◌^◌, ◌≤◌, ◌<◌}
 use mathlib.Core.Path.{◌≡◌, sym, ap, ◌∙◌}
-use native.Mathlib.Nat.{mul-one, one-mul, add-mul, mod-eq_of_lt}
+use native.Mathlib.Nat.{one-mul, add-mul, mod-eq_of_lt}
 use native.Mathlib.Omega.{arith}
 use lib.Pow.{pow_pos}
 use Rattle.pair.specs.Pair.{pair_value}
@@ -23,17 +23,11 @@ value h l k f r =
     regrouped : (a b m t : ℕ) → b * 2 ^ 64 + m ≡ t → (a + b) * 2 ^ 64 + m ≡ a * 2 ^ 64 + t
     regrouped a b m t e = omega arith
 
-pub returns-then-k-eq0 : goal.returns-then-k-eq0
-returns-then-k-eq0 c =
-    let n = c.args.n in
-    sym (ap (λ (x : ℕ). pair_value n * 2 ^ x) c.if-k-eq0.true ∙ mul-one (pair_value n))
-
 pub overflow_add-result : goal.overflow_add-result
 overflow_add-result c =
-    let s = c in
     let n = c.args.n in let k = c.args.k in
     omega (arith, room n.high k c.requires.1, leaves n.low k c.requires.0 (omega arith))
 
 pub returns : goal.returns
 unfolding pair_value
-returns c = let s = c in value c.args.n.high c.args.n.low c.args.k c.requires.0 c.requires.1
+returns c = value c.args.n.high c.args.n.low c.args.k c.requires.0 c.requires.1

@@ -13,7 +13,6 @@ both high low d q r s t e f = omega (arith, add-mul (q * 2 ^ 32) s d, mul_right_
 pub returns : goal.returns
 unfolding pair_value
 returns c =
-    let second = c in let first = c in let s = c in
     let n = c.args.n in
     let e = c.digit-first.ensures.0 in let f = c.digit-second.ensures.0 in
     record { whole = both n.high n.low c.args.d _ _ _ _ e.whole f.whole; below = f.below }
