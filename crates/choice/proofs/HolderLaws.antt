@@ -10,7 +10,7 @@ use Rattle.numbers.proofs.Bools.{true_false}
 use Rattle.numbers.proofs.FirstLaws.{first_before, first_hit, none_at}
 use Rattle.choice.specs.Choice.{chosen}
 use Rattle.choice.specs.Holder.{holder, held_by, Ranked, Owns}
-use Rattle.choice.specs.declared.Held.TheVariants.{By, Nothing}
+use Rattle.std.specs.Prelude.{Some, None}
 use Rattle.choice.proofs.ChoiceLaws.{Apart, lowest_chosen, none_chosen}
 
 module _ (held : ℕ → Bool) (owner : ℕ → ℕ) (n : ℕ) where
@@ -25,11 +25,11 @@ module _ (held : ℕ → Bool) (owner : ℕ → ℕ) (n : ℕ) where
 
   -- the rectangle's owner and shift
   module _ (shift : ℕ → ℕ) where
-    pub held_at : (i : ℕ) → i ≡ first held n → i < n → By (owner i) (shift i) ≡ held_by held owner shift n
+    pub held_at : (i : ℕ) → i ≡ first held n → i < n → Some (record { owner = owner i; shift = shift i }) ≡ held_by held owner shift n
     unfolding held_by
     held_at i e l = rw (sym e, lt-ltb i n l) refl
 
-    pub held_none : (i : ℕ) → i ≡ first held n → n ≤ i → Nothing ≡ held_by held owner shift n
+    pub held_none : (i : ℕ) → i ≡ first held n → n ≤ i → None ≡ held_by held owner shift n
     unfolding held_by
     held_none i e l = rw (sym e, le-ltb i n l) refl
 

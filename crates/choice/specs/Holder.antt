@@ -1,16 +1,16 @@
 -- The choice over rectangles in the order of their owners' ranks. A grid, counted from 0, owns one rectangle or several.
-use Rattle.std.specs.Prelude.{ℕ, suc, ◌-◌, ◌≤◌, ◌<◌, ◌≡◌, Bool, true, cond, ltb}
+use Rattle.std.specs.Prelude.{ℕ, suc, ◌-◌, ◌≤◌, ◌<◌, ◌≡◌, Bool, true, cond, ltb, Option, Some, None}
 use Rattle.numbers.specs.First.{first}
-use Rattle.choice.specs.declared.Held.{Held}
-use Rattle.choice.specs.declared.Held.TheVariants.{By, Nothing}
+use Rattle.choice.specs.declared.Holder.{Holder}
 
 -- the owner, a grid's number from 1, of the first of n rectangles that holds the point, 0 where none does
 unfoldable pub holder : (ℕ → Bool) → (ℕ → ℕ) → ℕ → ℕ
 holder held owner n = cond (ltb (first held n) n) (owner (first held n)) 0
 
 -- the owner, a grid counted from 0, and the shift of that rectangle
-unfoldable pub held_by : (ℕ → Bool) → (owner shift : ℕ → ℕ) → ℕ → Held
-held_by held owner shift n = cond (ltb (first held n) n) (By (owner (first held n)) (shift (first held n))) Nothing
+unfoldable pub held_by : (ℕ → Bool) → (owner shift : ℕ → ℕ) → ℕ → Option Holder
+held_by held owner shift n =
+    cond (ltb (first held n) n) (Some (record { owner = owner (first held n); shift = shift (first held n) })) None
 
 -- n rectangles in the order of their owners' ranks, of `grids` grids
 pub record Ranked (rank owner : ℕ → ℕ) (n grids : ℕ) : Type 0 where

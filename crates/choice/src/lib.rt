@@ -9,19 +9,18 @@ ghost use Rattle.choice.specs.Choice.{better_of, chosen};
 ghost use Rattle.choice.specs.Blocks.{blocks};
 ghost use Rattle.choice.specs.Holder.{held_by};
 
-// What holds a point: a rectangle's owner and its shift, or nothing.
+// The owner and the shift of a rectangle that holds a point.
 #[derive(Clone, Copy)]
-pub enum Held {
-    By(u64, u64),
-    Nothing,
+pub struct Holder {
+    pub owner: u64,
+    pub shift: u64,
 }
 
 // How many rectangles have all four sides, and a number in a second list.
 pub fn pair_count(sides: &[u64], numbers: &[u64]) -> usize
     ensures { result ≡ pair_count sides.now numbers.now }
 {
-    let n = sides.len() / 4;
-    if n < numbers.len() { n } else { numbers.len() }
+    (sides.len() / 4).min(numbers.len())
 }
 
 // Whether rectangle i holds the point.
@@ -30,6 +29,7 @@ pub fn rect_holds(sides: &[u64], i: usize, x: u64, y: u64) -> bool
     ensures { result ≡ rect_holds sides.now i x y }
 {
     let at = i * 4;
+    // all four sides are tested, so that no branch is made
     (sides[at] <= x) & ((x <= sides[at + 1]) & ((sides[at + 2] <= y) & (y <= sides[at + 3])))
 }
 
@@ -75,27 +75,23 @@ fn better_of(sides: &[u64], ranks: &[u64], turn: u64, x: u64, y: u64, i: usize, 
     requires { (i < pair_count sides.now ranks.now) × (c ≤ i) × (turn ≤ x) × (x + turn < 2 ^ 64) }
     ensures { result ≡ better_of (turn_holds turn sides.now i x y) (at ranks.now) i c }
 {
-    if !turn_holds(sides, i, turn, x, y) {
-        return c;
+    if turn_holds(sides, i, turn, x, y) && is_blocker(ranks, i, c as usize) {
+        i as u64 + 1
+    } else {
+        c
     }
-    if is_blocker(ranks, i, c as usize) {
-        return i as u64 + 1;
-    }
-    c
 }
 
-// The number, from 1, of the grid chosen at the point, 0 if none is. A grid counts if it has four sides and a rank.
+// The number, from 1, of the grid chosen at the point, 0 if none is, as callers hand it to C. A grid counts if it has four sides and a
+// rank.
 pub fn chosen_at(sides: &[u64], ranks: &[u64], turn: u64, x: u64, y: u64) -> u64
     requires { (turn ≤ x) × (x + turn < 2 ^ 64) }
     ensures { result ≡ chosen (λ i. turn_holds turn sides.now i x y) (at ranks.now)
         (pair_count sides.now ranks.now) }
 {
-    let n = pair_count(sides, ranks);
     let mut c = 0;
-    let mut i = 0;
-    while i < n {
+    for i in 0..pair_count(sides, ranks) {
         c = better_of(sides, ranks, turn, x, y, i, c);
-        i += 1;
     }
     c
 }
@@ -109,16 +105,17 @@ pub fn first_holder(
     rows: usize,
     x: u64,
     y: u64,
-) -> Held
+) -> Option<Holder>
     requires { (rows * 4 ≤ length sides.now) × (rows ≤ length owners.now) × (rows ≤ length shifts.now) }
     ensures { result ≡ held_by (λ i. rect_holds sides.now i x y) (at owners.now) (at shifts.now) rows }
 {
-    let mut i = 0;
-    while i < rows {
+    for i in 0..rows {
         if rect_holds(sides, i, x, y) {
-            return Held::By(owners[i], shifts[i]);
+            return Some(Holder {
+                owner: owners[i],
+                shift: shifts[i],
+            });
         }
-        i += 1;
     }
-    Held::Nothing
+    None
 }

@@ -1,23 +1,15 @@
 -- `choice::better_of` meets its contract.
-use mathlib.Core.Path.{◌∙◌, sym}
-use Rattle.numbers.specs.Lists.{at}
-use Rattle.choice.specs.Rect.{turn_holds}
+use mathlib.Core.Path.{sym}
 use Rattle.choice.proofs.Turn.{grid_out, grid_taken, grid_kept}
 use Rattle.choice.proofs.better_of.Goals as goal
-
-pub returns-then-not-turn_holds : goal.returns-then-not-turn_holds
-returns-then-not-turn_holds c =
-    let a = c.args in let h = c.turn_holds in
-    grid_out (turn_holds a.turn a.sides.now a.i a.x a.y) (at a.ranks.now) a.i a.c (sym h.ensures ∙ c.if-not-turn_holds.true)
+use Rattle.choice.proofs.better_of.Goals.{else-turn_holds-via-then-turn_holds+else-is_blocker, else-turn_holds-via-else-turn_holds}
 
 pub returns-then-is_blocker : goal.returns-then-is_blocker
-returns-then-is_blocker c =
-    let a = c.args in let h = c.turn_holds in
-    grid_taken (turn_holds a.turn a.sides.now a.i a.x a.y) (at a.ranks.now) a.i a.c (sym h.ensures ∙ c.if-not-turn_holds.false)
-    (sym c.is_blocker.ensures ∙ c.if-is_blocker.true)
+returns-then-is_blocker c = grid_taken _ _ _ _ (sym c.if-turn_holds.ensures) (sym c.if-is_blocker.ensures)
 
-pub returns : goal.returns
-returns c =
-    let a = c.args in let h = c.turn_holds in
-    grid_kept (turn_holds a.turn a.sides.now a.i a.x a.y) (at a.ranks.now) a.i a.c (sym h.ensures ∙ c.if-not-turn_holds.false)
-    (sym c.is_blocker.ensures ∙ c.if-is_blocker.false)
+pub returns-else-turn_holds : goal.returns-else-turn_holds
+returns-else-turn_holds c =
+    elim c.else-turn_holds.branch [
+      | else-turn_holds-via-then-turn_holds+else-is_blocker w ↦ grid_kept _ _ _ _ (sym w.if-turn_holds.ensures) (sym w.if-is_blocker.ensures)
+      | else-turn_holds-via-else-turn_holds w ↦ grid_out _ _ _ _ (sym w.if-turn_holds.ensures)
+    ]

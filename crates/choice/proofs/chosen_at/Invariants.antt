@@ -1,14 +1,10 @@
 -- `choice::chosen_at` meets its contract. The loop's invariant: c is the number of the grid chosen among the first i.
-use Prim.Native.Nat.{◌≤◌, ◌-◌}
 use mathlib.Core.Path.{◌≡◌}
 use Rattle.numbers.specs.Lists.{at}
-use Rattle.choice.specs.Rect.{turn_holds, pair_count}
+use Rattle.choice.specs.Rect.{turn_holds}
 use Rattle.choice.specs.Choice.{chosen}
 use Rattle.choice.proofs.chosen_at.Given as goal
 
 abbrev pub invariant-loop-i : goal.invariant-loop-i
 invariant-loop-i l =
-    (l.n ≡ pair_count l.sides l.ranks) × (l.i ≤ l.n) × (l.c ≡ chosen (λ i. turn_holds l.turn l.sides i l.x l.y) (at l.ranks) l.i)
-
-abbrev pub decreases-loop-i : goal.decreases-loop-i
-decreases-loop-i l = l.n - l.i
+    l.c ≡ chosen (λ i. turn_holds l.turn l.sides i l.x l.y) (at l.ranks) l.i
