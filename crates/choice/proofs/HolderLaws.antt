@@ -5,12 +5,12 @@ use mathlib.Core.Bool.{Bool, true}
 use native.Mathlib.Omega.{arith}
 use native.Mathlib.Decide.{dec_lt}
 use borrow.Author.Tests.{lt-ltb, le-ltb}
+use Rattle.std.specs.Prelude.{Some, None}
 use Rattle.numbers.specs.First.{first}
 use Rattle.numbers.proofs.Bools.{true_false}
 use Rattle.numbers.proofs.FirstLaws.{first_before, first_hit, none_at}
 use Rattle.choice.specs.Choice.{chosen}
 use Rattle.choice.specs.Holder.{holder, held_by, Ranked, Owns}
-use Rattle.std.specs.Prelude.{Some, None}
 use Rattle.choice.proofs.ChoiceLaws.{Apart, lowest_chosen, none_chosen}
 
 module _ (held : ℕ → Bool) (owner : ℕ → ℕ) (n : ℕ) where

@@ -82,8 +82,7 @@ fn better_of(sides: &[u64], ranks: &[u64], turn: u64, x: u64, y: u64, i: usize, 
     }
 }
 
-// The number, from 1, of the grid chosen at the point, 0 if none is, as callers hand it to C. A grid counts if it has four sides and a
-// rank.
+// The number, from 1, of the grid chosen at the point, 0 if none is, as in C's records. A grid counts if it has four sides and a rank.
 pub fn chosen_at(sides: &[u64], ranks: &[u64], turn: u64, x: u64, y: u64) -> u64
     requires { (turn ≤ x) × (x + turn < 2 ^ 64) }
     ensures { result ≡ chosen (λ i. turn_holds turn sides.now i x y) (at ranks.now)

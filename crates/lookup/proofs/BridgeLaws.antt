@@ -8,6 +8,7 @@ use native.Mathlib.Decide.{dec_lt}
 use borrow.Author.Tests.{ltb-false}
 use lib.IntN.{ℤ, nat_abs}
 use lib.ListN.{length}
+use Rattle.std.specs.Prelude.{Option, Some, None}
 use Rattle.numbers.specs.First.{first}
 use Rattle.numbers.specs.Lists.{at}
 use Rattle.numbers.specs.Circle.{turns}
@@ -24,8 +25,7 @@ use Rattle.judge.proofs.Accepted.{accepted_head}
 use Rattle.choice.specs.Rect.{rect_holds, turn_holds}
 use Rattle.choice.specs.Choice.{chosen}
 use Rattle.choice.specs.Holder.{holder}
-use Rattle.choice.specs.declared.Held.{Held}
-use Rattle.choice.specs.declared.Held.TheVariants.{By, Nothing}
+use Rattle.choice.specs.declared.Holder.{Holder}
 use Rattle.choice.proofs.HolderLaws.{holder_at, holder_none, held_at, held_none}
 use Rattle.flat.specs.Frames.{frame_at}
 use Rattle.flat.specs.Lists.{Flat}
@@ -177,20 +177,20 @@ module _ (g : Group) (nodes : List ℤ) (p : Point) (t : ℤ) (r : LookupReady g
           }
 
       -- what holds the point, by the first row that does
-      abbrev held : Held
+      abbrev held : Option Holder
       held = held_in rows owners shifts count x₀ y₀
 
-      here : row < count → By (at owners row) (at shifts row) ≡ held
+      here : row < count → Some (record { owner = at owners row; shift = at shifts row }) ≡ held
       here l = held_at (λ i. rect_holds rows i x₀ y₀) (at owners) count (at shifts) row refl l
 
-      nowhere : count ≤ row → Nothing ≡ held
+      nowhere : count ≤ row → None ≡ held
       nowhere l = held_none (λ i. rect_holds rows i x₀ y₀) (at owners) count (at shifts) row refl l
 
       held_chosen : g.grids * 7 ≤ length frames → HeldChosen frames held g.parameters (length nodes) x₀ b
       held_chosen n =
           elim (dec_lt row count) [
-            | yes lt ↦ subst (λ (h : Held). HeldChosen frames h g.parameters (length nodes) x₀ b) (here lt) (row_chosen n lt)
-            | no ge ↦ subst (λ (h : Held). HeldChosen frames h g.parameters (length nodes) x₀ b) (nowhere (omega arith)) tt
+            | yes lt ↦ subst (λ (h : Option Holder). HeldChosen frames h g.parameters (length nodes) x₀ b) (here lt) (row_chosen n lt)
+            | no ge ↦ subst (λ (h : Option Holder). HeldChosen frames h g.parameters (length nodes) x₀ b) (nowhere (omega arith)) tt
           ]
 
       -- the grid's number that the rows choose
@@ -203,12 +203,12 @@ module _ (g : Group) (nodes : List ℤ) (p : Point) (t : ℤ) (r : LookupReady g
       held_fix {f} {h} e =
           elim (dec_lt row count) [
             | yes lt ↦
-                ap (λ (q : Held). fix_held frames q g.parameters nodes f x₀ b) (sym (here lt))
+                ap (λ (q : Option Holder). fix_held frames q g.parameters nodes f x₀ b) (sym (here lt))
                 ∙ fix_here (suc (at owners row)) (x₀ + at shifts row - lon_turn)
                 (holder_at (λ i. rect_holds rows i x₀ y₀) (λ i. suc (at owners i)) count row refl lt ∙ number)
                 (λ k q. row_used lt ∙ ap used_by (suc_same q)) e
             | no ge ↦
-                ap (λ (q : Held). fix_held frames q g.parameters nodes f x₀ b) (sym (nowhere (omega arith)))
+                ap (λ (q : Option Holder). fix_held frames q g.parameters nodes f x₀ b) (sym (nowhere (omega arith)))
                 ∙ ap (λ (c : ℕ). fix_at c (λ k. offset_of (grid_at g k) g.parameters p) nodes h)
                 (holder_none (λ i. rect_holds rows i x₀ y₀) (λ i. suc (at owners i)) count row refl (omega arith) ∙ number)
           ]

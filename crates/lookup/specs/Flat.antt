@@ -1,5 +1,5 @@
 -- The lookup of one point over a group's flat lists, and what it may rely on.
-use Rattle.std.specs.Prelude.{ℕ, zero, suc, ◌+◌, ◌-◌, ◌*◌, ◌^◌, ◌≤◌, ◌<◌, ◌≡◌, true, List, ℤ, length, take, drop, Result, Err}
+use Rattle.std.specs.Prelude.{ℕ, zero, suc, ◌+◌, ◌-◌, ◌*◌, ◌^◌, ◌≤◌, ◌<◌, ◌≡◌, true, List, ℤ, length, take, drop, Option, Some, None, Result, Err}
 use Rattle.group.specs.declared.Group.{Group}
 use Rattle.group.specs.Numbers.{lon_turn, nodes_most, start_most, grids_most}
 use Rattle.group.specs.Limits.{function_fits}
@@ -11,8 +11,7 @@ use Rattle.flat.specs.Lists.{Flat, FlatRoom}
 use Rattle.numbers.specs.Lists.{at}
 use Rattle.choice.specs.Rect.{rect_holds, turn_used}
 use Rattle.choice.specs.Holder.{held_by}
-use Rattle.choice.specs.declared.Held.{Held}
-use Rattle.choice.specs.declared.Held.TheVariants.{By, Nothing}
+use Rattle.choice.specs.declared.Holder.{Holder}
 use Rattle.fix.specs.declared.Offset.{Offset}
 use Rattle.group.specs.Refusals.{refusal}
 use Rattle.fix.specs.Inside.{InsideGrid, RangeListed}
@@ -68,9 +67,9 @@ used_at sides zero x y = x
 used_at sides (suc k) x y = turn_used lon_turn sides k x y
 
 -- 7 where nothing holds the point, else 8 or 11, or the fix in the owner of the row that does, for its turn
-abbrev pub fix_held : (frames : List ℕ) → Held → (np : ℕ) → List ℤ → ℤ → (x y : ℕ) → Result Fix Refusal
-fix_held frames Nothing np nodes factor x y = Err (refusal 7 0)
-fix_held frames (By owner shift) np nodes factor x y = fix_at (suc owner) (λ k. offset_in (frame_at frames k) np (x + shift - lon_turn) y) nodes factor
+abbrev pub fix_held : (frames : List ℕ) → Option Holder → (np : ℕ) → List ℤ → ℤ → (x y : ℕ) → Result Fix Refusal
+fix_held frames None np nodes factor x y = Err (refusal 7 0)
+fix_held frames (Some h) np nodes factor x y = fix_at (suc h.owner) (λ k. offset_in (frame_at frames k) np (x + h.shift - lon_turn) y) nodes factor
 
 -- what that may rely on: the row's owner holds the point for the row's turn
 pub record TurnChosen (frames : List ℕ) (owner shift np nodes x y : ℕ) : Type 0 where
@@ -78,12 +77,12 @@ pub record TurnChosen (frames : List ℕ) (owner shift np nodes x y : ℕ) : Typ
   pub most : x + shift < 2 ^ 64
   pub chosen : Chosen frames (suc owner) np nodes (x + shift - lon_turn) y
 
-abbrev pub HeldChosen : (frames : List ℕ) → Held → (np nodes x y : ℕ) → Type 0
-HeldChosen frames Nothing np nodes x y = Unit {0}
-HeldChosen frames (By owner shift) np nodes x y = TurnChosen frames owner shift np nodes x y
+abbrev pub HeldChosen : (frames : List ℕ) → Option Holder → (np nodes x y : ℕ) → Type 0
+HeldChosen frames None np nodes x y = Unit {0}
+HeldChosen frames (Some h) np nodes x y = TurnChosen frames h.owner h.shift np nodes x y
 
 -- from rectangles in the order of their owners' ranks: by the first that holds the point
-abbrev pub held_in : (rows owners shifts : List ℕ) (count x y : ℕ) → Held
+abbrev pub held_in : (rows owners shifts : List ℕ) (count x y : ℕ) → Option Holder
 held_in rows owners shifts count x y = held_by (λ r. rect_holds rows r x y) (at owners) (at shifts) count
 
 abbrev pub fix_ranked : (rows owners shifts frames : List ℕ) (count np : ℕ) → List ℤ → ℤ → (x y : ℕ) → Result Fix Refusal

@@ -19,7 +19,7 @@ ghost use Rattle.lookup.specs.Flat.{distance, offset_in, Chosen, Laid, FramesSiz
 ghost use Rattle.lookup.specs.Flat.{used_at, fix_held, HeldChosen, fix_ranked, LaidRows};
 
 use abi::GROUP_WORDS;
-use choice::Held;
+use choice::Holder;
 use fix::{Fix, Offset};
 use flat::Frame;
 use group::{Group, LON_TURN, Point, Refusal};
@@ -134,7 +134,7 @@ pub fn used_at(sides: &[u64], c: u64, x: u64, y: u64) -> u64
 // The fix of a point (x, y) in the grid that holds it by one of its rectangles, for that one's turn; refusal 7 where nothing does.
 pub fn fix_held(
     frames: &[u64],
-    held: Held,
+    held: Option<Holder>,
     np: u64,
     nodes: &[i32],
     factor: i64,
@@ -145,13 +145,13 @@ pub fn fix_held(
     ensures { result ≡ fix_held frames.now held np nodes.now factor x y }
 {
     match held {
-        Held::Nothing => Err(Refusal {
+        None => Err(Refusal {
             number: 7,
             place: 0,
         }),
-        Held::By(owner, shift) => {
-            let at = x + shift - LON_TURN;
-            fix_chosen(frames, owner + 1, np, nodes, factor, at, y)
+        Some(h) => {
+            let at = x + h.shift - LON_TURN;
+            fix_chosen(frames, h.owner + 1, np, nodes, factor, at, y)
         }
     }
 }

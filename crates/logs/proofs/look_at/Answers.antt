@@ -9,6 +9,7 @@ use lib.ListN.{length}
 use mir.Syntax.{w64}
 use mir.Val.{SFits, to_z, of_z}
 use mir.ValLaws.{to_z-of_z}
+use Rattle.std.specs.Prelude.{Option}
 use Rattle.numbers.specs.Lists.{at}
 use Rattle.group.specs.declared.Group.{Group}
 use Rattle.group.specs.Numbers.{day_fits, factor_most}
@@ -17,7 +18,7 @@ use Rattle.judge.proofs.Accepted.{accepted, accepted_head}
 use Rattle.day.specs.Day.{factor_of}
 use Rattle.day.proofs.DayLaws.{factor_bound}
 use Rattle.lookup.specs.Lookup.{LookupReady}
-use Rattle.choice.specs.declared.Held.{Held}
+use Rattle.choice.specs.declared.Holder.{Holder}
 use Rattle.lookup.specs.Flat.{fix_held, HeldChosen, LaidRows}
 use Rattle.lookup.proofs.StageLaws.{day_told, looked_accepted, looked_6, looked_9, looked_on}
 use Rattle.lookup.proofs.BridgeLaws.{ranked_laid, ranked_fix}
@@ -97,7 +98,7 @@ fix_held-requires c =
     ∙ ap (λ (s : Scale). s.factor) (c.requires.scale ∙ scale_in g c.args.scale.day day) in
     let a = c.args in let e = c.requires.call.accepted in (
       rw c.parameter_count-np.ensures
-          (subst (λ (q : Held). HeldChosen (frames_in l) q g.parameters (length a.nodes.now) x y) (sym c.first_holder-held.ensures) laid.ready),
+          (subst (λ (q : Option Holder). HeldChosen (frames_in l) q g.parameters (length a.nodes.now) x y) (sym c.first_holder-held.ensures) laid.ready),
       subst (λ (z : ℤ). nat_abs z ≤ factor_most) (sym factor)
           (factor_bound g.function a.scale.day g.functions (accepted_head g e).functions (accepted g e).function),
     )
