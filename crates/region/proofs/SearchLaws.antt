@@ -6,20 +6,20 @@ use Prim.Native.Nat.{ℕ, zero, suc, ◌+◌, ◌-◌, ◌≤◌, ◌<◌, min}
 use native.Mathlib.Omega.{arith}
 use native.Mathlib.Decide.{dec_lt}
 use lib.Dec.{leb, ltb, eqb}
-use borrow.Author.Tests.{ltb-true, ltb-false, leb-true, leb-false, eqb-true, eqb-false, lt-ltb, le-ltb, le-leb, lt-leb, eq-eqb, ne_eqb}
+use borrow.Author.Tests.{ltb-true, ltb-false, leb-true, leb-false, eqb-true, eqb-false, le-ltb, ne_eqb}
 use Rattle.numbers.proofs.Bools.{or_left, or_right, or_none, untrue}
-use Rattle.region.specs.First.{first_in_row, first_in_rows, first_in, IsFirst}
+use Rattle.std.specs.Prelude.{Some, None}
+use Rattle.region.specs.First.{spot, first_in_row, first_in_rows, first_in, IsFirst}
 use Rattle.region.specs.Earlier.{earlierb, earlier}
 use Rattle.region.specs.declared.Spot.{Spot}
-use Rattle.region.specs.declared.Spot.TheVariants.{At, Nothing}
 
 module _ (p : ℕ → ℕ → Bool) (y : ℕ) where
-  row_none : (n x : ℕ) → ((k : ℕ) → x ≤ k → k < x + n → p k y ≡ false) → first_in_row p y x n ≡ Nothing
+  row_none : (n x : ℕ) → ((k : ℕ) → x ≤ k → k < x + n → p k y ≡ false) → first_in_row p y x n ≡ None
   unfolding first_in_row
   row_none zero x h = refl
   row_none (suc n) x h = rw (h x (omega arith) (omega arith)) (row_none n (suc x) (λ k a b. h k (omega arith) (omega arith)))
 
-  row_at : (n x k : ℕ) → x ≤ k → k < x + n → ((i : ℕ) → x ≤ i → i < k → p i y ≡ false) → p k y ≡ true → first_in_row p y x n ≡ At k y
+  row_at : (n x k : ℕ) → x ≤ k → k < x + n → ((i : ℕ) → x ≤ i → i < k → p i y ≡ false) → p k y ≡ true → first_in_row p y x n ≡ Some (spot k y)
   unfolding first_in_row
   row_at zero x k a b h t = absurd (omega arith)
   row_at (suc n) x k a b h t =
@@ -57,7 +57,7 @@ test_cases true = inr refl
 test_cases false = inl refl
 
 module _ (p : ℕ → ℕ → Bool) (x wide : ℕ) where
-  rows_none : (n y : ℕ) → ((i j : ℕ) → x ≤ i → i < x + wide → y ≤ j → j < y + n → p i j ≡ false) → first_in_rows p x wide y n ≡ Nothing
+  rows_none : (n y : ℕ) → ((i j : ℕ) → x ≤ i → i < x + wide → y ≤ j → j < y + n → p i j ≡ false) → first_in_rows p x wide y n ≡ None
   unfolding first_in_rows
   rows_none zero y h = refl
   rows_none (suc n) y h =
@@ -65,7 +65,7 @@ module _ (p : ℕ → ℕ → Bool) (x wide : ℕ) where
       (rows_none n (suc y) (λ i j a b c d. h i j a b (omega arith) (omega arith)))
 
   rows_at : (n y i j : ℕ) → x ≤ i → i < x + wide → y ≤ j → j < y + n → ((k l : ℕ) → x ≤ k → k < x + wide → y ≤ l → l < j → p k l ≡ false)
-      → ((k : ℕ) → x ≤ k → k < i → p k j ≡ false) → p i j ≡ true → first_in_rows p x wide y n ≡ At i j
+      → ((k : ℕ) → x ≤ k → k < i → p k j ≡ false) → p i j ≡ true → first_in_rows p x wide y n ≡ Some (spot i j)
   unfolding first_in_rows
   rows_at zero y i j a b c d f g t = absurd (omega arith)
   rows_at (suc n) y i j a b c d f g t =
@@ -78,17 +78,17 @@ module _ (p : ℕ → ℕ → Bool) (x wide : ℕ) where
             rw (e, row_at p j wide x i a b g t) refl
       ]
 
--- The laws of `first_in`. It is Nothing exactly where p holds nowhere inside, and else At the one point that `IsFirst` describes.
+-- The laws of `first_in`. It is None exactly where p holds nowhere inside, and else Some of the one point that `IsFirst` describes.
 module _ (p : ℕ → ℕ → Bool) (west east south north : ℕ) where
   abbrev NoneIn : Type 0
   NoneIn = (i j : ℕ) → west ≤ i → i ≤ east → south ≤ j → j ≤ north → p i j ≡ false
 
-  pub first_none : NoneIn → first_in p west east south north ≡ Nothing
+  pub first_none : NoneIn → first_in p west east south north ≡ None
   unfolding first_in
   first_none h =
       rows_none p west (east + 1 - west) (north + 1 - south) south (λ i j a b c d. h i j a (omega arith) c (omega arith))
 
-  pub first_at : {x y : ℕ} → IsFirst p west east south north x y → first_in p west east south north ≡ At x y
+  pub first_at : {x y : ℕ} → IsFirst p west east south north x y → first_in p west east south north ≡ Some (spot x y)
   unfolding first_in
   first_at {x} {y} h =
       rows_at p west (east + 1 - west) (north + 1 - south) south x y h.west≤ (omega arith) h.south≤ (omega arith)
@@ -106,14 +106,14 @@ module _ (p : ℕ → ℕ → Bool) (west east south north : ℕ) where
       (north + 1 - south) south)
 
   -- the converses
-  pub at_first : (x y : ℕ) → first_in p west east south north ≡ At x y → IsFirst p west east south north x y
-  at_first x y e =
+  pub at_first : (s : Spot) → first_in p west east south north ≡ Some s → IsFirst p west east south north s.x s.y
+  at_first s e =
       ⊎_elim
       (λ n. let h = first_none n in let z : ◌≡◌ {A = ℕ} 0 1 = cc in absurd (omega arith))
-      (λ q. let h = first_at q.2 in let a : q.0 ≡ x = cc in let b : q.1 ≡ y = cc in rw (a, b) at q.2)
+      (λ q. let h = first_at q.2 in let f : spot q.0 q.1 ≡ s = cc in subst (λ (t : Spot). IsFirst p west east south north t.x t.y) f q.2)
       is_cases
 
-  pub none_first : first_in p west east south north ≡ Nothing → NoneIn
+  pub none_first : first_in p west east south north ≡ None → NoneIn
   none_first e =
       ⊎_elim (λ n. n) (λ q. let h = first_at q.2 in let z : ◌≡◌ {A = ℕ} 0 1 = cc in absurd (omega arith)) is_cases
 
@@ -173,7 +173,7 @@ earlier_no x y u v e = go (ltb y v) (eqb y v) refl refl e
 -- The first point of h, which holds where p or q does: p's, where q has none before it.
 module _ (p q h : ℕ → ℕ → Bool) (west east south north : ℕ) (yes-p : (i j : ℕ) → p i j ≡ true → h i j ≡ true) (neither : (i j : ℕ) → p i j ≡ false → q i j ≡ false → h i j ≡ false) where
   either_at : (x y u v : ℕ) → IsFirst p west east south north x y → IsFirst q west east south north u v → (y < v) ⊎ ((y ≡ v) × (x ≤ u))
-      → first_in h west east south north ≡ At x y
+      → first_in h west east south north ≡ Some (spot x y)
   either_at x y u v f g o =
       first_at h west east south north
       (record {
@@ -191,7 +191,7 @@ module _ (p q h : ℕ → ℕ → Bool) (west east south north : ℕ) (yes-p : (
             o);
       })
 
-  either_one : (x y : ℕ) → IsFirst p west east south north x y → NoneIn q west east south north → first_in h west east south north ≡ At x y
+  either_one : (x y : ℕ) → IsFirst p west east south north x y → NoneIn q west east south north → first_in h west east south north ≡ Some (spot x y)
   either_one x y f n =
       first_at h west east south north
       (record {
@@ -224,41 +224,23 @@ module _ (p q : ℕ → ℕ → Bool) (west east south north : ℕ) where
       (is_cases p west east south north)
     where
       go : (x y u v : ℕ) → IsFirst p west east south north x y → IsFirst q west east south north u v → (b : Bool) → earlierb x y u v ≡ b
-          → first_in (λ i j. p i j || q i j) west east south north ≡ cond b (At x y) (At u v)
+          → first_in (λ i j. p i j || q i j) west east south north ≡ cond b (Some (spot x y)) (Some (spot u v))
       go x y u v f g true e = either_at p q (λ i j. p i j || q i j) west east south north (λ i j k. or_left (q i j) k) (λ i j k l. or_none k l) x y u v f g (earlier_yes x y u v e)
       go x y u v f g false e = either_at q p (λ i j. p i j || q i j) west east south north (λ i j k. or_right (p i j) k) (λ i j k l. or_none l k) u v x y g f (earlier_no x y u v e)
 
-yes_earlier : (x y u v : ℕ) → (y < v) ⊎ ((y ≡ v) × (x ≤ u)) → earlierb x y u v ≡ true
-yes_earlier x y u v o =
-    ⊎_elim (λ l. rw (lt-ltb y v l) refl)
-    (λ r. rw (le-ltb y v (omega (arith, r.0)), eq-eqb y v r.0, le-leb x u r.1) refl) o
-
-no_earlier : (x y u v : ℕ) → (v < y) ⊎ ((v ≡ y) × (u < x)) → earlierb x y u v ≡ false
-no_earlier x y u v o =
-    ⊎_elim (λ l. rw (le-ltb y v (omega arith), ne_eqb y v (omega arith)) refl)
-    (λ r. rw (le-ltb y v (omega (arith, r.0)), eq-eqb y v (sym r.0), lt-leb x u r.1) refl) o
-
--- for a caller that has two points of its own
-module _ (a b : Spot) {x y : ℕ} (p : a ≡ At x y) where
-  pub earlier_alone : b ≡ Nothing → At x y ≡ earlier a b
-  earlier_alone q = rw (p, q) refl
-
-  pub earlier_first : {u v : ℕ} → b ≡ At u v → (y < v) ⊎ ((y ≡ v) × (x ≤ u)) → At x y ≡ earlier a b
-  earlier_first {u} {v} q o = rw (p, q, yes_earlier x y u v o) refl
-
-  pub earlier_second : {u v : ℕ} → b ≡ At u v → (v < y) ⊎ ((v ≡ y) × (u < x)) → At u v ≡ earlier a b
-  earlier_second {u} {v} q o = rw (p, q, no_earlier x y u v o) refl
+no_earlier : (x y u v : ℕ) → v < y → earlierb x y u v ≡ false
+no_earlier x y u v l = rw (le-ltb y v (omega arith), ne_eqb y v (omega arith)) refl
 
 -- A point found is the earlier one of all farther north: the search can end at its row.
 pub first_up_to : (p : ℕ → ℕ → Bool) (west east south north x y : ℕ)
-    → earlier (first_in p west east south (min north y)) (At x y) ≡ earlier (first_in p west east south north) (At x y)
+    → earlier (first_in p west east south (min north y)) (Some (spot x y)) ≡ earlier (first_in p west east south north) (Some (spot x y))
 first_up_to p west east south north x y =
     ⊎_elim
     (λ n. rw (first_none p west east south north n, first_none p west east south (min north y) (λ i j a b c d. n i j a b c (omega arith))) refl)
     (λ f. let r = f.2 in
     elim (dec_lt y f.1) [
       | yes lt ↦
-          rw (first_none p west east south (min north y) (λ i j a b c d. r.below i j a b c (omega arith)), first_at p west east south north r, no_earlier f.0 f.1 x y (inl lt)) refl
+          rw (first_none p west east south (min north y) (λ i j a b c d. r.below i j a b c (omega arith)), first_at p west east south north r, no_earlier f.0 f.1 x y lt) refl
       | no ge ↦
           rw (
             first_at p west east south north r,

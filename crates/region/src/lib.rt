@@ -8,13 +8,11 @@ ghost use Rattle.region.specs.Earlier.{earlier};
 ghost use Rattle.region.specs.Free.{free, reaches, rect_count};
 ghost use Rattle.region.specs.Rows.{RowAnswer};
 
-use numbers::smaller;
-
-// The point found: longitude and latitude.
+// A point: longitude and latitude.
 #[derive(Clone, Copy)]
-pub enum Spot {
-    At(u64, u64),
-    Nothing,
+pub struct Spot {
+    pub x: u64,
+    pub y: u64,
 }
 
 // The bounds of a search, included.
@@ -26,7 +24,8 @@ pub struct Bounds {
     pub north: u64,
 }
 
-// Of a row: its westmost free longitude, or the last row that the blockers of this one hold whole.
+// Of a row: its westmost free longitude, or the last row that the blockers of this one hold whole. Neither is an error or an absence, so an
+// Option or a Result would say less.
 #[derive(Clone, Copy)]
 enum Row {
     Open(u64),
@@ -54,6 +53,7 @@ fn first_in_row(rs: &[u64], y: u64, west: u64, east: u64, north: u64) -> Row
     let mut top = north;
     let mut ahead = false;
     let mut i = 0;
+    // no `for`, since the walk may begin anew
     while i < n {
         let at = i * 4;
         let reached = reaches(rs, i, x, y);
@@ -62,7 +62,7 @@ fn first_in_row(rs: &[u64], y: u64, west: u64, east: u64, north: u64) -> Row
             if x < rs[at] {
                 ahead = true;
             } else {
-                top = smaller(top, rs[at + 3]);
+                top = top.min(rs[at + 3]);
                 let to = rs[at + 1];
                 if east <= to {
                     return Row::Shut(top);
@@ -80,49 +80,43 @@ fn first_in_row(rs: &[u64], y: u64, west: u64, east: u64, north: u64) -> Row
 
 // The southmost, then westmost point from west to east and from south to north that no rectangle holds; quickest if the rectangles
 // stand from west to east.
-pub fn first_free(rs: &[u64], west: u64, east: u64, south: u64, north: u64) -> Spot
+pub fn first_free(rs: &[u64], west: u64, east: u64, south: u64, north: u64) -> Option<Spot>
     ensures { result ≡ first_in (free rs.now) west east south north }
 {
     if east < west {
-        return Spot::Nothing;
+        return None;
     }
     let mut y = south;
+    // no `for`, since rows that are shut together are passed at once
     while y <= north {
-        let row = first_in_row(rs, y, west, east, north);
-        match row {
+        match first_in_row(rs, y, west, east, north) {
             Row::Open(x) => {
-                return Spot::At(x, y);
+                return Some(Spot { x, y });
             }
             Row::Shut(top) => {
                 if north <= top {
-                    return Spot::Nothing;
+                    return None;
                 }
                 y = top + 1;
             }
         }
     }
-    Spot::Nothing
+    None
 }
 
 // Of two points the one further south, and in one row the one further west.
-pub fn earlier_spot(a: Spot, b: Spot) -> Spot
+pub fn earlier_spot(a: Option<Spot>, b: Option<Spot>) -> Option<Spot>
     ensures { result ≡ earlier a b }
 {
-    let Spot::At(x, y) = a else {
+    let Some(p) = a else {
         return b;
     };
-    let Spot::At(u, v) = b else {
+    let Some(q) = b else {
         return a;
     };
-    if y < v {
-        return Spot::At(x, y);
-    }
-    if v < y {
-        return Spot::At(u, v);
-    }
-    if x <= u {
-        Spot::At(x, y)
+    if p.y < q.y || (p.y == q.y && p.x <= q.x) {
+        a
     } else {
-        Spot::At(u, v)
+        b
     }
 }

@@ -1,12 +1,10 @@
 -- `region::first_free` meets its contract. The loop's invariant: rectangles hold all of the rows from south up to below y.
 use Prim.Native.Nat.{ℕ, ◌≤◌, ◌<◌}
-use mathlib.Core.Path.{◌≡◌, sym, subst}
+use mathlib.Core.Path.{◌≡◌, sym}
 use mathlib.Core.Bool.{Bool, false}
 use native.Mathlib.Omega.{arith}
 use native.Mathlib.Decide.{dec_lt}
 use Rattle.region.specs.Free.{free}
-use Rattle.region.specs.Rows.{RowAnswer}
-use Rattle.region.specs.declared.Row.{Row}
 use Rattle.region.proofs.SearchLaws.{first_at, first_none}
 use Rattle.region.proofs.first_free.Goals as goal
 
@@ -28,26 +26,26 @@ loop-y-init c = (omega arith, λ k j p q r s. absurd (omega arith))
 pub returns-in-Open : goal.returns-in-Open
 returns-in-Open c =
     let a = c.args in let l = c.loop-y in
-    let s = subst (λ (r : Row). RowAnswer a.rs.now l.y a.west a.east a.north r) c.in-Open.is c.first_in_row-row.ensures in
+    let s = c.in-Open.ensures in
     sym (first_at (free a.rs.now) a.west a.east a.south a.north
     (record { west≤ = s.0; ≤east = s.1; south≤ = l.invariant.0; ≤north = c.loop-y-test.true; here = s.3; below = l.invariant.1; left = s.2 }))
 
 pub returns-then-north-top : goal.returns-then-north-top
 returns-then-north-top c =
     let a = c.args in let l = c.loop-y in
-    let s = subst (λ (r : Row). RowAnswer a.rs.now l.y a.west a.east a.north r) c.in-Shut.is c.first_in_row-row.ensures in
+    let s = c.in-Shut.ensures in
     sym (first_none (free a.rs.now) a.west a.east a.south a.north (λ i j p q r o. shut_on l.invariant.1 s.1 i j p q r (omega arith)))
 
 pub loop-y-smaller : goal.loop-y-smaller
 loop-y-smaller c =
     let a = c.args in let l = c.loop-y in
-    let s = subst (λ (r : Row). RowAnswer a.rs.now l.y a.west a.east a.north r) c.in-Shut.is c.first_in_row-row.ensures in
+    let s = c.in-Shut.ensures in
     omega (arith, s.0)
 
 pub loop-y-preserved : goal.loop-y-preserved
 loop-y-preserved c =
     let a = c.args in let l = c.loop-y in
-    let s = subst (λ (r : Row). RowAnswer a.rs.now l.y a.west a.east a.north r) c.in-Shut.is c.first_in_row-row.ensures in
+    let s = c.in-Shut.ensures in
     (omega (arith, s.0), λ k j p q r o. shut_on l.invariant.1 s.1 k j p q r (omega arith))
 
 pub returns : goal.returns

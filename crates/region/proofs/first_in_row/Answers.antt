@@ -22,40 +22,40 @@ pub returns-then-east-to : goal.returns-then-east-to
 returns-then-east-to c =
     let a = c.args in let l = c.loop-i in
     let s =
-    shut_more a.rs.now l.i l.x a.y a.west l.top c.smaller-top.result (omega (arith, l.invariant.0))
-    (sym c.reaches-reached.ensures ∙ c.if-reached.true) (omega (arith, c.if-x-rs.false)) c.smaller-top.ensures l.invariant.4 l.invariant.5 in
+    shut_more _ _ _ _ _ _ _ (omega arith) (sym c.reaches-reached.ensures ∙ c.if-reached.true) (omega arith) c.min-top.ensures
+    l.invariant.4 l.invariant.5 in
     (s.1, λ k j p q r o. s.2 k j p (omega arith) r o)
 
 pub loop-i-smaller-then-ahead : goal.loop-i-smaller-then-ahead
 loop-i-smaller-then-ahead c =
     let a = c.args in let l = c.loop-i in
     let s =
-    shut_more a.rs.now l.i l.x a.y a.west l.top c.smaller-top.result (omega (arith, l.invariant.0))
-    (sym c.reaches-reached.ensures ∙ c.if-reached.true) (omega (arith, c.if-x-rs.false)) c.smaller-top.ensures l.invariant.4 l.invariant.5 in
+    shut_more _ _ _ _ _ _ _ (omega arith) (sym c.reaches-reached.ensures ∙ c.if-reached.true) (omega arith) c.min-top.ensures
+    l.invariant.4 l.invariant.5 in
     less_left _ _ _ _ _ (omega (arith, s.0, l.invariant.3)) (omega arith)
 
 pub loop-i-preserved-then-ahead : goal.loop-i-preserved-then-ahead
 loop-i-preserved-then-ahead c =
     let a = c.args in let l = c.loop-i in
     let s =
-    shut_more a.rs.now l.i l.x a.y a.west l.top c.smaller-top.result (omega (arith, l.invariant.0))
-    (sym c.reaches-reached.ensures ∙ c.if-reached.true) (omega (arith, c.if-x-rs.false)) c.smaller-top.ensures l.invariant.4 l.invariant.5 in
+    shut_more _ _ _ _ _ _ _ (omega arith) (sym c.reaches-reached.ensures ∙ c.if-reached.true) (omega arith) c.min-top.ensures
+    l.invariant.4 l.invariant.5 in
     (l.invariant.0, omega arith, omega (arith, s.0, l.invariant.2), omega arith, s.1, s.2, walked_none a.rs.now _ a.y false)
 
 pub loop-i-smaller-else-ahead : goal.loop-i-smaller-else-ahead
 loop-i-smaller-else-ahead c =
     let a = c.args in let l = c.loop-i in
     let s =
-    shut_more a.rs.now l.i l.x a.y a.west l.top c.smaller-top.result (omega (arith, l.invariant.0))
-    (sym c.reaches-reached.ensures ∙ c.if-reached.true) (omega (arith, c.if-x-rs.false)) c.smaller-top.ensures l.invariant.4 l.invariant.5 in
+    shut_more _ _ _ _ _ _ _ (omega arith) (sym c.reaches-reached.ensures ∙ c.if-reached.true) (omega arith) c.min-top.ensures
+    l.invariant.4 l.invariant.5 in
     less_left _ _ _ _ _ (omega (arith, s.0, l.invariant.3)) (omega arith)
 
 pub loop-i-preserved-else-ahead : goal.loop-i-preserved-else-ahead
 loop-i-preserved-else-ahead c =
     let a = c.args in let l = c.loop-i in
     let s =
-    shut_more a.rs.now l.i l.x a.y a.west l.top c.smaller-top.result (omega (arith, l.invariant.0))
-    (sym c.reaches-reached.ensures ∙ c.if-reached.true) (omega (arith, c.if-x-rs.false)) c.smaller-top.ensures l.invariant.4 l.invariant.5 in
+    shut_more _ _ _ _ _ _ _ (omega arith) (sym c.reaches-reached.ensures ∙ c.if-reached.true) (omega arith) c.min-top.ensures
+    l.invariant.4 l.invariant.5 in
     (l.invariant.0, omega arith, omega (arith, s.0, l.invariant.2), omega arith, s.1, s.2, walked_on a.rs.now l.x a.y l.i l.ahead l.invariant.6 c.if-ahead.false s.0)
 
 pub loop-i-preserved : goal.loop-i-preserved
