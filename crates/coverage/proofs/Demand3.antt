@@ -9,9 +9,10 @@ use native.Mathlib.Decide.{dec_lt}
 use borrow.Author.Tests.{eq-eqb, eqb-true}
 use lib.Dec.{eqb}
 use lib.ListN.{length, get_or}
+use Rattle.std.specs.Prelude.{Option, Some, None}
 use Rattle.numbers.proofs.Bools.{true_false}
+use Rattle.region.specs.First.{spot_at}
 use Rattle.region.specs.declared.Spot.{Spot}
-use Rattle.region.specs.declared.Spot.TheVariants.{At, Nothing}
 use Rattle.region.specs.declared.Bounds.{Bounds}
 use Rattle.region.proofs.SearchLaws.{at_first, none_first, first_same}
 use Rattle.coverage.specs.InForce.{first_taken, entries_of, in_force_by}
@@ -23,34 +24,34 @@ use Rattle.coverage.proofs.EntryLaws.{entries≤, mem_entries, entries_mem, pair
 
 module _ (choose : ℕ → ℕ → ℕ) (a : Bounds) where
   -- where the grid numbered k is chosen first, or none where k is 0
-  pub first_taken_lem : (k x y : ℕ) → first_taken choose a k ≡ At x y → IsFirstTaken choose a k x y
-  first_taken_lem k x y e =
-      let f = at_first (λ u v. eqb (choose u v) k) a.west a.east a.south a.north x y e in
+  pub first_taken_lem : (k : ℕ) (s : Spot) → first_taken choose a k ≡ Some s → IsFirstTaken choose a k s.x s.y
+  first_taken_lem k s e =
+      let f = at_first (λ u v. eqb (choose u v) k) a.west a.east a.south a.north s e in
       record {
         inside = record { west≤ = f.west≤; ≤east = f.≤east; south≤ = f.south≤; ≤north = f.≤north };
-        chosen = eqb-true (choose x y) k f.here;
+        chosen = eqb-true (choose s.x s.y) k f.here;
         others = λ u v i c. let t = eq-eqb (choose u v) k c in
-            elim (dec_lt y v) [
+            elim (dec_lt s.y v) [
               | yes lt ↦ inl lt
               | no ge ↦
-                  elim (dec_lt v y) [
+                  elim (dec_lt v s.y) [
                     | yes lt ↦ absurd (true_false t (f.below u v i.west≤ i.≤east i.south≤ lt))
                     | no ge₂ ↦
-                        let s : v ≡ y = omega arith in
-                        elim (dec_lt u x) [
-                          | yes lt ↦ absurd (true_false t (subst (λ (j : ℕ). eqb (choose u j) k ≡ false) (sym s) (f.left u i.west≤ lt)))
-                          | no ge₃ ↦ inr (sym s, omega arith)
+                        let r : v ≡ s.y = omega arith in
+                        elim (dec_lt u s.x) [
+                          | yes lt ↦ absurd (true_false t (subst (λ (j : ℕ). eqb (choose u j) k ≡ false) (sym r) (f.left u i.west≤ lt)))
+                          | no ge₃ ↦ inr (sym r, omega arith)
                         ]
                   ]
             ];
       }
 
-  pub first_found : (x y k : ℕ) → Inside a x y → choose x y ≡ k → (u : ℕ) × (v : ℕ) × (first_taken choose a k ≡ At u v)
+  pub first_found : (x y k : ℕ) → Inside a x y → choose x y ≡ k → (s : Spot) × (first_taken choose a k ≡ Some s)
   first_found x y k i p = go (first_taken choose a k) refl
     where
-      go : (s : Spot) → first_taken choose a k ≡ s → (u : ℕ) × (v : ℕ) × (first_taken choose a k ≡ At u v)
-      go (At u v) q = (u, v, q)
-      go Nothing q =
+      go : (s : Option Spot) → first_taken choose a k ≡ s → (s : Spot) × (first_taken choose a k ≡ Some s)
+      go (Some s) q = (s, q)
+      go None q =
           absurd (true_false (eq-eqb (choose x y) k p)
           (none_first (λ u v. eqb (choose u v) k) a.west a.east a.south a.north q x y i.west≤ i.≤east i.south≤ i.≤north))
 
@@ -76,7 +77,7 @@ in_force_lem choose Before n a order o taken =
         let b = o.number i.0 i.1 in
         record {
           number = (omega (arith, b.0, i.2), omega (arith, b.1, i.2));
-          first = first_taken_lem choose a e.grid e.lon e.lat p.1;
+          first = first_taken_lem choose a e.grid (spot_at e.lon e.lat) p.1;
         }
 
     named : (x y g : ℕ) → Inside a x y → choose x y ≡ suc g → (i : ℕ) × (i < length es) × ((get_or es i no_entry).grid ≡ suc g)
@@ -84,7 +85,7 @@ in_force_lem choose Before n a order o taken =
         let q = o.each g (taken x y g p) in
         let m : Memᴰ (suc g) order = subst (λ (k : ℕ). Memᴰ k order) q.2 (at_mem 0 order q.0 q.1) in
         let s = first_found choose a x y (suc g) i p in
-        let k = mem_at no_entry (entries_mem (first_taken choose a) m s.0 s.1 s.2) in
+        let k = mem_at no_entry (entries_mem (first_taken choose a) m s.0 s.1) in
         (k.0, k.1, ap (λ (f : Entry). f.grid) k.2)
 
     ordered : (i j : ℕ) → i < j → j < length es → Before (get_or es i no_entry).grid (get_or es j no_entry).grid

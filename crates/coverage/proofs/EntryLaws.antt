@@ -7,10 +7,11 @@ use Prim.Native.Nat.{ℕ, suc, ◌+◌, ◌-◌, ◌≤◌, ◌<◌}
 use native.Mathlib.Omega.{arith}
 use native.Mathlib.Numerals.{add-one}
 use lib.ListN.{length, get_or, take, set, replicate, length-append, length-replicate, get_or-append}
-use lib.Seq.{set-append_seam, append_snoc, take-suc, length-take-le}
+use lib.Seq.{set-append_seam, append_snoc, take-suc}
+use Rattle.std.specs.Prelude.{Option, Some, None}
 use Rattle.numbers.specs.Lists.{at}
+use Rattle.region.specs.First.{spot_at}
 use Rattle.region.specs.declared.Spot.{Spot}
-use Rattle.region.specs.declared.Spot.TheVariants.{At, Nothing}
 use Rattle.coverage.specs.Rectangles.{entries_most}
 use Rattle.coverage.specs.InForce.{entry_of, entries_of}
 use Rattle.coverage.specs.Listing.{no_entry, filled, listing_of}
@@ -20,25 +21,25 @@ use Rattle.numbers.proofs.Lists.{Pairs, pairs_one, pairs_append}
 
 -- the entry of a grid, if it has one
 module _ (k : ℕ) where
-  one≤ : (s : Spot) → length (entry_of k s) ≤ 1
-  one≤ Nothing = omega arith
-  one≤ (At x y) = omega arith
+  one≤ : (s : Option Spot) → length (entry_of k s) ≤ 1
+  one≤ None = omega arith
+  one≤ (Some s) = omega arith
 
-  mem_one : (s : Spot) (e : Entry) → Memᴰ e (entry_of k s) → (e.grid ≡ k) × (s ≡ At e.lon e.lat)
-  mem_one Nothing e m = absurd (Memᴰ.not-nil m)
-  mem_one (At x y) e m = let q = Memᴰ.eq_of_singleton m in (ap (λ (f : Entry). f.grid) q, rw q refl)
+  mem_one : (s : Option Spot) (e : Entry) → Memᴰ e (entry_of k s) → (e.grid ≡ k) × (s ≡ Some (spot_at e.lon e.lat))
+  mem_one None e m = absurd (Memᴰ.not-nil m)
+  mem_one (Some s) e m = let q = Memᴰ.eq_of_singleton m in (ap (λ (f : Entry). f.grid) q, rw q refl)
 
-  pairs_entry : (R : Entry → Entry → Type 0) (s : Spot) → Pairs R (entry_of k s)
-  pairs_entry R Nothing = tt
-  pairs_entry R (At x y) = pairs_one R (record { grid = k; lon = x; lat = y })
+  pairs_entry : (R : Entry → Entry → Type 0) (s : Option Spot) → Pairs R (entry_of k s)
+  pairs_entry R None = tt
+  pairs_entry R (Some s) = pairs_one R (record { grid = k; lon = s.x; lat = s.y })
 
-module _ (spot : ℕ → Spot) where
+module _ (spot : ℕ → Option Spot) where
   pub entries≤ : (ks : List ℕ) → length (entries_of spot ks) ≤ length ks
   unfolding entries_of
   entries≤ [] = omega arith
   entries≤ (k ∷ ks) = omega (arith, entries≤ ks, one≤ k (spot k), length-append (entry_of k (spot k)) (entries_of spot ks))
 
-  pub mem_entries : (ks : List ℕ) (e : Entry) → Memᴰ e (entries_of spot ks) → Memᴰ e.grid ks × (spot e.grid ≡ At e.lon e.lat)
+  pub mem_entries : (ks : List ℕ) (e : Entry) → Memᴰ e (entries_of spot ks) → Memᴰ e.grid ks × (spot e.grid ≡ Some (spot_at e.lon e.lat))
   unfolding entries_of
   mem_entries [] e m = absurd (Memᴰ.not-nil m)
   mem_entries (k ∷ ks) e m =
@@ -47,11 +48,11 @@ module _ (spot : ℕ → Spot) where
       (λ b. let o = mem_entries ks e b in (Memᴰ.tail o.0, o.1))
       (Memᴰ.append_cases (entry_of k (spot k)) m)
 
-  pub entries_mem : {k : ℕ} {ks : List ℕ} → Memᴰ k ks → (x y : ℕ) → spot k ≡ At x y → Memᴰ (record { grid = k; lon = x; lat = y }) (entries_of spot ks)
+  pub entries_mem : {k : ℕ} {ks : List ℕ} → Memᴰ k ks → (s : Spot) → spot k ≡ Some s → Memᴰ (record { grid = k; lon = s.x; lat = s.y }) (entries_of spot ks)
   unfolding entries_of
-  entries_mem {k} {ks = []} m x y e = absurd (Memᴰ.not-nil m)
-  entries_mem {k} {ks = j ∷ ks} (Memᴰ.head p) x y e = Memᴰ.append_left {s = entry_of j (spot j)} (entries_of spot ks) (rw (← p, e) (Memᴰ.head refl))
-  entries_mem {k} {ks = j ∷ ks} (Memᴰ.tail m) x y e = Memᴰ.append_right (entry_of j (spot j)) (entries_mem m x y e)
+  entries_mem {k} {ks = []} m s e = absurd (Memᴰ.not-nil m)
+  entries_mem {k} {ks = j ∷ ks} (Memᴰ.head p) s e = Memᴰ.append_left {s = entry_of j (spot j)} (entries_of spot ks) (rw (← p, e) (Memᴰ.head refl))
+  entries_mem {k} {ks = j ∷ ks} (Memᴰ.tail m) s e = Memᴰ.append_right (entry_of j (spot j)) (entries_mem m s e)
 
   pub pairs_entries : (R : ℕ → ℕ → Type 0) (ks : List ℕ) → Pairs R ks → Pairs (λ e f. R e.grid f.grid) (entries_of spot ks)
   unfolding entries_of
@@ -75,40 +76,38 @@ fill_more es e h =
     rw (a, b) (set-append_seam es no_entry (replicate k no_entry) e ∙ sym (append_snoc es e (replicate k no_entry)))
 
 -- the entries of these grids are written
-pub record Shown (spot : ℕ → Spot) (ks : List ℕ) (found : ℕ) (entries : List Entry) : Type 0 where
+pub record Shown (spot : ℕ → Option Spot) (ks : List ℕ) (found : ℕ) (entries : List Entry) : Type 0 where
   pub many : found ≡ length (entries_of spot ks)
   pub same : entries ≡ filled (entries_of spot ks)
 
-pub shown_listed : (spot : ℕ → Spot) (ks : List ℕ) (found : ℕ) (entries : List Entry) → Shown spot ks found entries
+pub shown_listed : (spot : ℕ → Option Spot) (ks : List ℕ) (found : ℕ) (entries : List Entry) → Shown spot ks found entries
     → ◌≡◌ {A = Listing} (record { count = found; entries = entries }) (listing_of (entries_of spot ks))
 shown_listed spot ks found entries h = rw (h.many, h.same) refl
 
 -- one grid of the order more
-module _ (spot : ℕ → Spot) (order : List ℕ) (k found : ℕ) (entries : List Entry) (h : Shown spot (take k order) found entries) (l : k < length order) where
+module _ (spot : ℕ → Option Spot) (order : List ℕ) (k found : ℕ) (entries : List Entry) (h : Shown spot (take k order) found entries) (l : k < length order) where
   step : take (k + 1) order ≡ take k order ++ at order k ∷ []
   step = rw add-one (take-suc order k 0 l)
 
-  pub shown≤ : found ≤ k
-  shown≤ = omega (arith, h.many, entries≤ spot (take k order), length-take-le k order (omega arith))
-
   -- the spot s that was found for it
-  module _ (low : 1 ≤ at order k) {s : Spot} (found-spot : s ≡ spot (at order k - 1 + 1)) where
-    spot_is : {t : Spot} → s ≡ t → spot (at order k) ≡ t
+  module _ (low : 1 ≤ at order k) {s : Option Spot} (found-spot : s ≡ spot (at order k - 1 + 1)) where
+    spot_is : {t : Option Spot} → s ≡ t → spot (at order k) ≡ t
     spot_is e = let q : at order k - 1 + 1 ≡ at order k = omega arith in rw (← q, ← found-spot) e
 
-    pub shown_not : s ≡ Nothing → Shown spot (take (k + 1) order) found entries
+    pub shown_not : s ≡ None → Shown spot (take (k + 1) order) found entries
     shown_not e =
         let q : entries_of spot (take (k + 1) order) ≡ entries_of spot (take k order) = rw (step, entries_more spot (take k order) (at order k), spot_is e) (append-nil (entries_of spot (take k order))) in
         record { many = h.many ∙ ap length (sym q); same = h.same ∙ ap filled (sym q) }
 
-    pub shown_at : {x y : ℕ} → s ≡ At x y → k < entries_most → Shown spot (take (k + 1) order) (found + 1) (set entries found (record { grid = at order k; lon = x; lat = y }))
-    shown_at {x} {y} e m =
+    pub shown_at : {t : Spot} → s ≡ Some t → found < entries_most
+        → Shown spot (take (k + 1) order) (found + 1) (set entries found (record { grid = at order k; lon = t.x; lat = t.y }))
+    shown_at {t} e m =
         let es = entries_of spot (take k order) in
-        let f : Entry = record { grid = at order k; lon = x; lat = y } in
+        let f : Entry = record { grid = at order k; lon = t.x; lat = t.y } in
         let q : entries_of spot (take (k + 1) order) ≡ es ++ f ∷ [] = rw (step, entries_more spot (take k order) (at order k), spot_is e) refl in
         record {
           many = omega (arith, h.many, ap length q, length-append es (f ∷ []));
-          same = rw (h.same, h.many) (fill_more es f (omega (arith, shown≤, h.many))) ∙ ap filled (sym q);
+          same = rw (h.same, h.many) (fill_more es f (omega (arith, h.many))) ∙ ap filled (sym q);
         }
 
 -- what stands in each of the places

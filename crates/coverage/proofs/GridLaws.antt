@@ -11,6 +11,7 @@ use native.Mathlib.Decide.{dec_lt}
 use borrow.Author.Tests.{eq-eqb, eqb-true, ne_eqb}
 use lib.Dec.{eqb}
 use lib.ListN.{length}
+use Rattle.std.specs.Prelude.{Option, Some, None}
 use Rattle.numbers.specs.First.{some}
 use Rattle.numbers.proofs.FirstLaws.{some_by, by_some}
 use Rattle.numbers.proofs.Bools.{and_left, and_right, or_cases, both, or_left, or_right, same_test, untrue, true_false}
@@ -22,7 +23,6 @@ use Rattle.choice.proofs.ChoiceLaws.{chosen_unblocked, unblocked_chosen, any_blo
 use Rattle.region.specs.Earlier.{earlier}
 use Rattle.region.specs.declared.Bounds.{Bounds}
 use Rattle.region.specs.declared.Spot.{Spot}
-use Rattle.region.specs.declared.Spot.TheVariants.{At, Nothing}
 use Rattle.region.proofs.SearchLaws.{narrow, first_same, first_none, first_either, first_up_to}
 use Rattle.coverage.specs.Rectangles.{Rectangles, own_holds, grid_holds, chosen_at, first_chosen, SoundRects}
 use Rattle.coverage.specs.Steps.{block_holds, unblocked, first_unblocked, first_of, first_of_rect, part_of, up_to, Each}
@@ -81,7 +81,7 @@ module _ (l : Rectangles) (sound : SoundRects l) (g x y : ℕ) where
       both u.inside (of_free l sound (suc g) x y (λ j m b h. u.alone j m b h))
 
 -- the search for no grid: none is chosen just where no rectangle holds the point, since every one blocks that choice
-pub hole_chosen : (l : Rectangles) → SoundRects l → (a : Bounds) → {s : Spot} → s ≡ first_unblocked l a 0 → s ≡ first_chosen l a 0
+pub hole_chosen : (l : Rectangles) → SoundRects l → (a : Bounds) → {s : Option Spot} → s ≡ first_unblocked l a 0 → s ≡ first_chosen l a 0
 unfolding chosen_at
 hole_chosen l sound a q =
     q ∙ first_same (unblocked l 0) (λ x y. eqb (chosen_at l x y) 0) a.west a.east a.south a.north
@@ -108,7 +108,7 @@ named_holds l numbers o g x y =
 
 -- the search for g
 pub spot_chosen : (l : Rectangles) → SoundRects l → (a : Bounds) (g : ℕ) → g < length l.ranks → (numbers : List ℕ) → Each (length l.owners) numbers
-    → {s : Spot} → s ≡ first_of l a g numbers (length l.owners) → s ≡ first_chosen l a (g + 1)
+    → {s : Option Spot} → s ≡ first_of l a g numbers (length l.owners) → s ≡ first_chosen l a (g + 1)
 spot_chosen l sound a g m numbers o q =
     q ∙ first_same (λ x y. some (λ i. own_holds l.rects l.owners g x y (at numbers i)) (length l.owners) && unblocked l (suc g) x y) (λ x y. eqb (chosen_at l x y) (g + 1))
     a.west a.east a.south a.north
@@ -139,13 +139,13 @@ module _ (l : Rectangles) (a : Bounds) (g : ℕ) (numbers : List ℕ) where
   abbrev named : ℕ → ℕ → ℕ → Bool
   named x y i = own_holds l.rects l.owners g x y (at numbers i)
 
-  pub first_of_none : Nothing ≡ first_of l a g numbers 0
+  pub first_of_none : None ≡ first_of l a g numbers 0
   first_of_none =
       sym (first_none (λ x y. some (named x y) 0 && unblocked l (suc g) x y) a.west a.east a.south a.north
       (λ i j b c d e. untrue (some (named i j) 0 && unblocked l (suc g) i j)
       (λ t. let s = by_some (named i j) 0 (and_left (some (named i j) 0) (unblocked l (suc g) i j) t) in absurd (omega (arith, s.1)))))
 
-  pub first_of_more : (n : ℕ) (s r : Spot) → s ≡ first_of l a g numbers n → r ≡ earlier (first_of_rect l a g (at numbers n)) s → r ≡ first_of l a g numbers (n + 1)
+  pub first_of_more : (n : ℕ) (s r : Option Spot) → s ≡ first_of l a g numbers n → r ≡ earlier (first_of_rect l a g (at numbers n)) s → r ≡ first_of l a g numbers (n + 1)
   first_of_more n s r e h =
       h ∙ rw e
       (sym (first_either (λ x y. named x y n && unblocked l (suc g) x y) (λ x y. some (named x y) n && unblocked l (suc g) x y) a.west a.east a.south a.north)
@@ -162,11 +162,11 @@ module _ (l : Rectangles) (a : Bounds) (g : ℕ) where
   abbrev own : ℕ → ℕ → ℕ → Bool
   own x y r = own_holds l.rects l.owners g x y r
 
-  pub rect_other : (r : ℕ) → (at l.owners r ≡ g → ⊥) → Nothing ≡ first_of_rect l a g r
+  pub rect_other : (r : ℕ) → (at l.owners r ≡ g → ⊥) → None ≡ first_of_rect l a g r
   rect_other r h =
       sym (first_none (λ x y. own x y r && unblocked l (suc g) x y) a.west a.east a.south a.north (λ i j b c d e. rw (ne_eqb (at l.owners r) g h) refl))
 
-  pub rect_own : (r : ℕ) → at l.owners r ≡ g → (p : Bounds) → p ≡ part_of l.rects r a → {t : Spot} → t ≡ first_unblocked l p (suc g)
+  pub rect_own : (r : ℕ) → at l.owners r ≡ g → (p : Bounds) → p ≡ part_of l.rects r a → {t : Option Spot} → t ≡ first_unblocked l p (suc g)
       → t ≡ first_of_rect l a g r
   rect_own r o p d e =
       let pw : p.west ≡ max a.west (west_of l.rects r) = ap (λ (z : Bounds). z.west) d in
@@ -189,10 +189,10 @@ module _ (l : Rectangles) (a : Bounds) (g : ℕ) where
       t)
 
   -- the earlier of a point found, if any, and of a rectangle's first
-  pub next_other : (r : ℕ) → (at l.owners r ≡ g → ⊥) → (s : Spot) → s ≡ earlier (first_of_rect l a g r) s
-  next_other r h s = ap (λ (t : Spot). earlier t s) (rect_other r h)
+  pub next_other : (r : ℕ) → (at l.owners r ≡ g → ⊥) → (s : Option Spot) → s ≡ earlier (first_of_rect l a g r) s
+  next_other r h s = ap (λ (t : Option Spot). earlier t s) (rect_other r h)
 
-  pub next_own : (r : ℕ) (s t : Spot) (b : Bounds) → b ≡ up_to a s → t ≡ first_of_rect l b g r → {v : Spot} → v ≡ earlier t s → v ≡ earlier (first_of_rect l a g r) s
-  next_own r Nothing t b d e h = h ∙ rw (e, d) refl
-  next_own r (At x y) t b d e h =
-      h ∙ rw (e, d) (first_up_to (λ i j. own i j r && unblocked l (suc g) i j) a.west a.east a.south a.north x y)
+  pub next_own : (r : ℕ) (s t : Option Spot) (b : Bounds) → b ≡ up_to a s → t ≡ first_of_rect l b g r → {v : Option Spot} → v ≡ earlier t s → v ≡ earlier (first_of_rect l a g r) s
+  next_own r None t b d e h = h ∙ rw (e, d) refl
+  next_own r (Some s) t b d e h =
+      h ∙ rw (e, d) (first_up_to (λ i j. own i j r && unblocked l (suc g) i j) a.west a.east a.south a.north s.x s.y)

@@ -1,22 +1,21 @@
 -- Grids in force: the list of an area.
-use Rattle.std.specs.Prelude.{List, [], ◌∷◌, ◌++◌, ℕ, eqb}
+use Rattle.std.specs.Prelude.{List, [], ◌∷◌, ◌++◌, ℕ, eqb, Option, Some, None}
 use Rattle.region.specs.declared.Spot.{Spot}
-use Rattle.region.specs.declared.Spot.TheVariants.{At, Nothing}
 use Rattle.region.specs.declared.Bounds.{Bounds}
 use Rattle.coverage.specs.declared.Entry.{Entry}
 use Rattle.region.specs.First.{first_in}
 
 -- the southmost, then westmost coordinate of the area at which a choice takes the grid numbered k, or none where k is 0
-abbrev pub first_taken : (ℕ → ℕ → ℕ) → Bounds → ℕ → Spot
+abbrev pub first_taken : (ℕ → ℕ → ℕ) → Bounds → ℕ → Option Spot
 first_taken choose a k = first_in (λ x y. eqb (choose x y) k) a.west a.east a.south a.north
 
 -- the entry of the grid numbered k, if it has a first coordinate
-abbrev pub entry_of : ℕ → Spot → List Entry
-entry_of k Nothing = []
-entry_of k (At x y) = record { grid = k; lon = x; lat = y } ∷ []
+abbrev pub entry_of : ℕ → Option Spot → List Entry
+entry_of k None = []
+entry_of k (Some s) = record { grid = k; lon = s.x; lat = s.y } ∷ []
 
 -- the entries of the grids of these numbers, in this order
-unfoldable pub entries_of : (ℕ → Spot) → List ℕ → List Entry
+unfoldable pub entries_of : (ℕ → Option Spot) → List ℕ → List Entry
 entries_of spot [] = []
 entries_of spot (k ∷ ks) = entry_of k (spot k) ++ entries_of spot ks
 

@@ -1,5 +1,5 @@
 -- Grids as rectangles: a grid owns one or several, and holds what one of them holds.
-use Rattle.std.specs.Prelude.{◌≡◌, Bool, true, ◌&&◌, List, ℕ, ◌*◌, ◌≤◌, ◌<◌, eqb, length}
+use Rattle.std.specs.Prelude.{◌≡◌, Bool, true, ◌&&◌, List, ℕ, ◌*◌, ◌≤◌, ◌<◌, eqb, length, Option}
 use Rattle.numbers.specs.First.{some}
 use Rattle.numbers.specs.Lists.{at}
 use Rattle.choice.specs.Rect.{rect_holds}
@@ -37,7 +37,7 @@ unfoldable pub chosen_at : Rectangles → ℕ → ℕ → ℕ
 chosen_at l x y = chosen (λ g. grid_holds l g x y) (at l.ranks) (length l.ranks)
 
 -- the first point of the area at which the grid numbered k is chosen, or none where k is 0
-abbrev pub first_chosen : Rectangles → Bounds → ℕ → Spot
+abbrev pub first_chosen : Rectangles → Bounds → ℕ → Option Spot
 first_chosen l a k = first_taken (chosen_at l) a k
 
 -- what the lists of an accepted group have

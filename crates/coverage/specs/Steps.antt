@@ -1,6 +1,6 @@
 -- What the inner functions answer: where blockers leave the choice to a grid, or to none, the search over a grid's rectangles, the blockers
 -- near a part of the area, and the rectangles from west to east.
-use Rattle.std.specs.Prelude.{◌≡◌, Bool, true, not, ◌&&◌, List, ℕ, suc, ◌+◌, ◌*◌, ◌≤◌, ◌<◌, min, max, leb, length, set}
+use Rattle.std.specs.Prelude.{◌≡◌, Bool, true, not, ◌&&◌, List, ℕ, suc, ◌+◌, ◌*◌, ◌≤◌, ◌<◌, min, max, leb, length, set, Option, Some, None}
 use Rattle.numbers.specs.First.{some}
 use Rattle.numbers.specs.Lists.{at}
 use Rattle.choice.specs.Rect.{west_of, east_of, south_of, north_of, rect_holds}
@@ -9,7 +9,6 @@ use Rattle.region.specs.First.{first_in}
 use Rattle.region.specs.Earlier.{earlier}
 use Rattle.region.specs.declared.Bounds.{Bounds}
 use Rattle.region.specs.declared.Spot.{Spot}
-use Rattle.region.specs.declared.Spot.TheVariants.{At, Nothing}
 use Rattle.coverage.specs.Rectangles.{Rectangles, SoundRects, own_holds, first_chosen}
 
 -- rectangle r is one of a blocker of the grid numbered k, from 1, or of none where k is 0, and holds the point
@@ -21,24 +20,24 @@ unfoldable pub unblocked : Rectangles → ℕ → ℕ → ℕ → Bool
 unblocked l k x y = not (some (block_holds l k x y) (length l.owners))
 
 -- the first such point of a part of the area
-abbrev pub first_unblocked : Rectangles → Bounds → ℕ → Spot
+abbrev pub first_unblocked : Rectangles → Bounds → ℕ → Option Spot
 first_unblocked l part k = first_in (unblocked l k) part.west part.east part.south part.north
 
 -- of the area, the first point that rectangle r, if it is one of grid g's, holds and that no blocker of g holds
-abbrev pub first_of_rect : Rectangles → Bounds → ℕ → ℕ → Spot
+abbrev pub first_of_rect : Rectangles → Bounds → ℕ → ℕ → Option Spot
 first_of_rect l a g r =
     first_in (λ x y. own_holds l.rects l.owners g x y r && unblocked l (suc g) x y) a.west a.east a.south a.north
 
 -- the same of those rectangles of grid g that the first n numbers name
-abbrev pub first_of : Rectangles → Bounds → ℕ → List ℕ → ℕ → Spot
+abbrev pub first_of : Rectangles → Bounds → ℕ → List ℕ → ℕ → Option Spot
 first_of l a g numbers n =
     first_in (λ x y. some (λ i. own_holds l.rects l.owners g x y (at numbers i)) n && unblocked l (suc g) x y)
     a.west a.east a.south a.north
 
 -- the area, no farther north than a point that was found
-abbrev pub up_to : Bounds → Spot → Bounds
-up_to a (At x y) = record { west = a.west; east = a.east; south = a.south; north = min a.north y }
-up_to a Nothing = a
+abbrev pub up_to : Bounds → Option Spot → Bounds
+up_to a (Some s) = record { west = a.west; east = a.east; south = a.south; north = min a.north s.y }
+up_to a None = a
 
 -- the part of the area that lies in rectangle r
 abbrev pub part_of : List ℕ → ℕ → Bounds → Bounds
@@ -83,16 +82,16 @@ abbrev pub NearFilled : Rectangles → ℕ → Bounds → (near after : List ℕ
 NearFilled l k part near after count = Near l k part after count × (length after ≡ length near)
 
 -- a search's answer, and the list that it overwrites as long as it was
-abbrev pub PartAnswer : Rectangles → Bounds → ℕ → Spot → (near after : List ℕ) → Type 0
+abbrev pub PartAnswer : Rectangles → Bounds → ℕ → Option Spot → (near after : List ℕ) → Type 0
 PartAnswer l part k s near after = (s ≡ first_unblocked l part k) × (length after ≡ length near)
 
-abbrev pub RectAnswer : Rectangles → Bounds → ℕ → ℕ → Spot → (near after : List ℕ) → Type 0
+abbrev pub RectAnswer : Rectangles → Bounds → ℕ → ℕ → Option Spot → (near after : List ℕ) → Type 0
 RectAnswer l a g r s near after = (s ≡ first_of_rect l a g r) × (length after ≡ length near)
 
-abbrev pub NextAnswer : Rectangles → Bounds → ℕ → ℕ → Spot → Spot → (near after : List ℕ) → Type 0
+abbrev pub NextAnswer : Rectangles → Bounds → ℕ → ℕ → Option Spot → Option Spot → (near after : List ℕ) → Type 0
 NextAnswer l a g r s t near after = (t ≡ earlier (first_of_rect l a g r) s) × (length after ≡ length near)
 
-abbrev pub GridAnswer : Rectangles → Bounds → ℕ → Spot → (near after : List ℕ) → Type 0
+abbrev pub GridAnswer : Rectangles → Bounds → ℕ → Option Spot → (near after : List ℕ) → Type 0
 GridAnswer l a g s near after = (s ≡ first_chosen l a (g + 1)) × (length after ≡ length near)
 
 -- the first n numbers are those below n, in any order

@@ -9,7 +9,7 @@ use lib.Dec.{leb, ltb, eqb}
 use borrow.Author.Tests.{ltb-true, ltb-false, leb-true, leb-false, eqb-true, eqb-false, le-ltb, ne_eqb}
 use Rattle.numbers.proofs.Bools.{or_left, or_right, or_none, untrue}
 use Rattle.std.specs.Prelude.{Some, None}
-use Rattle.region.specs.First.{spot, first_in_row, first_in_rows, first_in, IsFirst}
+use Rattle.region.specs.First.{spot_at, first_in_row, first_in_rows, first_in, IsFirst}
 use Rattle.region.specs.Earlier.{earlierb, earlier}
 use Rattle.region.specs.declared.Spot.{Spot}
 
@@ -19,7 +19,7 @@ module _ (p : ℕ → ℕ → Bool) (y : ℕ) where
   row_none zero x h = refl
   row_none (suc n) x h = rw (h x (omega arith) (omega arith)) (row_none n (suc x) (λ k a b. h k (omega arith) (omega arith)))
 
-  row_at : (n x k : ℕ) → x ≤ k → k < x + n → ((i : ℕ) → x ≤ i → i < k → p i y ≡ false) → p k y ≡ true → first_in_row p y x n ≡ Some (spot k y)
+  row_at : (n x k : ℕ) → x ≤ k → k < x + n → ((i : ℕ) → x ≤ i → i < k → p i y ≡ false) → p k y ≡ true → first_in_row p y x n ≡ Some (spot_at k y)
   unfolding first_in_row
   row_at zero x k a b h t = absurd (omega arith)
   row_at (suc n) x k a b h t =
@@ -65,7 +65,7 @@ module _ (p : ℕ → ℕ → Bool) (x wide : ℕ) where
       (rows_none n (suc y) (λ i j a b c d. h i j a b (omega arith) (omega arith)))
 
   rows_at : (n y i j : ℕ) → x ≤ i → i < x + wide → y ≤ j → j < y + n → ((k l : ℕ) → x ≤ k → k < x + wide → y ≤ l → l < j → p k l ≡ false)
-      → ((k : ℕ) → x ≤ k → k < i → p k j ≡ false) → p i j ≡ true → first_in_rows p x wide y n ≡ Some (spot i j)
+      → ((k : ℕ) → x ≤ k → k < i → p k j ≡ false) → p i j ≡ true → first_in_rows p x wide y n ≡ Some (spot_at i j)
   unfolding first_in_rows
   rows_at zero y i j a b c d f g t = absurd (omega arith)
   rows_at (suc n) y i j a b c d f g t =
@@ -88,7 +88,7 @@ module _ (p : ℕ → ℕ → Bool) (west east south north : ℕ) where
   first_none h =
       rows_none p west (east + 1 - west) (north + 1 - south) south (λ i j a b c d. h i j a (omega arith) c (omega arith))
 
-  pub first_at : {x y : ℕ} → IsFirst p west east south north x y → first_in p west east south north ≡ Some (spot x y)
+  pub first_at : {x y : ℕ} → IsFirst p west east south north x y → first_in p west east south north ≡ Some (spot_at x y)
   unfolding first_in
   first_at {x} {y} h =
       rows_at p west (east + 1 - west) (north + 1 - south) south x y h.west≤ (omega arith) h.south≤ (omega arith)
@@ -110,7 +110,7 @@ module _ (p : ℕ → ℕ → Bool) (west east south north : ℕ) where
   at_first s e =
       ⊎_elim
       (λ n. let h = first_none n in let z : ◌≡◌ {A = ℕ} 0 1 = cc in absurd (omega arith))
-      (λ q. let h = first_at q.2 in let f : spot q.0 q.1 ≡ s = cc in subst (λ (t : Spot). IsFirst p west east south north t.x t.y) f q.2)
+      (λ q. let h = first_at q.2 in let f : spot_at q.0 q.1 ≡ s = cc in subst (λ (t : Spot). IsFirst p west east south north t.x t.y) f q.2)
       is_cases
 
   pub none_first : first_in p west east south north ≡ None → NoneIn
@@ -173,7 +173,7 @@ earlier_no x y u v e = go (ltb y v) (eqb y v) refl refl e
 -- The first point of h, which holds where p or q does: p's, where q has none before it.
 module _ (p q h : ℕ → ℕ → Bool) (west east south north : ℕ) (yes-p : (i j : ℕ) → p i j ≡ true → h i j ≡ true) (neither : (i j : ℕ) → p i j ≡ false → q i j ≡ false → h i j ≡ false) where
   either_at : (x y u v : ℕ) → IsFirst p west east south north x y → IsFirst q west east south north u v → (y < v) ⊎ ((y ≡ v) × (x ≤ u))
-      → first_in h west east south north ≡ Some (spot x y)
+      → first_in h west east south north ≡ Some (spot_at x y)
   either_at x y u v f g o =
       first_at h west east south north
       (record {
@@ -191,7 +191,7 @@ module _ (p q h : ℕ → ℕ → Bool) (west east south north : ℕ) (yes-p : (
             o);
       })
 
-  either_one : (x y : ℕ) → IsFirst p west east south north x y → NoneIn q west east south north → first_in h west east south north ≡ Some (spot x y)
+  either_one : (x y : ℕ) → IsFirst p west east south north x y → NoneIn q west east south north → first_in h west east south north ≡ Some (spot_at x y)
   either_one x y f n =
       first_at h west east south north
       (record {
@@ -224,7 +224,7 @@ module _ (p q : ℕ → ℕ → Bool) (west east south north : ℕ) where
       (is_cases p west east south north)
     where
       go : (x y u v : ℕ) → IsFirst p west east south north x y → IsFirst q west east south north u v → (b : Bool) → earlierb x y u v ≡ b
-          → first_in (λ i j. p i j || q i j) west east south north ≡ cond b (Some (spot x y)) (Some (spot u v))
+          → first_in (λ i j. p i j || q i j) west east south north ≡ cond b (Some (spot_at x y)) (Some (spot_at u v))
       go x y u v f g true e = either_at p q (λ i j. p i j || q i j) west east south north (λ i j k. or_left (q i j) k) (λ i j k l. or_none k l) x y u v f g (earlier_yes x y u v e)
       go x y u v f g false e = either_at q p (λ i j. p i j || q i j) west east south north (λ i j k. or_right (p i j) k) (λ i j k l. or_none l k) u v x y g f (earlier_no x y u v e)
 
@@ -233,7 +233,7 @@ no_earlier x y u v l = rw (le-ltb y v (omega arith), ne_eqb y v (omega arith)) r
 
 -- A point found is the earlier one of all farther north: the search can end at its row.
 pub first_up_to : (p : ℕ → ℕ → Bool) (west east south north x y : ℕ)
-    → earlier (first_in p west east south (min north y)) (Some (spot x y)) ≡ earlier (first_in p west east south north) (Some (spot x y))
+    → earlier (first_in p west east south (min north y)) (Some (spot_at x y)) ≡ earlier (first_in p west east south north) (Some (spot_at x y))
 first_up_to p west east south north x y =
     ⊎_elim
     (λ n. rw (first_none p west east south north n, first_none p west east south (min north y) (λ i j a b c d. n i j a b c (omega arith))) refl)

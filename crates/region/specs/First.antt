@@ -2,8 +2,8 @@
 use Rattle.std.specs.Prelude.{◌≡◌, Bool, true, false, cond, ℕ, zero, suc, ◌+◌, ◌-◌, ◌≤◌, ◌<◌, Option, Some, None}
 use Rattle.region.specs.declared.Spot.{Spot}
 
-abbrev pub spot : (x y : ℕ) → Spot
-spot x y = record { x = x; y = y }
+abbrev pub spot_at : (x y : ℕ) → Spot
+spot_at x y = record { x = x; y = y }
 
 -- the first if it is a point, else the second
 abbrev pub or_else : Option Spot → Option Spot → Option Spot
@@ -13,7 +13,7 @@ or_else None t = t
 -- in row y: the westmost of the n longitudes from x on at which p holds
 unfoldable pub first_in_row : (ℕ → ℕ → Bool) → ℕ → ℕ → ℕ → Option Spot
 first_in_row p y x zero = None
-first_in_row p y x (suc n) = let r = first_in_row p y (suc x) n in cond (p x y) (Some (spot x y)) r
+first_in_row p y x (suc n) = let r = first_in_row p y (suc x) n in cond (p x y) (Some (spot_at x y)) r
 
 -- in the n rows from y on: the first row that has a point, and its westmost point
 unfoldable pub first_in_rows : (ℕ → ℕ → Bool) → ℕ → ℕ → ℕ → ℕ → Option Spot
