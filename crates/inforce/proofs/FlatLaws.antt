@@ -68,9 +68,6 @@ module _ (sides ranks : List ℕ) (n : ℕ) (s : FlatSound sides ranks n) where
     pub order_few : length (take count order) ≤ grids_most
     order_few = omega (arith, ap length order_ranked, by_rank≤ (at ranks) n rank_most, s.room.few)
 
-    pub count_few : count ≤ grids_most
-    count_few = omega (arith, b.many, ap length b.same, order_few)
-
     pub order_numbers : Numbers (length (take n ranks)) (take count order)
     order_numbers = record { few = order_few; each = λ i l. let o = order_of.number i l in (o.0, omega (arith, o.1, ranks_length)) }
 

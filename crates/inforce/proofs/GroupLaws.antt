@@ -8,6 +8,7 @@ use native.Mathlib.Omega.{arith}
 use lib.IntN.{ℤ}
 use lib.ListN.{length}
 use lib.Signed.{◌≤ℤ◌, ◌<ℤ◌}
+use Rattle.std.specs.Prelude.{Some}
 use Rattle.numbers.proofs.Machine.{lowered_size, lowered_raised, raised_lowered}
 use Rattle.group.specs.declared.Group.{Group}
 use Rattle.group.specs.Numbers.{grids_most, rank_most, lon_zero, lat_zero}
@@ -23,7 +24,7 @@ use Rattle.flat.proofs.OrderSteps.{by_rank≤}
 use Rattle.flat.proofs.OrderLaws.{mem_by_rank, by_rank_mem, pairs_by_rank, before_differs, by_rank_alike}
 use Rattle.ingroup.specs.InGroup.{chosen_in}
 use Rattle.ingroup.proofs.InGroupLaws.{chosen_holds, rank_limits, flat_turnable, flat_ranked, flat_apart, flat_chosen_lem}
-use Rattle.region.specs.declared.Spot.TheVariants.{At}
+use Rattle.region.specs.declared.Spot.{Spot}
 use Rattle.coverage.specs.InForce.{in_force_by}
 use Rattle.coverage.specs.Demand3.{Inside, Ordered, IsFirstTaken, EntriesInForce}
 use Rattle.coverage.specs.Listing.{listing_of}
@@ -118,16 +119,16 @@ module _ (g : Group) (a : Area) (f : area_fits a ≡ true) where
       }
 
   -- the hole is the first coordinate at which no grid is chosen, and there is one where such a coordinate is
-  pub hole_first : (x y : ℕ) → hole_in g a ≡ At x y → IsFirstChosen g a 0 (lon_at x) (lat_at y)
-  hole_first x y e = first_chosen_lem 0 x y (first_taken_lem (choice_at g) (area_from_least a) 0 x y e)
+  pub hole_first : (s : Spot) → hole_in g a ≡ Some s → IsFirstChosen g a 0 (lon_at s.x) (lat_at s.y)
+  hole_first s e = first_chosen_lem 0 s.x s.y (first_taken_lem (choice_at g) (area_from_least a) 0 s e)
 
-  pub hole_found : (x y : ℤ) → InArea a x y → chosen_in g x y ≡ 0 → (u : ℕ) × (v : ℕ) × (hole_in g a ≡ At u v)
+  pub hole_found : (x y : ℤ) → InArea a x y → chosen_in g x y ≡ 0 → (s : Spot) × (hole_in g a ≡ Some s)
   hole_found x y i c =
       first_found (choice_at g) (area_from_least a) (lon_from_least x) (lat_from_least y) 0 (area_inside a f x y i) (by_distances x y i ∙ c)
 
   pub narrow_hole : NarrowSpot (hole_in g a)
-  narrow_hole x y e =
-      let m = inside_most a f x y (first_taken_lem (choice_at g) (area_from_least a) 0 x y e).inside in
+  narrow_hole s e =
+      let m = inside_most a f s.x s.y (first_taken_lem (choice_at g) (area_from_least a) 0 s e).inside in
       (omega (arith, m.0), omega (arith, m.1))
 
 -- what is known of the list

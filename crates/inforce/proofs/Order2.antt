@@ -6,6 +6,7 @@ use mathlib.Core.Logic.{◌⊎◌, inl, inr}
 use native.Mathlib.Omega.{arith}
 use native.Mathlib.Decide.{dec_lt}
 use lib.IntN.{ℤ}
+use Rattle.std.specs.Prelude.{Option, Some, None}
 use Rattle.numbers.proofs.Bools.{true_false}
 use Rattle.group.specs.declared.Group.{Group}
 use Rattle.group.specs.declared.Refusal.{Refusal}
@@ -13,7 +14,6 @@ use Rattle.group.proofs.RefusalLaws.{no_acceptance}
 use Rattle.ingroup.specs.InGroup.{chosen_in, Held}
 use Rattle.ingroup.proofs.InGroupLaws.{chosen_holds, none_holds}
 use Rattle.region.specs.declared.Spot.{Spot}
-use Rattle.region.specs.declared.Spot.TheVariants.{At, Nothing}
 use Rattle.inforce.specs.declared.Area.{Area}
 use Rattle.inforce.specs.declared.InForce.{InForce}
 use Rattle.inforce.specs.declared.Uncovered.{Uncovered}
@@ -41,9 +41,9 @@ module _ (g : Group) (a : Area) (f : area_fits a ≡ true) where
   bare : (x y : ℤ) → chosen_in g x y ≡ 0 → Held g x y → ⊥
   bare x y c h = none_holds g x y c h.0 h.1 h.2
 
-  answers : (s : Spot) → hole_in g a ≡ s → HoleInArea g a (accepted_hole s)
-  answers (At u v) e =
-      let p = hole_first g a f u v e in
+  answers : (s : Option Spot) → hole_in g a ≡ s → HoleInArea g a (accepted_hole s)
+  answers (Some s) e =
+      let p = hole_first g a f s e in
       record {
         accepted = refl;
         named = λ x y i c. refl;
@@ -53,19 +53,19 @@ module _ (g : Group) (a : Area) (f : area_fits a ≡ true) where
         held = λ t. absurd (true_false refl t);
         zeros = λ t. absurd (true_false refl t);
       }
-  answers Nothing e =
+  answers None e =
       record {
         accepted = refl;
-        named = λ x y i c. let n = hole_found g a f x y i c in absurd (nowhere n.0 n.1 (sym e ∙ n.2));
+        named = λ x y i c. let n = hole_found g a f x y i c in absurd (nowhere n.0 (sym e ∙ n.1));
         placed = λ t. absurd (true_false t refl);
         bare = λ t. absurd (true_false t refl);
         none = λ h. refl;
-        held = λ t x y i. held x y (λ c. let n = hole_found g a f x y i c in nowhere n.0 n.1 (sym e ∙ n.2));
+        held = λ t x y i. held x y (λ c. let n = hole_found g a f x y i c in nowhere n.0 (sym e ∙ n.1));
         zeros = λ t. refl;
       }
     where
-      nowhere : (u v : ℕ) → Nothing ≡ At u v → ⊥
-      nowhere u v q = let z : ◌≡◌ {A = ℕ} 0 1 = cc in omega arith
+      nowhere : (s : Spot) → None ≡ Some s → ⊥
+      nowhere s q = let z : ◌≡◌ {A = ℕ} 0 1 = cc in omega arith
 
 pub order_2 : (g : Group) (a : Area) → Order2 g a
 order_2 g a e f = subst (HoleInArea g a) (sym (hole_answered g a (area_accepted g a e f))) (answers g a f (hole_in g a) refl)

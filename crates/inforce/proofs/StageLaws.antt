@@ -4,6 +4,7 @@ use Prim.Native.Nat.{ℕ}
 use mathlib.Core.Bool.{true, false, not}
 use mathlib.Core.List.{List}
 use borrow.Author.Tests.{not-false}
+use Rattle.std.specs.Prelude.{Option, Some, None}
 use Rattle.group.specs.declared.Group.{Group}
 use Rattle.group.specs.declared.Refusal.{Refusal}
 use Rattle.group.specs.Refusals.{refusal, refuse_if, unless_refused}
@@ -12,7 +13,6 @@ use Rattle.abi.specs.Abi.{group_of_words, numbers_of, MachineGroup}
 use Rattle.judge.specs.Judge.{judged}
 use Rattle.judge.proofs.StoredLaws.{stored_told}
 use Rattle.region.specs.declared.Spot.{Spot}
-use Rattle.region.specs.declared.Spot.TheVariants.{At, Nothing}
 use Rattle.inforce.specs.declared.Area.{Area}
 use Rattle.inforce.specs.Area.{area_fits, area_judged}
 use Rattle.inforce.specs.Flat.{Ready}
@@ -58,9 +58,9 @@ module _ (g : Group) (a : Area) where
   hole_answered e = rw e refl
 
 -- a hole or none, either is accepted
-pub found_accepted : (s : Spot) → (accepted_hole s).verdict ≡ Ok tt
-found_accepted (At x y) = refl
-found_accepted Nothing = refl
+pub found_accepted : (s : Option Spot) → (accepted_hole s).verdict ≡ Ok tt
+found_accepted (Some s) = refl
+found_accepted None = refl
 
 -- what a list or a hole is worked out from is judged
 pub ready_judged : {g : Group} {a : Area} {sides ranks : List ℕ} → Ready g a sides ranks → (judged g ≡ Ok tt) × (area_fits a ≡ true)

@@ -1,5 +1,5 @@
 -- What grids in force and the hole are made from: an accepted group's sides and ranks as flat lists.
-use Rattle.std.specs.Prelude.{ℕ, ◌≤◌, ◌<◌, ◌≡◌, true, List, Result, Ok, ⊤}
+use Rattle.std.specs.Prelude.{ℕ, ◌≤◌, ◌<◌, ◌≡◌, true, List, Option, Result, Ok, ⊤}
 use Rattle.group.specs.declared.Group.{Group}
 use Rattle.group.specs.Numbers.{lon_turn, grids_most, rank_most}
 use Rattle.numbers.specs.Lists.{at}
@@ -49,5 +49,5 @@ unfoldable pub flat_listing : List ℕ → List ℕ → ℕ → Bounds → Listi
 flat_listing sides ranks n a = listing_of (in_force_by (flat_chosen sides ranks n) (by_rank (at ranks) n rank_most) a)
 
 -- the hole
-unfoldable pub flat_hole : List ℕ → List ℕ → ℕ → Bounds → Spot
+unfoldable pub flat_hole : List ℕ → List ℕ → ℕ → Bounds → Option Spot
 flat_hole sides ranks n a = first_taken (flat_chosen sides ranks n) a 0

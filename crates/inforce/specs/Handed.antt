@@ -1,8 +1,7 @@
 -- A list and a point of coverage's, handed back: what inner functions answer, and what they rely on.
-use Rattle.std.specs.Prelude.{ℕ, ◌-◌, ◌^◌, ◌≤◌, ◌<◌, ◌≡◌, List, ◌++◌, map, length, get_or, take, replicate, Ok}
+use Rattle.std.specs.Prelude.{ℕ, ◌-◌, ◌^◌, ◌≤◌, ◌<◌, ◌≡◌, List, ◌++◌, map, length, get_or, take, replicate, Option, Some, Ok}
 use Rattle.group.specs.Numbers.{grids_most}
 use Rattle.region.specs.declared.Spot.{Spot}
-use Rattle.region.specs.declared.Spot.TheVariants.{At}
 use Rattle.coverage.specs.declared.Entry.{Entry}
 use Rattle.coverage.specs.declared.Listing.{Listing}
 use Rattle.coverage.specs.Listing.{no_entry}
@@ -25,5 +24,5 @@ pub record Narrow (l : Listing) : Type 0 where
   pub lat : (i : ℕ) → i < l.count → (get_or l.entries i no_entry).lat < 2 ^ 63
 
 -- a point, if there is one, whose coordinates fit 63 bits
-abbrev pub NarrowSpot : Spot → Type 0
-NarrowSpot s = (x y : ℕ) → s ≡ At x y → (x < 2 ^ 63) × (y < 2 ^ 63)
+abbrev pub NarrowSpot : Option Spot → Type 0
+NarrowSpot found = (s : Spot) → found ≡ Some s → (s.x < 2 ^ 63) × (s.y < 2 ^ 63)

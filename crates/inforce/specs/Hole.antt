@@ -1,10 +1,9 @@
 -- Document 02's order 2: refusals 2 to 5, then 10, as for grids in force, else the first coordinate of the area at which no grid is chosen.
-use Rattle.std.specs.Prelude.{true, false, pos, Result, Ok, Err, ⊤}
+use Rattle.std.specs.Prelude.{true, false, pos, Option, Some, None, Result, Ok, Err, ⊤}
 use Rattle.group.specs.declared.Group.{Group}
 use Rattle.group.specs.declared.Refusal.{Refusal}
 use Rattle.group.specs.Refusals.{unless_refused}
 use Rattle.region.specs.declared.Spot.{Spot}
-use Rattle.region.specs.declared.Spot.TheVariants.{At, Nothing}
 use Rattle.coverage.specs.InForce.{first_taken}
 use Rattle.inforce.specs.declared.Area.{Area}
 use Rattle.inforce.specs.declared.Uncovered.{Uncovered}
@@ -13,7 +12,7 @@ use Rattle.inforce.specs.InForce.{choice_at}
 
 -- the southmost, then westmost of the area's coordinates at which no grid is chosen, for which the choice is 0; coordinates as distances
 -- from the least
-abbrev pub hole_in : Group → Area → Spot
+abbrev pub hole_in : Group → Area → Option Spot
 hole_in g a = first_taken (choice_at g) (area_from_least a) 0
 
 -- none, with zeros
@@ -21,9 +20,9 @@ abbrev pub no_hole : Result ⊤ Refusal → Uncovered
 no_hole v = record { verdict = v; found = false; lon = record { 0 = pos 0 }; lat = record { 0 = pos 0 } }
 
 -- the coordinate that was found, or none
-abbrev pub accepted_hole : Spot → Uncovered
-accepted_hole (At x y) = record { verdict = Ok tt; found = true; lon = record { 0 = lon_at x }; lat = record { 0 = lat_at y } }
-accepted_hole Nothing = no_hole (Ok tt)
+abbrev pub accepted_hole : Option Spot → Uncovered
+accepted_hole (Some s) = record { verdict = Ok tt; found = true; lon = record { 0 = lon_at s.x }; lat = record { 0 = lat_at s.y } }
+accepted_hole None = no_hole (Ok tt)
 
 -- beside a refusal there is none
 abbrev pub refused_hole : Refusal → Uncovered

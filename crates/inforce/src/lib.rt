@@ -254,7 +254,7 @@ pub fn grids_in_force(group: Group, area: Area) -> InForce
 }
 
 // The hole by an accepted group's flat lists, the area and the coordinate as distances.
-fn hole_flat(sides: &[u64], ranks: &[u64], n: usize, a: region::Bounds) -> Spot
+fn hole_flat(sides: &[u64], ranks: &[u64], n: usize, a: region::Bounds) -> Option<Spot>
     requires { FlatSound sides.now ranks.now n × Admitted a }
     ensures { result ≡ flat_hole sides.now ranks.now n a }
 {
@@ -282,18 +282,18 @@ fn no_hole(verdict: Result<(), Refusal>) -> Uncovered
 }
 
 // The coordinate that was found, in mas, or none.
-fn shown_hole(s: Spot) -> Uncovered
+fn shown_hole(s: Option<Spot>) -> Uncovered
     requires { NarrowSpot s }
     ensures { result ≡ accepted_hole s }
 {
     match s {
-        Spot::At(x, y) => Uncovered {
+        Some(spot) => Uncovered {
             verdict: Ok(()),
             found: true,
-            lon: lon_at(x),
-            lat: lat_at(y),
+            lon: lon_at(spot.x),
+            lat: lat_at(spot.y),
         },
-        Spot::Nothing => no_hole(Ok(())),
+        None => no_hole(Ok(())),
     }
 }
 
