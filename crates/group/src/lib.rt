@@ -3,10 +3,11 @@
 
 ghost use Rattle.std.specs.Prelude.{◌≡◌, not, ◌&&◌, ◌||◌, leb, ltb, eqb, pos};
 ghost use Rattle.numbers.specs.First.{every};
-ghost use Rattle.group.specs.Numbers.{name_most};
+ghost use Rattle.numbers.specs.Order.{between};
+ghost use Rattle.group.specs.Numbers.{name_most, nodes_least, nodes_most, lon_edge_fits, lat_edge_fits, day_fits, function_factor_fits};
 ghost use Rattle.group.specs.Blank.{blank_name, blank_function, blank_grid, blank_group};
 ghost use Rattle.group.specs.Limits.{name_byte, byte_fits, name_fits};
-ghost use Rattle.group.specs.Limits.{ramp_numbers_fit, step_numbers_fit, ramp2_numbers_fit, function_fits, ramp_blank, function_blank};
+ghost use Rattle.group.specs.Limits.{spacing_fits, ramp_numbers_fit, step_numbers_fit, ramp2_numbers_fit, function_fits, ramp_blank, function_blank};
 ghost use Rattle.group.specs.Limits.{origin_fits, counts_fit, head_numbers_fit, grid_fits};
 ghost use Rattle.group.specs.Refusals.{in_table};
 
@@ -215,19 +216,14 @@ pub fn in_table(number: u64) -> bool
 pub fn name_byte(b: u8) -> bool
     ensures { result ≡ name_byte b }
 {
-    ((65 <= b) & (b <= 90))
-        | ((97 <= b) & (b <= 122))
-        | ((48 <= b) & (b <= 57))
-        | (b == 95)
-        | (b == 45)
+    matches!(b, b'A'..=b'Z' | b'a'..=b'z' | b'0'..=b'9' | b'_' | b'-')
 }
 
 // Whether byte i of a name of this length is wrong: outside the alphabet within its length, or not 0 behind it.
 fn byte_bad(b: u8, len: usize, i: usize) -> bool
     ensures { result ≡ not ((ltb i len && name_byte b) || (leb len i && eqb b 0)) }
 {
-    let used = name_byte(b);
-    !(((i < len) & used) | ((len <= i) & (b == 0)))
+    !(((i < len) & name_byte(b)) | ((len <= i) & (b == 0)))
 }
 
 // Whether each of a name's 24 bytes is right.
@@ -236,11 +232,8 @@ fn bytes_fit(name: Name) -> bool
 {
     let len = name.len as usize;
     let mut fit = true;
-    let mut i: usize = 0;
-    while i < NAME_MOST {
-        let b = name.bytes[i];
-        fit = fit & !byte_bad(b, len, i);
-        i += 1;
+    for i in 0..NAME_MOST {
+        fit &= !byte_bad(name.bytes[i], len, i);
     }
     fit
 }
@@ -249,8 +242,7 @@ fn bytes_fit(name: Name) -> bool
 pub fn name_fits(name: Name) -> bool
     ensures { result ≡ name_fits name }
 {
-    let bytes = bytes_fit(name);
-    (1 <= name.len) & (name.len <= NAME_MOST as u64) & bytes
+    (1..=NAME_MOST as u64).contains(&name.len) & bytes_fit(name)
 }
 
 // Whether the numbers of a group line are within their limits.
@@ -258,39 +250,47 @@ pub fn head_numbers_fit(quantum: u64, parameters: u64, functions: u64, grids: u6
     ensures { result ≡ head_numbers_fit (pos quantum) (pos parameters) (pos functions) (pos grids) }
 {
     (quantum <= QUANTUM_MOST)
-        & ((1 <= parameters) & (parameters <= PARAMETERS_MOST))
+        & (1..=PARAMETERS_MOST).contains(&parameters)
         & (functions <= FUNCTIONS_MOST as u64)
-        & ((1 <= grids) & (grids <= GRIDS_MOST as u64))
+        & (1..=GRIDS_MOST as u64).contains(&grids)
+}
+
+// Whether a day is within its limits.
+pub fn day_fits(day: i64) -> bool
+    ensures { result ≡ day_fits day }
+{
+    (DAY_LEAST..=DAY_MOST).contains(&day)
+}
+
+// Whether a function's factor is within its limits.
+fn factor_fits(factor: i64) -> bool
+    ensures { result ≡ function_factor_fits factor }
+{
+    (FUNCTION_FACTOR_LEAST..=FUNCTION_FACTOR_MOST).contains(&factor)
 }
 
 // Whether a ramp is within its limits, with a not above b.
 fn ramp_fits(r: Ramp) -> bool
     ensures { result ≡ ramp_numbers_fit r.a r.s0 r.b r.s1 }
 {
-    ((DAY_LEAST <= r.a) & (r.a <= DAY_MOST))
-        & ((FUNCTION_FACTOR_LEAST <= r.s0) & (r.s0 <= FUNCTION_FACTOR_MOST))
-        & ((DAY_LEAST <= r.b) & (r.b <= DAY_MOST))
-        & ((FUNCTION_FACTOR_LEAST <= r.s1) & (r.s1 <= FUNCTION_FACTOR_MOST))
-        & (r.a <= r.b)
+    day_fits(r.a) & factor_fits(r.s0) & day_fits(r.b) & factor_fits(r.s1) & (r.a <= r.b)
 }
 
 // Whether a step is within its limits.
 fn step_fits(s: Step) -> bool
     ensures { result ≡ step_numbers_fit s.event s.reference s.mult }
 {
-    ((DAY_LEAST <= s.event) & (s.event <= DAY_MOST))
-        & ((DAY_LEAST <= s.reference) & (s.reference <= DAY_MOST))
-        & ((FUNCTION_FACTOR_LEAST <= s.mult) & (s.mult <= FUNCTION_FACTOR_MOST))
+    day_fits(s.event) & day_fits(s.reference) & factor_fits(s.mult)
 }
 
 // Whether a ramp2 is within its limits, with start below end.
 fn ramp2_fits(r: Ramp2) -> bool
     ensures { result ≡ ramp2_numbers_fit r.start r.end r.reference r.mult }
 {
-    ((DAY_LEAST <= r.start) & (r.start <= DAY_MOST))
-        & ((DAY_LEAST <= r.end) & (r.end <= DAY_MOST))
-        & ((DAY_LEAST <= r.reference) & (r.reference <= DAY_MOST))
-        & ((FUNCTION_FACTOR_LEAST <= r.mult) & (r.mult <= FUNCTION_FACTOR_MOST))
+    day_fits(r.start)
+        & day_fits(r.end)
+        & day_fits(r.reference)
+        & factor_fits(r.mult)
         & (r.start < r.end)
 }
 
@@ -298,8 +298,7 @@ fn ramp2_fits(r: Ramp2) -> bool
 pub fn function_fits(f: Function) -> bool
     ensures { result ≡ function_fits f }
 {
-    let shape = f.shape;
-    match shape {
+    match f.shape {
         Shape::Ramp(r) => ramp_fits(r),
         Shape::Step(s) => step_fits(s),
         Shape::Ramp2(r) => ramp2_fits(r),
@@ -310,44 +309,60 @@ pub fn function_fits(f: Function) -> bool
 fn ramp_blank(r: Ramp) -> bool
     ensures { result ≡ ramp_blank r }
 {
-    ((0 <= r.a) & (r.a <= 0))
-        & ((0 <= r.s0) & (r.s0 <= 0))
-        & ((0 <= r.b) & (r.b <= 0))
-        & ((0 <= r.s1) & (r.s1 <= 0))
+    (r.a == 0) & (r.s0 == 0) & (r.b == 0) & (r.s1 == 0)
 }
 
 // Whether a function is an unused entry.
 pub fn function_blank(f: Function) -> bool
     ensures { result ≡ function_blank f }
 {
-    let shape = f.shape;
-    match shape {
+    match f.shape {
         Shape::Ramp(r) => ramp_blank(r),
         Shape::Step(_) => false,
         Shape::Ramp2(_) => false,
     }
 }
 
+// Whether the longitude of a grid's edge is within its limits.
+pub fn lon_edge_fits(lon: i64) -> bool
+    ensures { result ≡ lon_edge_fits lon }
+{
+    (LON_EDGE_LEAST..=LON_EDGE_MOST).contains(&lon)
+}
+
+// Whether the latitude of a grid's edge is within its limits.
+pub fn lat_edge_fits(lat: i64) -> bool
+    ensures { result ≡ lat_edge_fits lat }
+{
+    (LAT_EDGE_LEAST..=LAT_EDGE_MOST).contains(&lat)
+}
+
+// Whether a spacing is within its limits, and not 0.
+fn spacing_fits(spacing: i64) -> bool
+    ensures { result ≡ spacing_fits spacing }
+{
+    (SPACING_LEAST..=-1).contains(&spacing) | (1..=SPACING_MOST).contains(&spacing)
+}
+
 // Whether a grid's first node and spacings are within their limits.
 fn origin_fits(g: Grid) -> bool
     ensures { result ≡ origin_fits g.lon.0 g.lat.0 g.dlon g.dlat }
 {
-    ((LON_EDGE_LEAST <= g.lon.0) & (g.lon.0 <= LON_EDGE_MOST))
-        & ((LAT_EDGE_LEAST <= g.lat.0) & (g.lat.0 <= LAT_EDGE_MOST))
-        & (((SPACING_LEAST <= g.dlon) & (g.dlon <= -1))
-            | ((1 <= g.dlon) & (g.dlon <= SPACING_MOST)))
-        & (((SPACING_LEAST <= g.dlat) & (g.dlat <= -1))
-            | ((1 <= g.dlat) & (g.dlat <= SPACING_MOST)))
+    lon_edge_fits(g.lon.0) & lat_edge_fits(g.lat.0) & spacing_fits(g.dlon) & spacing_fits(g.dlat)
+}
+
+// Whether a count of nodes along an axis is within its limits.
+fn nodes_fit(nodes: u64) -> bool
+    ensures { result ≡ between (pos nodes_least) (pos nodes_most) (pos nodes) }
+{
+    (NODES_LEAST..=NODES_MOST).contains(&nodes)
 }
 
 // Whether a grid's node counts, rank and start are within their limits.
 fn counts_fit(g: Grid) -> bool
     ensures { result ≡ counts_fit (pos g.ni) (pos g.nj) (pos g.rank) (pos g.start) }
 {
-    ((NODES_LEAST <= g.ni) & (g.ni <= NODES_MOST))
-        & ((NODES_LEAST <= g.nj) & (g.nj <= NODES_MOST))
-        & ((1 <= g.rank) & (g.rank <= RANK_MOST))
-        & (g.start <= START_MOST)
+    nodes_fit(g.ni) & nodes_fit(g.nj) & (1..=RANK_MOST).contains(&g.rank) & (g.start <= START_MOST)
 }
 
 // Whether a grid's name is well formed and its numbers are within their limits.
@@ -371,14 +386,13 @@ pub fn blank_name() -> Name
 pub fn blank_function() -> Function
     ensures { result ≡ blank_function }
 {
-    let ramp = Ramp {
-        a: 0,
-        s0: 0,
-        b: 0,
-        s1: 0,
-    };
     Function {
-        shape: Shape::Ramp(ramp),
+        shape: Shape::Ramp(Ramp {
+            a: 0,
+            s0: 0,
+            b: 0,
+            s1: 0,
+        }),
     }
 }
 
@@ -386,9 +400,8 @@ pub fn blank_function() -> Function
 pub fn blank_grid() -> Grid
     ensures { result ≡ blank_grid }
 {
-    let n = blank_name();
     Grid {
-        name: n,
+        name: blank_name(),
         lon: Longitude(0),
         lat: Latitude(0),
         dlon: 0,
@@ -404,19 +417,14 @@ pub fn blank_grid() -> Grid
 pub fn blank_group() -> Group
     ensures { result ≡ blank_group }
 {
-    let n = blank_name();
-    let g = blank_grid();
-    let r = blank_function();
-    let rs = [r; FUNCTIONS_MOST];
-    let gs = [g; GRIDS_MOST];
     Group {
-        name: n,
+        name: blank_name(),
         unit: Unit::ArcSecond,
         quantum: 0,
         parameters: 0,
         functions: 0,
         grids: 0,
-        function: rs,
-        grid: gs,
+        function: [blank_function(); FUNCTIONS_MOST],
+        grid: [blank_grid(); GRIDS_MOST],
     }
 }

@@ -1,7 +1,8 @@
 -- `name_fits` meets its contract.
+use borrow.Author.Rules.{rules}
 use Rattle.group.specs.Limits.{name_fits}
 use Rattle.group.proofs.name_fits.Goals as goal
 
 pub returns : goal.returns
 unfolding name_fits
-returns c = rw c.bytes_fit-bytes.ensures
+returns c = search rules
