@@ -219,11 +219,11 @@ pub fn name_byte(b: u8) -> bool
     matches!(b, b'A'..=b'Z' | b'a'..=b'z' | b'0'..=b'9' | b'_' | b'-')
 }
 
-// Whether byte i of a name of this length is wrong: outside the alphabet within its length, or not 0 behind it.
-fn byte_bad(b: u8, len: usize, i: usize) -> bool
-    ensures { result ≡ not ((ltb i len && name_byte b) || (leb len i && eqb b 0)) }
+// Whether byte i of a name of this length is right: of the alphabet within its length, and 0 behind it.
+fn byte_fits(b: u8, len: usize, i: usize) -> bool
+    ensures { result ≡ (ltb i len && name_byte b) || (leb len i && eqb b 0) }
 {
-    !(((i < len) & name_byte(b)) | ((len <= i) & (b == 0)))
+    if i < len { name_byte(b) } else { b == 0 }
 }
 
 // Whether each of a name's 24 bytes is right.
@@ -231,11 +231,10 @@ fn bytes_fit(name: Name) -> bool
     ensures { result ≡ every (byte_fits name) name_most }
 {
     let len = name.len as usize;
-    let mut fit = true;
-    for i in 0..NAME_MOST {
-        fit &= !byte_bad(name.bytes[i], len, i);
-    }
-    fit
+    name.bytes
+        .iter()
+        .enumerate()
+        .all(|(i, b)| byte_fits(*b, len, i))
 }
 
 // Whether a name is well formed.
