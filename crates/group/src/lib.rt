@@ -1,4 +1,5 @@
 // The group record of document 01 and the limits of its lines, refusal 2.
+// Tests of numbers are joined by `&`: each is cheap, and none needs a branch.
 #![tactic(auto)]
 
 ghost use Rattle.std.specs.Prelude.{◌≡◌, not, ◌&&◌, ◌||◌, leb, ltb, eqb, pos};
