@@ -1,6 +1,6 @@
--- A list that a loop fills value by value, and runs of stores one behind the other.
+-- The list of a function's first values, as calls of a closure or a loop give it, and runs of stores one behind the other.
 use Prim.Native.Nat.{ℕ, zero, suc, ◌+◌, ◌*◌, ◌≤◌, ◌<◌}
-use mathlib.Core.Path.{◌≡◌, refl, sym, ap, ◌∙◌}
+use mathlib.Core.Path.{◌≡◌, refl, sym, ap, ◌∙◌, subst}
 use mathlib.Core.List.{List, [], ◌∷◌, ◌++◌, append-nil}
 use mathlib.Core.Logic.{⊎_elim}
 use native.Mathlib.Numerals.{add-one}
@@ -9,6 +9,8 @@ use native.Mathlib.Omega.{arith}
 use borrow.Author.Count.{below_more, below_none}
 use lib.ListN.{length, get_or, set, take, length-append, length-set, drop_of_length-le, get_or-append}
 use lib.Seq.{ext_get_or, get_or-set_same, get_or-set_other, get_or-append-add, take-suc, length-take-le, sets, length-sets, sets-eq}
+use Rattle.std.specs.Array.{IsFromFnResult, IsFromFnResultFrom}
+use denote.Param.Members.{Mut, Called}
 use Rattle.abi.specs.Abi.{list_of, joined}
 
 module _ {A : Type 0} where
@@ -148,3 +150,21 @@ module _ {A : Type 0} where
   get_or_three a b c d f p q r (suc zero) l = sym q
   get_or_three a b c d f p q r (suc (suc zero)) l = sym r
   get_or_three a b c d f p q r (suc (suc (suc k))) l = absurd (omega arith)
+
+-- the list that calls of a closure give at 0, 1 and so on, where each call gives f's value and leaves the closure as it is
+module _ {F B : Type 0} (g : Mut F (ℕ × Unit {0}) B) (s : F) (f : ℕ → B) (call : (i : ℕ) (y : B) (t : F) → Called g s (i, tt) y t → (y ≡ f i) × (t ≡ s)) where
+  called_values : (ys : List B) (i n : ℕ) → IsFromFnResultFrom g s ys i n → (k : ℕ) (d : B) → k < n → get_or ys (i + k) d ≡ f (i + k)
+  called_values ys i zero r k d l = absurd (omega arith)
+  called_values ys i (suc n) r zero d l =
+      let e : i + 0 ≡ i = omega arith in
+      ap (λ (j : ℕ). get_or ys j d) e ∙ r.2.1 d ∙ (call i r.1 r.0 r.3).0 ∙ sym (ap f e)
+  called_values ys i (suc n) r (suc k) d l =
+      let e : i + suc k ≡ i + 1 + k = omega arith in
+      let rest = subst (λ (t : F). IsFromFnResultFrom g t ys (i + 1) n) (call i r.1 r.0 r.3).1 r.4 in
+      ap (λ (j : ℕ). get_or ys j d) e ∙ called_values ys (i + 1) n rest k d (omega arith) ∙ sym (ap f e)
+
+  pub called_list : (ys : List B) (n : ℕ) → IsFromFnResult g s ys n → (d : B) → ys ≡ list_of f n
+  called_list ys n r d =
+      sym
+      (list_of_is f d n ys r.long
+      (λ k l. let e : 0 + k ≡ k = omega arith in sym (ap (λ (j : ℕ). get_or ys j d) (sym e) ∙ called_values ys 0 n r.each k d l ∙ ap f e)))

@@ -74,10 +74,8 @@ const RANK: usize = GRIDS_FROM + 10;
 
 const START: usize = GRIDS_FROM + 11;
 
-// The greatest signed number, and the number above it.
-const SIGNED_MOST: i64 = 9223372036854775807;
-
-const ABOVE: u64 = SIGNED_MOST as u64 + 1;
+// The greatest signed number.
+const SIGNED_MOST: i64 = i64::MAX;
 
 // Number k of a group's numbers.
 fn number_at(numbers: &[i64; GROUP_WORDS], k: usize) -> i64
@@ -107,13 +105,7 @@ fn byte_of(word: u64, j: u64) -> u8
 fn bytes_of(words: [u64; NAME_WORDS]) -> [u8; NAME_MOST]
     ensures { result ≡ list_of (λ j. byte_of (get_or words (j / 8) 0) (j % 8)) name_most }
 {
-    let mut bytes = [0u8; NAME_MOST];
-    let mut i = 0;
-    while i < NAME_MOST {
-        bytes[i] = byte_of(words[i / 8], (i % 8) as u64);
-        i += 1;
-    }
-    bytes
+    std::array::from_fn(|i| byte_of(words[i / 8], (i % 8) as u64))
 }
 
 // The name of a length whose bytes stand in three numbers from place k on.
@@ -126,20 +118,14 @@ fn name_of_words(numbers: &[i64; GROUP_WORDS], k: usize, len: u64) -> Name
         count_at(numbers, k + 1),
         count_at(numbers, k + 2),
     ]);
-    Name {
-        bytes: bytes,
-        len: len,
-    }
+    Name { bytes, len }
 }
 
 // The unit of a number: 0 is arc-second, 1 is metre.
 fn unit_of(x: i64) -> Unit
     ensures { result ≡ unit_of x }
 {
-    if (0 <= x) & (x <= 0) {
-        return Unit::ArcSecond;
-    }
-    Unit::Metre
+    if x == 0 { Unit::ArcSecond } else { Unit::Metre }
 }
 
 // Q, beyond its limit if the unit is neither 0 nor 1.
@@ -147,10 +133,11 @@ pub fn quantum_of(numbers: &[i64; GROUP_WORDS]) -> u64
     ensures { result ≡ (group_of_words numbers.now).quantum }
 {
     let u = number_at(numbers, UNIT_INDEX);
-    if (0 <= u) & (u <= 1) {
-        return count_at(numbers, QUANTUM_INDEX);
+    if (0..=1).contains(&u) {
+        count_at(numbers, QUANTUM_INDEX)
+    } else {
+        numbers::BEYOND
     }
-    numbers::BEYOND
 }
 
 // The name of a group's numbers.
@@ -185,43 +172,32 @@ pub fn grid_count(numbers: &[i64; GROUP_WORDS]) -> u64
 pub fn function_of(kind: i64, a: i64, b: i64, c: i64, d: i64) -> Function
     ensures { result ≡ function_of kind a b c d }
 {
-    if (0 <= kind) & (kind <= 0) {
-        return Function {
-            shape: Shape::Ramp(Ramp {
-                a: a,
-                s0: b,
-                b: c,
-                s1: d,
-            }),
-        };
-    }
-    if ((1 <= kind) & (kind <= 1)) & ((0 <= d) & (d <= 0)) {
-        return Function {
-            shape: Shape::Step(Step {
-                event: a,
-                reference: b,
-                mult: c,
-            }),
-        };
-    }
-    if (2 <= kind) & (kind <= 2) {
-        return Function {
-            shape: Shape::Ramp2(Ramp2 {
-                start: a,
-                end: b,
-                reference: c,
-                mult: d,
-            }),
-        };
-    }
-    Function {
-        shape: Shape::Ramp(Ramp {
+    let shape = match kind {
+        0 => Shape::Ramp(Ramp {
+            a,
+            s0: b,
+            b: c,
+            s1: d,
+        }),
+        1 if d == 0 => Shape::Step(Step {
+            event: a,
+            reference: b,
+            mult: c,
+        }),
+        2 => Shape::Ramp2(Ramp2 {
+            start: a,
+            end: b,
+            reference: c,
+            mult: d,
+        }),
+        _ => Shape::Ramp(Ramp {
             a: SIGNED_MOST,
             s0: 0,
             b: 0,
             s1: 0,
         }),
-    }
+    };
+    Function { shape }
 }
 
 // Function k of a group's numbers.
@@ -249,7 +225,7 @@ pub fn grid_of_words(numbers: &[i64; GROUP_WORDS], k: usize) -> Grid
         count_at(numbers, k * GRID_WORDS + GRID_LENGTH),
     );
     Grid {
-        name: name,
+        name,
         lon: Longitude(number_at(numbers, k * GRID_WORDS + LON)),
         lat: Latitude(number_at(numbers, k * GRID_WORDS + LAT)),
         dlon: number_at(numbers, k * GRID_WORDS + DLON),
@@ -283,11 +259,7 @@ fn four_clear(numbers: &[i64; GROUP_WORDS], k: usize) -> bool
     requires { k + 3 < group_words }
     ensures { FourTold numbers.now k result }
 {
-    let a = numbers[k];
-    let b = numbers[k + 1];
-    let c = numbers[k + 2];
-    let d = numbers[k + 3];
-    ((0 <= a) & (a <= 0)) & ((0 <= b) & (b <= 0)) & ((0 <= c) & (c <= 0)) & ((0 <= d) & (d <= 0))
+    (numbers[k] == 0) & (numbers[k + 1] == 0) & (numbers[k + 2] == 0) & (numbers[k + 3] == 0)
 }
 
 // Whether grid k is unused: its twelve numbers are all 0.
@@ -304,48 +276,29 @@ pub fn grid_clear(numbers: &[i64; GROUP_WORDS], k: usize) -> bool
 fn functions_of(numbers: &[i64; GROUP_WORDS]) -> [Function; FUNCTIONS_MOST]
     ensures { result ≡ list_of (function_of_words numbers.now) functions_most }
 {
-    let blank = group::blank_function();
-    let mut functions = [blank; FUNCTIONS_MOST];
-    let mut i = 0;
-    while i < FUNCTIONS_MOST {
-        let function = function_of_words(numbers, i);
-        functions[i] = function;
-        i += 1;
-    }
-    functions
+    std::array::from_fn(|k| function_of_words(numbers, k))
 }
 
 // The grids of a group's numbers.
 fn grids_of(numbers: &[i64; GROUP_WORDS]) -> [Grid; GRIDS_MOST]
     ensures { result ≡ list_of (grid_of_words numbers.now) grids_most }
 {
-    let blank = group::blank_grid();
-    let mut grids = [blank; GRIDS_MOST];
-    let mut i = 0;
-    while i < GRIDS_MOST {
-        let grid = grid_of_words(numbers, i);
-        grids[i] = grid;
-        i += 1;
-    }
-    grids
+    std::array::from_fn(|k| grid_of_words(numbers, k))
 }
 
 // The group that a list of numbers stands for.
 pub fn group_of_words(numbers: &[i64; GROUP_WORDS]) -> Group
     ensures { result ≡ group_of_words numbers.now }
 {
-    let name = name_of(numbers);
-    let function = functions_of(numbers);
-    let grid = grids_of(numbers);
     Group {
-        name: name,
+        name: name_of(numbers),
         unit: unit_of(number_at(numbers, UNIT_INDEX)),
         quantum: quantum_of(numbers),
         parameters: parameter_count(numbers),
         functions: function_count(numbers),
         grids: grid_count(numbers),
-        function: function,
-        grid: grid,
+        function: functions_of(numbers),
+        grid: grids_of(numbers),
     }
 }
 
@@ -353,10 +306,7 @@ pub fn group_of_words(numbers: &[i64; GROUP_WORDS]) -> Group
 pub fn as_stored(n: u64) -> i64
     ensures { result ≡ stored n }
 {
-    if n < ABOVE {
-        return n as i64;
-    }
-    SIGNED_MOST
+    n.min(SIGNED_MOST as u64) as i64
 }
 
 // Stores numbers from place k on.
@@ -364,21 +314,14 @@ pub fn store_numbers(out: &mut [i64], k: usize, numbers: &[i64])
     requires { k + length numbers.now ≤ length out.old }
     ensures { out.new ≡ sets out.old k numbers.now }
 {
-    let mut i = 0;
-    while i < numbers.len() {
-        out[k + i] = numbers[i];
-        i += 1;
-    }
+    out[k..k + numbers.len()].copy_from_slice(numbers);
 }
 
 // Four bytes as one number, the first lowest.
 fn four(a: u8, b: u8, c: u8, d: u8) -> u64
     ensures { (result ≡ four_of a b c d) × (result < 4294967296) }
 {
-    numbers::wide(a)
-        + numbers::wide(b) * 256
-        + numbers::wide(c) * 65536
-        + numbers::wide(d) * 16777216
+    u64::from(a) + u64::from(b) * 256 + u64::from(c) * 65536 + u64::from(d) * 16777216
 }
 
 // Number w of the three that hold the bytes of a name.
@@ -416,14 +359,12 @@ fn unit_number(unit: Unit) -> i64
 fn head_numbers(group: Group) -> [i64; HEAD_WORDS]
     ensures { result ≡ head_numbers group }
 {
-    let unit = group.unit;
-    let name = group.name;
     [
-        name_number(name, 0),
-        name_number(name, 1),
-        name_number(name, 2),
+        name_number(group.name, 0),
+        name_number(group.name, 1),
+        name_number(group.name, 2),
         as_stored(group.name.len),
-        unit_number(unit),
+        unit_number(group.unit),
         as_stored(group.quantum),
         as_stored(group.parameters),
         as_stored(group.functions),
@@ -435,11 +376,10 @@ fn head_numbers(group: Group) -> [i64; HEAD_WORDS]
 fn grid_numbers(g: Grid) -> [i64; GRID_WORDS]
     ensures { result ≡ grid_numbers g }
 {
-    let name = g.name;
     [
-        name_number(name, 0),
-        name_number(name, 1),
-        name_number(name, 2),
+        name_number(g.name, 0),
+        name_number(g.name, 1),
+        name_number(g.name, 2),
         as_stored(g.name.len),
         g.lon.0,
         g.lat.0,
@@ -456,8 +396,7 @@ fn grid_numbers(g: Grid) -> [i64; GRID_WORDS]
 fn function_numbers(f: Function) -> [i64; FUNCTION_WORDS]
     ensures { result ≡ function_numbers f }
 {
-    let shape = f.shape;
-    match shape {
+    match f.shape {
         Shape::Ramp(r) => [0, r.a, r.s0, r.b, r.s1],
         Shape::Step(s) => [1, s.event, s.reference, s.mult, 0],
         Shape::Ramp2(r) => [2, r.start, r.end, r.reference, r.mult],
@@ -469,12 +408,8 @@ fn store_functions(out: &mut [i64], functions: [Function; FUNCTIONS_MOST])
     requires { grids_from ≤ length out.old }
     ensures { out.new ≡ sets out.old head_words (joined (λ k. function_numbers (get_or functions k blank_function)) functions_most) }
 {
-    let mut i = 0;
-    while i < FUNCTIONS_MOST {
-        let f = functions[i];
-        let numbers = function_numbers(f);
-        store_numbers(out, i * FUNCTION_WORDS + HEAD_WORDS, &numbers);
-        i += 1;
+    for (i, f) in functions.iter().enumerate() {
+        store_numbers(out, i * FUNCTION_WORDS + HEAD_WORDS, &function_numbers(*f));
     }
 }
 
@@ -483,12 +418,8 @@ fn store_grids(out: &mut [i64], grids: [Grid; GRIDS_MOST])
     requires { group_words ≤ length out.old }
     ensures { out.new ≡ sets out.old grids_from (joined (λ k. grid_numbers (get_or grids k no_grid)) grids_most) }
 {
-    let mut i = 0;
-    while i < GRIDS_MOST {
-        let g = grids[i];
-        let numbers = grid_numbers(g);
-        store_numbers(out, i * GRID_WORDS + GRIDS_FROM, &numbers);
-        i += 1;
+    for (i, g) in grids.iter().enumerate() {
+        store_numbers(out, i * GRID_WORDS + GRIDS_FROM, &grid_numbers(*g));
     }
 }
 
@@ -497,12 +428,9 @@ fn store_group(out: &mut [i64], group: Group)
     requires { group_words ≤ length out.old }
     ensures { out.new ≡ sets out.old 0 (numbers_of group) }
 {
-    let head = head_numbers(group);
-    let functions = group.function;
-    let grids = group.grid;
-    store_numbers(out, 0, &head);
-    store_functions(out, functions);
-    store_grids(out, grids);
+    store_numbers(out, 0, &head_numbers(group));
+    store_functions(out, group.function);
+    store_grids(out, group.grid);
 }
 
 // The numbers of a group.

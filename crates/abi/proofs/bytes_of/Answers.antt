@@ -1,14 +1,12 @@
 -- `bytes_of` meets its contract.
-use mathlib.Core.Path.{refl}
+use Prim.Native.Nat.{ℕ, ◌/◌, ◌%◌}
+use lib.ListN.{get_or}
+use borrow.Author.Rules.{rules}
 use Rattle.group.specs.Numbers.{name_most}
-use Rattle.abi.proofs.ListLaws.{filled_none, filled_more, filled_all}
+use Rattle.abi.specs.Abi.{byte_of}
+use Rattle.abi.proofs.ListLaws.{called_list}
 use Rattle.abi.proofs.bytes_of.Goals as goal
 
-pub loop-i-init : goal.loop-i-init
-loop-i-init c = filled_none _ 0 name_most _ refl
-
-pub loop-i-preserved : goal.loop-i-preserved
-loop-i-preserved c = filled_more _ 0 name_most _ _ _ c.loop-i.invariant c.loop-i-test.true c.byte_of.ensures
-
 pub returns : goal.returns
-returns c = filled_all _ 0 name_most _ _ c.loop-i.invariant c.loop-i-test.false
+returns c =
+    called_list _ _ (λ (j : ℕ). byte_of (get_or c.args.words (j / 8) 0) (j % 8)) (λ k y t h. search rules) c.from_fn.result name_most c.from_fn.ensures.items 0

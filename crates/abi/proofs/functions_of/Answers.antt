@@ -1,19 +1,10 @@
 -- `functions_of` meets its contract.
-use mathlib.Core.Path.{refl}
+use borrow.Author.Rules.{rules}
 use Rattle.group.specs.Numbers.{functions_most}
 use Rattle.group.specs.Blank.{blank_function}
 use Rattle.abi.specs.Abi.{function_of_words}
-use Rattle.abi.proofs.ListLaws.{filled_none, filled_more, filled_all}
+use Rattle.abi.proofs.ListLaws.{called_list}
 use Rattle.abi.proofs.functions_of.Goals as goal
 
-pub loop-i-init : goal.loop-i-init
-loop-i-init c = filled_none _ blank_function functions_most _ refl
-
-pub loop-i-preserved : goal.loop-i-preserved
-loop-i-preserved c =
-    filled_more _ blank_function functions_most _ _ _ c.loop-i.invariant c.loop-i-test.true c.function_of_words-function.ensures
-
 pub returns : goal.returns
-returns c =
-    let s = c.args in
-    filled_all (function_of_words s.numbers.now) blank_function functions_most _ _ c.loop-i.invariant c.loop-i-test.false
+returns c = called_list _ _ (function_of_words c.args.numbers.now) (λ k y t h. search rules) c.from_fn.result functions_most c.from_fn.ensures.items blank_function

@@ -6,6 +6,5 @@ use Rattle.abi.proofs.grid_clear.Goals as goal
 
 pub returns : goal.returns
 returns c =
-    let s = c.args in
     let x = c.four_clear in let y = c.four_clear-2 in let z = c.four_clear-3 in
-    (λ i. x.ensures.clear i && y.ensures.clear i && z.ensures.clear i) ∙ clear_blank s.numbers.now s.k x.ensures.sizes
+    (λ i. x.ensures.clear i && y.ensures.clear i && z.ensures.clear i) ∙ clear_blank c.args.numbers.now c.args.k x.ensures.sizes

@@ -11,7 +11,7 @@ use Rattle.abi.proofs.grid_name_byte.Goals as goal
 pub returns : goal.returns
 unfolding name_of_words grid_of_words
 returns c =
-    let s = c in let ns = c.args.numbers.now in let k = c.args.k in let i = c.args.i in
+    let ns = c.args.numbers.now in let k = c.args.k in let i = c.args.i in
     let at : k * grid_words + grids_from + i / 8 ≡ grid_index k 0 + i / 8 = omega arith in
     c.byte_of.ensures
     ∙ ap (λ (w : ℕ). byte_of w (i % 8)) (c.count_at.ensures ∙ ap (count_at ns) at)

@@ -7,10 +7,10 @@ use Rattle.abi.proofs.group_of_words.Goals as goal
 pub returns : goal.returns
 unfolding group_of_words
 returns c =
-    let name = c.name_of-name.ensures in
+    let name = c.name_of.ensures in
     let unit = c.unit_of.ensures ∙ ap unit_of (told c.number_at.type_inv c.number_at.ensures) in
-    let function = c.functions_of-function.ensures in
-    let grid = c.grids_of-grid.ensures in
+    let function = c.functions_of.ensures in
+    let grid = c.grids_of.ensures in
     let quantum = c.quantum_of.ensures in
     let parameters = c.parameter_count.ensures in
     let functions = c.function_count.ensures in

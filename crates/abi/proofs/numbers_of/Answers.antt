@@ -6,5 +6,4 @@ use Rattle.abi.proofs.numbers_of.Goals as goal
 
 pub returns : goal.returns
 returns c =
-    let g = c.args.group in
-    c.store_group.ensures ∙ sets_whole _ _ (sym (numbers_length g))
+    c.store_group.ensures ∙ sets_whole _ _ (sym (numbers_length c.args.group))

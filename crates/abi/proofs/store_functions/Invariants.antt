@@ -1,5 +1,4 @@
 -- `store_functions` meets its contract.
-use Prim.Native.Nat.{◌-◌}
 use lib.ListN.{get_or}
 use Rattle.group.specs.Numbers.{functions_most}
 use Rattle.abi.specs.Words.{head_words}
@@ -9,7 +8,4 @@ use Rattle.abi.proofs.ListLaws.{Run}
 use Rattle.abi.proofs.store_functions.Given as goal
 
 abbrev pub invariant-loop-i : goal.invariant-loop-i
-invariant-loop-i l = Run (λ k. function_numbers (get_or l.functions k blank_function)) functions_most l.initial.out head_words l.i l.out
-
-abbrev pub decreases-loop-i : goal.decreases-loop-i
-decreases-loop-i l = functions_most - l.i
+invariant-loop-i l = Run (λ k. function_numbers (get_or l.f-items k blank_function)) functions_most l.initial.out head_words l.i l.out

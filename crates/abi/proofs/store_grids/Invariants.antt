@@ -1,5 +1,4 @@
 -- `store_grids` meets its contract.
-use Prim.Native.Nat.{◌-◌}
 use lib.ListN.{get_or}
 use Rattle.group.specs.Numbers.{grids_most}
 use Rattle.abi.specs.Words.{grids_from}
@@ -9,7 +8,4 @@ use Rattle.abi.proofs.ListLaws.{Run}
 use Rattle.abi.proofs.store_grids.Given as goal
 
 abbrev pub invariant-loop-i : goal.invariant-loop-i
-invariant-loop-i l = Run (λ k. grid_numbers (get_or l.grids k no_grid)) grids_most l.initial.out grids_from l.i l.out
-
-abbrev pub decreases-loop-i : goal.decreases-loop-i
-decreases-loop-i l = grids_most - l.i
+invariant-loop-i l = Run (λ k. grid_numbers (get_or l.g-items k no_grid)) grids_most l.initial.out grids_from l.i l.out

@@ -4,5 +4,4 @@ use Rattle.abi.proofs.store_group.Goals as goal
 
 pub returns : goal.returns
 returns c =
-    let s = c.args in
-    numbers_stored s.group _ _ _ _ _ c.head_numbers-head.ensures c.store_numbers.ensures c.store_functions.ensures c.store_grids.ensures
+    numbers_stored c.args.group _ _ _ _ _ c.head_numbers.ensures c.store_numbers.ensures c.store_functions.ensures c.store_grids.ensures
