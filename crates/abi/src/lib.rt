@@ -129,6 +129,7 @@ fn unit_of(x: i64) -> Unit
 }
 
 // Q, beyond its limit if the unit is neither 0 nor 1.
+#[tactic(auto, unfolding(crate::specs::Abi::group_of_words))]
 pub fn quantum_of(numbers: &[i64; GROUP_WORDS]) -> u64
     ensures { result ≡ (group_of_words numbers.now).quantum }
 {
@@ -169,6 +170,7 @@ pub fn grid_count(numbers: &[i64; GROUP_WORDS]) -> u64
 }
 
 // The function of a kind and four numbers; if they are of no kind, one that is neither within its limits nor unused.
+#[tactic(auto, unfolding(crate::specs::Abi::function_of))]
 pub fn function_of(kind: i64, a: i64, b: i64, c: i64, d: i64) -> Function
     ensures { result ≡ function_of kind a b c d }
 {
@@ -402,6 +404,8 @@ fn function_numbers(f: Function) -> [i64; FUNCTION_WORDS]
         Shape::Ramp2(r) => [2, r.start, r.end, r.reference, r.mult],
     }
 }
+
+// Functions and grids are stored by twins: a loop of one line each, and a generic one's contract would have to speak of what its closure gives.
 
 // Stores the numbers of all functions.
 fn store_functions(out: &mut [i64], functions: [Function; FUNCTIONS_MOST])
