@@ -142,6 +142,7 @@ pub fn quantum_of(numbers: &[i64; GROUP_WORDS]) -> u64
 }
 
 // The name of a group's numbers.
+#[tactic(auto, unfolding(crate::specs::Abi::group_of_words))]
 pub fn name_of(numbers: &[i64; GROUP_WORDS]) -> Name
     ensures { result ≡ (group_of_words numbers.now).name }
 {
@@ -149,6 +150,7 @@ pub fn name_of(numbers: &[i64; GROUP_WORDS]) -> Name
 }
 
 // Its count of parameters.
+#[tactic(auto, unfolding(crate::specs::Abi::group_of_words))]
 pub fn parameter_count(numbers: &[i64; GROUP_WORDS]) -> u64
     ensures { result ≡ (group_of_words numbers.now).parameters }
 {
@@ -156,6 +158,7 @@ pub fn parameter_count(numbers: &[i64; GROUP_WORDS]) -> u64
 }
 
 // Its count of functions.
+#[tactic(auto, unfolding(crate::specs::Abi::group_of_words))]
 pub fn function_count(numbers: &[i64; GROUP_WORDS]) -> u64
     ensures { result ≡ (group_of_words numbers.now).functions }
 {
@@ -163,6 +166,7 @@ pub fn function_count(numbers: &[i64; GROUP_WORDS]) -> u64
 }
 
 // Its count of grids.
+#[tactic(auto, unfolding(crate::specs::Abi::group_of_words))]
 pub fn grid_count(numbers: &[i64; GROUP_WORDS]) -> u64
     ensures { result ≡ (group_of_words numbers.now).grids }
 {
@@ -203,6 +207,7 @@ pub fn function_of(kind: i64, a: i64, b: i64, c: i64, d: i64) -> Function
 }
 
 // Function k of a group's numbers.
+#[tactic(auto, unfolding(crate::specs::Abi::function_of_words))]
 pub fn function_of_words(numbers: &[i64; GROUP_WORDS], k: usize) -> Function
     requires { k < functions_most }
     ensures { result ≡ function_of_words numbers.now k }
@@ -217,6 +222,7 @@ pub fn function_of_words(numbers: &[i64; GROUP_WORDS], k: usize) -> Function
 }
 
 // Grid k of a group's numbers.
+#[tactic(auto, unfolding(crate::specs::Abi::grid_of_words))]
 pub fn grid_of_words(numbers: &[i64; GROUP_WORDS], k: usize) -> Grid
     requires { k < grids_most }
     ensures { result ≡ grid_of_words numbers.now k }
@@ -240,6 +246,7 @@ pub fn grid_of_words(numbers: &[i64; GROUP_WORDS], k: usize) -> Grid
 }
 
 // The length of grid k's name.
+#[tactic(auto, unfolding(crate::specs::Abi::name_of_words, crate::specs::Abi::grid_of_words))]
 pub fn grid_name_length(numbers: &[i64; GROUP_WORDS], k: usize) -> u64
     requires { k < grids_most }
     ensures { result ≡ (grid_of_words numbers.now k).name.len }
@@ -289,6 +296,7 @@ fn grids_of(numbers: &[i64; GROUP_WORDS]) -> [Grid; GRIDS_MOST]
 }
 
 // The group that a list of numbers stands for.
+#[tactic(auto, unfolding(crate::specs::Abi::group_of_words))]
 pub fn group_of_words(numbers: &[i64; GROUP_WORDS]) -> Group
     ensures { result ≡ group_of_words numbers.now }
 {
@@ -327,6 +335,7 @@ fn four(a: u8, b: u8, c: u8, d: u8) -> u64
 }
 
 // Number w of the three that hold the bytes of a name.
+#[tactic(auto, unfolding(crate::specs::Abi::word_of))]
 fn name_number(name: Name, w: usize) -> i64
     requires { w < name_words }
     ensures { result ≡ name_number name w }
