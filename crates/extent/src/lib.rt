@@ -47,6 +47,8 @@ pub struct Sides {
     pub north: u64,
 }
 
+// What follows of longitudes and of latitudes differs in types and fields alone, which keep the one from the other: no generic form is plainer.
+
 // A grid's nodes along a parallel.
 fn lon_axis(g: Grid) -> Axis
     ensures { result ≡ lon_axis g }
@@ -79,20 +81,20 @@ fn far_edge(a: Axis) -> i64
 }
 
 // From the least to the greatest node.
+#[tactic(auto, unfolding(crate::specs::Extent::span_of))]
 fn span_of(a: Axis) -> Span
     requires { Reach a }
     ensures { result ≡ span_of a }
 {
     let far = far_edge(a);
-    let at = a.at;
-    if at <= far {
-        Span { low: at, high: far }
-    } else {
-        Span { low: far, high: at }
+    Span {
+        low: a.at.min(far),
+        high: a.at.max(far),
     }
 }
 
 // A grid's longitudes.
+#[tactic(auto, unfolding(crate::specs::Extent::lon_span))]
 fn lon_span(g: Grid) -> LonSpan
     requires { Reach (lon_axis g) }
     ensures { result ≡ lon_span g }
@@ -105,6 +107,7 @@ fn lon_span(g: Grid) -> LonSpan
 }
 
 // A grid's latitudes.
+#[tactic(auto, unfolding(crate::specs::Extent::lat_span))]
 fn lat_span(g: Grid) -> LatSpan
     requires { Reach (lat_axis g) }
     ensures { result ≡ lat_span g }
@@ -129,10 +132,11 @@ fn width(ni: u64, dlon: i64) -> u64
     requires { (nodes_least ≤ ni) × (ni ≤ nodes_most) × (nat_abs dlon ≤ spacing_most) }
     ensures { result ≡ (ni - 1) * nat_abs dlon }
 {
-    (ni - 1) * numbers::magnitude(dlon)
+    (ni - 1) * dlon.unsigned_abs()
 }
 
 // Whether a grid's far edges are within the limits, its width within a turn and its node range within the longest list.
+#[tactic(auto, unfolding(crate::specs::Extent::inside))]
 pub fn grid_inside(g: Grid, np: u64) -> bool
     requires { (np ≤ parameters_most) × Sized g }
     ensures { result ≡ inside np g }
@@ -141,8 +145,8 @@ pub fn grid_inside(g: Grid, np: u64) -> bool
     let y = far_edge(lat_axis(g));
     let wide = width(g.ni, g.dlon);
     let end = node_end(g.start, g.ni, g.nj, np);
-    ((group::LON_EDGE_LEAST <= x) & (x <= group::LON_EDGE_MOST))
-        & ((group::LAT_EDGE_LEAST <= y) & (y <= group::LAT_EDGE_MOST))
+    group::lon_edge_fits(x)
+        & group::lat_edge_fits(y)
         & (wide <= group::LON_TURN)
         & (end <= group::LIST_MOST)
 }
@@ -162,6 +166,7 @@ pub fn lat_from_least(l: Latitude) -> u64
 }
 
 // A grid's sides.
+#[tactic(auto, unfolding(crate::specs::Sides::sides_of))]
 pub fn sides_of(g: Grid) -> Sides
     requires { Sized g }
     ensures { result ≡ sides_of g }

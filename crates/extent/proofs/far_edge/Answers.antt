@@ -52,16 +52,13 @@ module _ (a : Axis) (r : Reach a) where
 
 pub overflow_mul-result : goal.overflow_mul-result
 overflow_mul-result c =
-    let s = c in
     subst (SFits w64) (sym (product c.args.a c.requires)) (product_fits c.args.a c.requires)
 
 pub overflow_add-result : goal.overflow_add-result
 overflow_add-result c =
-    let s = c in
     subst (SFits w64) (sym (sum c.args.a c.requires)) (sum_fits c.args.a c.requires)
 
 pub returns : goal.returns
 unfolding far_edge
 returns c =
-    let s = c in
     ap (λ (x : ℤ). to_z w64 (of_z w64 x)) (sum c.args.a c.requires) ∙ to_z-of_z (sum_fits c.args.a c.requires)
