@@ -72,6 +72,7 @@ fn lat_axis(g: Grid) -> Axis
 }
 
 // Where the last node lies.
+#[tactic(auto, unfolding(crate::specs::Extent::far_edge))]
 fn far_edge(a: Axis) -> i64
     requires { Reach a }
     ensures { result ≡ far_edge a }
