@@ -239,6 +239,7 @@ fn bytes_fit(name: Name) -> bool
 }
 
 // Whether a name is well formed.
+#[tactic(auto, unfolding(crate::specs::Limits::name_fits))]
 pub fn name_fits(name: Name) -> bool
     ensures { result ≡ name_fits name }
 {
@@ -366,6 +367,7 @@ fn counts_fit(g: Grid) -> bool
 }
 
 // Whether a grid's name is well formed and its numbers are within their limits.
+#[tactic(auto, unfolding(crate::specs::Limits::grid_fits))]
 pub fn grid_fits(g: Grid) -> bool
     ensures { result ≡ grid_fits g }
 {
