@@ -2,7 +2,7 @@
 use mathlib.Core.Path.{◌≡◌, refl, sym, ap, ◌∙◌}
 use mathlib.Core.Bool.{Bool, false}
 use mathlib.Core.List.{List, [], ◌∷◌, ◌++◌, map, map-append}
-use Prim.Native.Nat.{ℕ, ◌+◌, ◌≤◌, ◌<◌}
+use Prim.Native.Nat.{ℕ, ◌+◌, ◌≤◌, ◌<◌, min}
 use native.Mathlib.Nat.{le_of_eq}
 use native.Mathlib.Decide.{dec_lt}
 use native.Mathlib.Numerals.{add-one}
@@ -16,8 +16,8 @@ use Rattle.nodes.specs.Load.{refused_float, node_of, first_refused}
 use Rattle.nodes.specs.Plain.{Filled}
 
 -- one block further
-pub passed_to : (p : ℕ → Bool) (n a e : ℕ) → Passed p n a → e ≤ n → ((k : ℕ) → a ≤ k → k < e → p k ≡ false) → Passed p n e
-passed_to p n a e s h f = record { bound = h; clear = λ k l. elim (dec_lt k a) [ yes m ↦ s.clear k m | no m ↦ f k (omega arith) l ] }
+pub passed_to : (p : ℕ → Bool) (n a e : ℕ) → Passed p n (min a n) → a < n → e ≤ n → ((k : ℕ) → a ≤ k → k < e → p k ≡ false) → Passed p n e
+passed_to p n a e s b h f = record { bound = h; clear = λ k l. elim (dec_lt k a) [ yes m ↦ s.clear k (omega arith) | no m ↦ f k (omega arith) l ] }
 
 -- where none is refused, this one isn't
 pub none_refused : (q : ℕ) (flag : Float) (l : List Float) (k : ℕ) → first_refused q flag l ≡ length l → k < length l → refused_float q flag (get_or l k nan) ≡ false

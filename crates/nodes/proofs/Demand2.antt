@@ -1,4 +1,5 @@
 -- Demand 2 of loading, proved of what the call answers and leaves.
+use Rattle.std.specs.Prelude.{Ok, Err}
 use Prim.Native.Nat.{ℕ, ◌<◌, ◌≤◌}
 use mathlib.Core.Path.{◌≡◌, refl, sym, ap, subst, ◌∙◌}
 use mathlib.Core.Bool.{false, not}
@@ -13,7 +14,6 @@ use Rattle.numbers.proofs.FirstLaws.{none_at}
 use Rattle.numbers.proofs.Lists.{map_at}
 use Rattle.group.specs.Numbers.{quantum_most, value_most}
 use Rattle.group.proofs.RefusalLaws.{passed_if, passed_first, lent_new, lent_kept}
-use Rattle.nodes.specs.declared.Loaded.TheVariants.{Done, Refused}
 use Rattle.nodes.specs.Load.{marks, steps, refused_float, node_of, loaded, loaded_refusal, nodes_after}
 use Rattle.nodes.specs.Size.{size_of}
 use Rattle.nodes.specs.Demand2.{IsNode, NodesLoaded}
@@ -40,17 +40,17 @@ is_node q flag x r =
 
 module _ (q : ℕ) (flag : Float) (floats : List Float) (nodes : List ℤ) where
   -- an accepted loading: equal lengths, and no float is refused
-  passed : loaded q flag floats (length nodes) ≡ Done
+  passed : loaded q flag floats (length nodes) ≡ Ok tt
       → (length floats ≡ length nodes) × (some (λ i. refused_float q flag (get_or floats i nan)) (length floats) ≡ false)
   unfolding loaded
   passed e =
-      let a = passed_if Refused Done not_done (ltb quantum_most q) 2 0 _ e in
-      let b = passed_if Refused Done not_done (not (eqb (length floats) (length nodes))) 12 0 _ a.1 in
-      let c = passed_first Refused Done not_done (λ i. refused_float q flag (get_or floats i nan)) (length floats) 11 1 Done b.1 in
+      let a = passed_if Err (Ok tt) not_done (ltb quantum_most q) 2 0 _ e in
+      let b = passed_if Err (Ok tt) not_done (not (eqb (length floats) (length nodes))) 12 0 _ a.1 in
+      let c = passed_first Err (Ok tt) not_done (λ i. refused_float q flag (get_or floats i nan)) (length floats) 11 1 (Ok tt) b.1 in
       (eqb-true (length floats) (length nodes) (not-false _ b.0), c.0)
 
   module _ (z : (loaded_refusal (loaded q flag floats (length nodes))).number ≡ 0) where
-    done : loaded q flag floats (length nodes) ≡ Done
+    done : loaded q flag floats (length nodes) ≡ Ok tt
     done = (loaded_told q flag floats (length nodes)).zero z
 
     mapped : nodes_after q flag floats nodes ≡ map (node_of q flag) floats

@@ -1,4 +1,5 @@
 -- What loading does, said of its definitions: the rounding, the mark, and worked cases.
+use Rattle.std.specs.Prelude.{Result, Ok, Err, ⊤}
 use mathlib.Core.Path.{◌≡◌, refl, sym, ap, ◌∙◌, subst}
 use mathlib.Core.Bool.{Bool, true, false, not, ◌&&◌}
 use mathlib.Core.List.{List, [], ◌∷◌, map}
@@ -15,9 +16,8 @@ use borrow.Author.Tests.{eqb-true}
 use Rattle.numbers.specs.Round.{nearest, gain, round_z}
 use Rattle.numbers.specs.First.{first}
 use Rattle.numbers.proofs.Bools.{and_right}
+use Rattle.group.specs.declared.Refusal.{Refusal}
 use Rattle.group.specs.Numbers.{mark}
-use Rattle.nodes.specs.declared.Loaded.{Loaded}
-use Rattle.nodes.specs.declared.Loaded.TheVariants.{Done, Refused}
 use Rattle.group.specs.Refusals.{refusal, refuse_if, refuse_first, lent_after}
 use Rattle.nodes.specs.Load.{signed, marks, steps, refused_float, node_of, loaded, nodes_after}
 use Rattle.nodes.specs.Size.{size_of}
@@ -69,34 +69,34 @@ pub record Case : Type 0 where
   pub quantum : ℕ
   pub flag : ℕ
   pub bits : ℕ
-  pub answer : Loaded
+  pub answer : Result ⊤ Refusal
   pub node : ℤ
 
-abbrev case : ℕ → ℕ → ℕ → Loaded → ℤ → Case
+abbrev case : ℕ → ℕ → ℕ → Result ⊤ Refusal → ℤ → Case
 case q f b r z = record { quantum = q; flag = f; bits = b; answer = r; node = z }
 
 -- a NaN as the flag; 0.5, 1.5, -1.5, -0, 4,000,000.5; 2,147,483,520, below zero too, and the next floats, ±2,147,483,648; the same over 2^20; infinity, a
 -- NaN, the least float; a flag -0 and +0, a flag infinity, a flag -2,147,483,648
 pub table : List Case
-table = case 0 0x7fc0_0000 0x3f00_0000 Done (pos 0)
-    ∷ case 0 0x7fc0_0000 0x3fc0_0000 Done (pos 2)
-    ∷ case 0 0x7fc0_0000 0xbfc0_0000 Done (negsuc 1)
-    ∷ case 0 0x7fc0_0000 0x8000_0000 Done (pos 0)
-    ∷ case 0 0x7fc0_0000 0x4a74_2402 Done (pos 4000000)
-    ∷ case 0 0x7fc0_0000 0x4eff_ffff Done (pos 2147483520)
-    ∷ case 0 0x7fc0_0000 0xceff_ffff Done (negsuc 2147483519)
-    ∷ case 0 0x7fc0_0000 0x4f00_0000 (Refused (refusal 11 1)) (pos 7)
-    ∷ case 0 0x7fc0_0000 0xcf00_0000 (Refused (refusal 11 1)) (pos 7)
-    ∷ case 20 0x7fc0_0000 0x44ff_ffff Done (pos 2147483520)
-    ∷ case 20 0x7fc0_0000 0xc500_0000 (Refused (refusal 11 1)) (pos 7)
-    ∷ case 20 0x7fc0_0000 0x7f80_0000 (Refused (refusal 11 1)) (pos 7)
-    ∷ case 20 0x7fc0_0000 0x7fc0_0001 Done mark
-    ∷ case 20 0x7fc0_0000 0x0000_0001 Done (pos 0)
-    ∷ case 3 0x8000_0000 0x0000_0000 Done (pos 0)
-    ∷ case 3 0x8000_0000 0x8000_0000 Done mark
-    ∷ case 3 0x7f80_0000 0x7f80_0000 Done mark
-    ∷ case 0 0xcf00_0000 0xcf00_0000 Done mark
-    ∷ case 21 0x7fc0_0000 0x3f00_0000 (Refused (refusal 2 0)) (pos 7)
+table = case 0 0x7fc0_0000 0x3f00_0000 (Ok tt) (pos 0)
+    ∷ case 0 0x7fc0_0000 0x3fc0_0000 (Ok tt) (pos 2)
+    ∷ case 0 0x7fc0_0000 0xbfc0_0000 (Ok tt) (negsuc 1)
+    ∷ case 0 0x7fc0_0000 0x8000_0000 (Ok tt) (pos 0)
+    ∷ case 0 0x7fc0_0000 0x4a74_2402 (Ok tt) (pos 4000000)
+    ∷ case 0 0x7fc0_0000 0x4eff_ffff (Ok tt) (pos 2147483520)
+    ∷ case 0 0x7fc0_0000 0xceff_ffff (Ok tt) (negsuc 2147483519)
+    ∷ case 0 0x7fc0_0000 0x4f00_0000 (Err (refusal 11 1)) (pos 7)
+    ∷ case 0 0x7fc0_0000 0xcf00_0000 (Err (refusal 11 1)) (pos 7)
+    ∷ case 20 0x7fc0_0000 0x44ff_ffff (Ok tt) (pos 2147483520)
+    ∷ case 20 0x7fc0_0000 0xc500_0000 (Err (refusal 11 1)) (pos 7)
+    ∷ case 20 0x7fc0_0000 0x7f80_0000 (Err (refusal 11 1)) (pos 7)
+    ∷ case 20 0x7fc0_0000 0x7fc0_0001 (Ok tt) mark
+    ∷ case 20 0x7fc0_0000 0x0000_0001 (Ok tt) (pos 0)
+    ∷ case 3 0x8000_0000 0x0000_0000 (Ok tt) (pos 0)
+    ∷ case 3 0x8000_0000 0x8000_0000 (Ok tt) mark
+    ∷ case 3 0x7f80_0000 0x7f80_0000 (Ok tt) mark
+    ∷ case 0 0xcf00_0000 0xcf00_0000 (Ok tt) mark
+    ∷ case 21 0x7fc0_0000 0x3f00_0000 (Err (refusal 2 0)) (pos 7)
     ∷ []
 
 -- what the definitions make of a case

@@ -1,10 +1,10 @@
 -- Demand 2 of loading in its own words, of what the call answers and leaves in the lent nodes.
-use Rattle.std.specs.Prelude.{ℕ, ◌*◌, ◌^◌, ◌≤◌, ◌<◌, ◌≡◌, Bool, true, false, List, ℤ, pos, nat_abs, length, get_or, Float}
+use Rattle.std.specs.Prelude.{ℕ, ◌*◌, ◌^◌, ◌≤◌, ◌<◌, ◌≡◌, Bool, true, false, List, ℤ, pos, nat_abs, length, get_or, Float, Result, ⊤}
 use Rattle.std.specs.Float.{nan}
 use Rattle.std.specs.Float.Ieee.Exact.{HasValue}
 use Rattle.numbers.specs.Round.{nearest}
 use Rattle.group.specs.Numbers.{mark, value_most}
-use Rattle.nodes.specs.declared.Loaded.{Loaded}
+use Rattle.group.specs.declared.Refusal.{Refusal}
 use Rattle.nodes.specs.Load.{signed, marks, loaded_refusal}
 
 -- v is the node of the float x
@@ -19,7 +19,7 @@ pub record IsNode (q : ℕ) (flag x : Float) (v : ℤ) : Type 0 where
   pub small : marks flag x ≡ false → nat_abs v ≤ value_most
 
 -- l answers the loading of floats into `nodes`, which are `after` then
-pub record NodesLoaded (q : ℕ) (flag : Float) (floats : List Float) (nodes : List ℤ) (l : Loaded) (after : List ℤ) : Type 0 where
+pub record NodesLoaded (q : ℕ) (flag : Float) (floats : List Float) (nodes : List ℤ) (l : Result ⊤ Refusal) (after : List ℤ) : Type 0 where
   -- accepted: as many nodes as floats, and each is its float's
   pub lent : (loaded_refusal l).number ≡ 0 → length floats ≡ length nodes
   pub count : (loaded_refusal l).number ≡ 0 → length after ≡ length floats

@@ -1,5 +1,5 @@
 -- What loading floats into nodes means: document 01, 'Loading and showing' and refusals 2, 12 and 11.
-use Rattle.std.specs.Prelude.{ℕ, ◌*◌, ◌^◌, Bool, true, false, not, cond, ◌&&◌, ◌||◌, List, map, ltb, eqb, ℤ, pos, neg_ℤ, length, get_or, Float}
+use Rattle.std.specs.Prelude.{ℕ, ◌*◌, ◌^◌, Bool, true, false, not, cond, ◌&&◌, ◌||◌, List, map, ltb, eqb, ℤ, pos, neg_ℤ, length, get_or, Float, Result, Ok, Err, ⊤}
 use Rattle.std.specs.Float.{nan, inf, fin, binary32}
 use Rattle.std.specs.Float.Ieee.{is_nan, to_bits, up, down}
 use Rattle.numbers.specs.Round.{round_z}
@@ -7,8 +7,6 @@ use Rattle.numbers.specs.First.{first}
 use Rattle.group.specs.declared.Refusal.{Refusal}
 use Rattle.group.specs.Numbers.{quantum_most, mark, value_fits}
 use Rattle.group.specs.Refusals.{no_refusal, refuse_if, refuse_first, lent_after}
-use Rattle.nodes.specs.declared.Loaded.{Loaded}
-use Rattle.nodes.specs.declared.Loaded.TheVariants.{Done, Refused}
 
 -- n, below zero where s is true
 abbrev pub signed : Bool → ℕ → ℤ
@@ -43,17 +41,17 @@ unfoldable pub first_refused : ℕ → Float → List Float → ℕ
 first_refused q flag floats = first (λ i. refused_float q flag (get_or floats i nan)) (length floats)
 
 -- what loading answers where n nodes are lent: Q by 2, then 12, then 11 at the first position, from 1
-unfoldable pub loaded : ℕ → Float → List Float → ℕ → Loaded
+unfoldable pub loaded : ℕ → Float → List Float → ℕ → Result ⊤ Refusal
 loaded q flag floats n =
-    refuse_if Refused (ltb quantum_most q) 2 0
-    (refuse_if Refused (not (eqb (length floats) n)) 12 0
-    (refuse_first Refused (λ i. refused_float q flag (get_or floats i nan)) (length floats) 11 1
-    Done))
+    refuse_if Err (ltb quantum_most q) 2 0
+    (refuse_if Err (not (eqb (length floats) n)) 12 0
+    (refuse_first Err (λ i. refused_float q flag (get_or floats i nan)) (length floats) 11 1
+    (Ok tt)))
 
 -- what loading refuses
-abbrev pub loaded_refusal : Loaded → Refusal
-loaded_refusal Done = no_refusal
-loaded_refusal (Refused r) = r
+abbrev pub loaded_refusal : Result ⊤ Refusal → Refusal
+loaded_refusal (Ok tt) = no_refusal
+loaded_refusal (Err r) = r
 
 -- the lent nodes afterwards: the node of each float; after a refusal as they were
 unfoldable pub nodes_after : ℕ → Float → List Float → List ℤ → List ℤ

@@ -21,15 +21,6 @@ more hi flag l a i all t f p e k h m =
 pub loop-i-init : goal.loop-i-init
 loop-i-init c = (omega arith, omega arith, λ t k h l. absurd (omega arith))
 
-pub bounds-floats-i : goal.bounds-floats-i
-bounds-floats-i c = omega arith
-
-pub overflow_add-i : goal.overflow_add-i
-overflow_add-i c = omega arith
-
-pub loop-i-smaller : goal.loop-i-smaller
-loop-i-smaller c = omega arith
-
 pub loop-i-preserved : goal.loop-i-preserved
 unfolding plain_float
 loop-i-preserved c =

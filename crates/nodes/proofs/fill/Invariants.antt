@@ -1,11 +1,11 @@
 -- `fill`: block after block.
-use Prim.Native.Nat.{◌-◌, ◌≤◌}
+use Prim.Native.Nat.{◌-◌, min}
 use lib.ListN.{length}
 use Rattle.nodes.specs.Plain.{Filled}
 use Rattle.nodes.proofs.fill.Given as goal
 
-abbrev pub invariant-loop-at : goal.invariant-loop-at
-invariant-loop-at l = (l.at ≤ length l.floats) × Filled l.q l.flag l.floats l.at l.nodes
+abbrev pub invariant-loop-a : goal.invariant-loop-a
+invariant-loop-a l = Filled l.q l.flag l.floats (min l.a (length l.floats)) l.nodes
 
-abbrev pub decreases-loop-at : goal.decreases-loop-at
-decreases-loop-at l = length l.floats - l.at
+abbrev pub decreases-loop-a : goal.decreases-loop-a
+decreases-loop-a l = length l.floats - l.a

@@ -1,8 +1,9 @@
 -- `scaled`: beyond 2^31, a product, too small to count, and a quotient.
-use mathlib.Core.Path.{◌≡◌, sym, ◌∙◌, subst}
+use mathlib.Core.Path.{◌≡◌, sym, ap, ◌∙◌, subst}
 use Prim.Native.Nat.{ℕ, ◌-◌, ◌^◌, ◌≤◌, ◌<◌, min}
 use native.Mathlib.Nat.{le_of_lt, min-eq_left, min-eq_right}
 use native.Mathlib.Omega.{arith}
+use Rattle.numbers.specs.Round.{nearest}
 use Rattle.numbers.proofs.Nearest.{nearest_most}
 use Rattle.nodes.proofs.ScaledLaws.{large, product, quotient, small, shift_up, shift_lt}
 use Rattle.nodes.proofs.scaled.Goals as goal
@@ -30,5 +31,5 @@ returns-then-down-gt24 c =
 pub returns : goal.returns
 returns c =
     let a = c.args in
-    let e = c.nearest_shifted.ensures in
+    let e = c.nearest_shifted.ensures ∙ ap (λ (k : ℕ). nearest a.digits (2 ^ k)) c.from.ensures in
     uncut _ _ (e ∙ sym (quotient a.digits a.up (omega arith))) (omega (arith, nearest_most a.digits (2 ^ (149 - a.up))))
