@@ -1,13 +1,13 @@
 -- The screen's promises, of its own answers: results are shown exactly, degrees are rounded once.
-use Rattle.std.proofs.Common.{◌≡◌, ℕ, zero, suc, ◌*◌, ◌^◌, ◌<◌, ◌≤◌, Bool, true, false, not, ℤ, pos, nat_abs, sym, refl, ap, ◌∙◌, subst, mul-one, arith, lit<, lit≤, le-ltb, lt-ltb, le-leb}
+use Rattle.std.proofs.Common.{◌≡◌, ℕ, Result, Err, zero, suc, ◌*◌, ◌^◌, ◌<◌, ◌≤◌, Bool, true, false, not, ℤ, pos, nat_abs, sym, refl, ap, ◌∙◌, subst, mul-one, arith, lit<, lit≤, le-ltb, lt-ltb, le-leb}
 use lib.Ieee.{binary64, round, of_int}
 use Rattle.numbers.proofs.Bools.{both}
 use Rattle.group.specs.declared.Point.{Point}
+use Rattle.group.specs.declared.Refusal.{Refusal}
 use Rattle.group.proofs.RefusalLaws.{if_past}
 use Rattle.fix.specs.declared.Fix.{Fix}
 use Rattle.fix.specs.Answers.{result_in}
-use Rattle.screen.specs.declared.ScreenAnswer.{ScreenAnswer}
-use Rattle.screen.specs.declared.ScreenAnswer.TheVariants as S
+use Rattle.screen.specs.declared.Shifts.{Shifts}
 use Rattle.screen.specs.Screen.{plus_zero, shown_shift, degrees_of, admitted, shown, answer_of, screen_refusal, record_of}
 use Rattle.screen.specs.Shown.{below_zero, Times, nearest_to, shift_at, ShowsResults, ShowsPoint}
 use Rattle.screen.proofs.Exact.{div_at, cast_exact, like, shift_exact}
@@ -51,7 +51,7 @@ pub shown_exactly : (f : Fix) (q np : ℕ) → q ≤ 20 → 1 ≤ np → np ≤ 
 unfolding answer_of
 shown_exactly f q np k l m h =
     let t : admitted q np ≡ true = both (le-leb q 20 k) (both (le-leb 1 np l) (le-leb np 3 m)) in
-    subst (ShowsResults (result_in f) q np) (sym (if_past S.Refused (not (admitted q np)) 2 0 (shown (Ok f) q np) (ap not t))) (by_fix f q np k m h)
+    subst (ShowsResults (result_in f) q np) (sym (if_past Err (not (admitted q np)) 2 0 (shown (Ok f) q np) (ap not t))) (by_fix f q np k m h)
 
 -- ---- degrees
 
@@ -69,7 +69,7 @@ pub record_shown : (point : Point) (found : Result Fix Refusal) (q np : ℕ) →
 unfolding record_of
 record_shown point found q np z =
     let u = (answer_told found q np).zero z in
-    subst (λ (s : ScreenAnswer). ShowsPoint point s (record_of point s)) (sym u.3)
+    subst (λ (s : Result Shifts Refusal). ShowsPoint point s (record_of point s)) (sym u.1)
     (record {
       longitude = degrees_rounded point.lon.0;
       latitude = degrees_rounded point.lat.0;

@@ -6,8 +6,7 @@ use Rattle.group.specs.declared.Point.{Point}
 use Rattle.group.specs.declared.Refusal.{Refusal}
 use Rattle.group.specs.Numbers.{mas_in_degree, quantum_most, parameters_most}
 use Rattle.group.specs.Refusals.{refusal, no_refusal, in_table, refuse_if}
-use Rattle.screen.specs.declared.ScreenAnswer.{ScreenAnswer}
-use Rattle.screen.specs.declared.ScreenAnswer.TheVariants.{Fix, Refused}
+use Rattle.screen.specs.declared.Shifts.{Shifts}
 use Rattle.screen.specs.declared.ScreenRecord.{ScreenRecord}
 
 abbrev pub plus_zero : Float
@@ -38,26 +37,26 @@ abbrev pub handed_on : Refusal → Refusal
 handed_on r = cond (in_table r.number) r (refusal 2 0)
 
 -- a lookup's answer for the screen
-unfoldable pub shown : Result Fix Refusal → ℕ → ℕ → ScreenAnswer
-shown (Ok f) q np = Fix (shown_shift q np 0 f.first) (shown_shift q np 1 f.second) (shown_shift q np 2 f.third)
-shown (Err r) q np = Refused (handed_on r)
+unfoldable pub shown : Lookup → ℕ → ℕ → Result Shifts Refusal
+shown (lookup.Fix f) q np = Ok (record { first = shown_shift q np 0 f.first; second = shown_shift q np 1 f.second; third = shown_shift q np 2 f.third })
+shown (lookup.Err r) q np = Err (handed_on r)
 
 -- the same, with Q and NP judged first: 2 with place 0
-unfoldable pub answer_of : Result Fix Refusal → ℕ → ℕ → ScreenAnswer
+unfoldable pub answer_of : Lookup → ℕ → ℕ → Result Shifts Refusal
 answer_of found q np =
-    refuse_if Refused (not (admitted q np)) 2 0
+    refuse_if Err (not (admitted q np)) 2 0
     (shown found q np)
 
 -- what the screen refuses, and the shifts that it hands back beside it
-abbrev pub screen_refusal : ScreenAnswer → Refusal
-screen_refusal (Fix a b c) = no_refusal
-screen_refusal (Refused r) = r
+abbrev pub screen_refusal : Result Shifts Refusal → Refusal
+screen_refusal (Ok s) = no_refusal
+screen_refusal (Err r) = r
 
-abbrev pub shifts_of : ScreenAnswer → List Float
-shifts_of (Fix a b c) = a ∷ b ∷ c ∷ []
-shifts_of (Refused r) = plus_zero ∷ plus_zero ∷ plus_zero ∷ []
+abbrev pub shifts_of : Result Shifts Refusal → List Float
+shifts_of (Ok s) = s.first ∷ s.second ∷ s.third ∷ []
+shifts_of (Err r) = plus_zero ∷ plus_zero ∷ plus_zero ∷ []
 
 -- the screen record at a point
-unfoldable pub record_of : Point → ScreenAnswer → ScreenRecord
-record_of point (Fix a b c) = record { longitude = degrees_of point.lon.0; latitude = degrees_of point.lat.0; first = a; second = b; third = c }
-record_of point (Refused r) = record { longitude = plus_zero; latitude = plus_zero; first = plus_zero; second = plus_zero; third = plus_zero }
+unfoldable pub record_of : Point → Result Shifts Refusal → ScreenRecord
+record_of point (Ok s) = record { longitude = degrees_of point.lon.0; latitude = degrees_of point.lat.0; first = s.first; second = s.second; third = s.third }
+record_of point (Err r) = record { longitude = plus_zero; latitude = plus_zero; first = plus_zero; second = plus_zero; third = plus_zero }

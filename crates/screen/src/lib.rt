@@ -5,14 +5,17 @@ ghost use Rattle.std.specs.Prelude.{◌≡◌, ◌≤◌};
 ghost use Rattle.group.specs.Numbers.{quantum_most};
 ghost use Rattle.screen.specs.Screen.{admitted, neg_power, shift_of, shown_shift, degrees_of, handed_on, answer_of, record_of};
 
+use group::{PARAMETERS_MOST, Point, QUANTUM_MOST, Refusal};
+
 // Milliarcseconds in a degree.
 const DEGREE: f64 = group::MAS_IN_DEGREE as f64;
 
-// What the screen answers: three shifts in the group's unit, or the refusal.
+// Three shifts in the group's unit.
 #[derive(Clone, Copy)]
-pub enum ScreenAnswer {
-    Fix(f64, f64, f64),
-    Refused(group::Refusal),
+pub struct Shifts {
+    pub first: f64,
+    pub second: f64,
+    pub third: f64,
 }
 
 // The screen record: the point's degrees, and its shifts in the group's unit.
@@ -29,7 +32,7 @@ pub struct ScreenRecord {
 fn admits(quantum: u64, parameters: u64) -> bool
     ensures { result ≡ admitted quantum parameters }
 {
-    (quantum <= group::QUANTUM_MOST) & ((1 <= parameters) & (parameters <= group::PARAMETERS_MOST))
+    quantum <= QUANTUM_MOST && (1..=PARAMETERS_MOST).contains(&parameters)
 }
 
 // 2 to the power -q.
@@ -41,6 +44,7 @@ fn power(q: u64) -> f64
 }
 
 // A whole result, in steps of 2^-q, as a float in the unit.
+#[tactic(auto, unfolding(crate::specs::Screen::shift_of))]
 fn shift(steps: i64, q: u64) -> f64
     requires { q ≤ quantum_most }
     ensures { result ≡ shift_of q steps }
@@ -49,6 +53,7 @@ fn shift(steps: i64, q: u64) -> f64
 }
 
 // The shift of parameter p, from 0, and +0 if there are no more than p.
+#[tactic(auto, unfolding(crate::specs::Screen::shown_shift))]
 fn shown_shift(parameters: u64, p: u64, steps: i64, q: u64) -> f64
     requires { q ≤ quantum_most }
     ensures { result ≡ shown_shift q parameters p steps }
@@ -64,13 +69,13 @@ fn degrees(mas: i64) -> f64
 }
 
 // A lookup's refusal as the screen hands it on; a number outside the table of refusals is refused by 2 with place 0.
-fn handed_on(r: group::Refusal) -> group::Refusal
+fn handed_on(r: Refusal) -> Refusal
     ensures { result ≡ handed_on r }
 {
     if group::in_table(r.number) {
         return r;
     }
-    group::Refusal {
+    Refusal {
         number: 2,
         place: 0,
     }
@@ -79,38 +84,40 @@ fn handed_on(r: group::Refusal) -> group::Refusal
 // The shifts of a fix in the unit, each the whole result times 2 to the power -quantum, +0 for a parameter that the group doesn't have; or
 // the lookup's refusal with its place. A quantum above QUANTUM_MOST, parameters other than 1 to PARAMETERS_MOST, or a
 // refusal's number outside the table are refused by 2 with place 0.
-pub fn screen_answer(found: Result<fix::Fix, group::Refusal>, quantum: u64, parameters: u64) -> ScreenAnswer
+#[tactic(auto, unfolding(crate::specs::Screen::answer_of, crate::specs::Screen::shown, group::specs::Refusals::refuse_if))]
+pub fn screen_answer(found: fix::Lookup, quantum: u64, parameters: u64) -> Result<Shifts, Refusal>
     ensures { result ≡ answer_of found quantum parameters }
 {
     if !admits(quantum, parameters) {
-        return ScreenAnswer::Refused(group::Refusal {
+        return Err(Refusal {
             number: 2,
             place: 0,
         });
     }
     match found {
-        Ok(f) => ScreenAnswer::Fix(
-            shown_shift(parameters, 0, f.first, quantum),
-            shown_shift(parameters, 1, f.second, quantum),
-            shown_shift(parameters, 2, f.third, quantum),
-        ),
-        Err(r) => ScreenAnswer::Refused(handed_on(r)),
+        fix::Ok(f) => Ok(Shifts {
+            first: shown_shift(parameters, 0, f.first, quantum),
+            second: shown_shift(parameters, 1, f.second, quantum),
+            third: shown_shift(parameters, 2, f.third, quantum),
+        }),
+        fix::Err(r) => Err(handed_on(r)),
     }
 }
 
 // The screen record of a point and its screen answer: the point in degrees with the shifts; five times +0 after a refusal.
-pub fn record_of(point: group::Point, answer: ScreenAnswer) -> ScreenRecord
+#[tactic(auto, unfolding(crate::specs::Screen::record_of))]
+pub fn record_of(point: Point, answer: Result<Shifts, Refusal>) -> ScreenRecord
     ensures { result ≡ record_of point answer }
 {
     match answer {
-        ScreenAnswer::Fix(first, second, third) => ScreenRecord {
+        Ok(shifts) => ScreenRecord {
             longitude: degrees(point.lon.0),
             latitude: degrees(point.lat.0),
-            first: first,
-            second: second,
-            third: third,
+            first: shifts.first,
+            second: shifts.second,
+            third: shifts.third,
         },
-        ScreenAnswer::Refused(_) => ScreenRecord {
+        Err(_) => ScreenRecord {
             longitude: 0.0,
             latitude: 0.0,
             first: 0.0,
@@ -122,8 +129,8 @@ pub fn record_of(point: group::Point, answer: ScreenAnswer) -> ScreenRecord
 
 // The point in degrees and its shifts as `screen_answer` has them; five times +0 after a refusal.
 pub fn screen_record(
-    point: group::Point,
-    found: Result<fix::Fix, group::Refusal>,
+    point: Point,
+    found: fix::Lookup,
     quantum: u64,
     parameters: u64,
 ) -> ScreenRecord
