@@ -1,4 +1,5 @@
 -- What each call leaves, of what its callees told: laws over plain values, handed the facts.
+use Rattle.std.specs.Prelude.{Result, ⊤}
 use Prim.Native.Nat.{ℕ, ◌*◌}
 use mathlib.Core.Path.{◌≡◌, refl, sym, ap, ◌∙◌}
 use mathlib.Core.Bool.{Bool, true, false, cond}
@@ -17,7 +18,6 @@ use Rattle.group.specs.Numbers.{grids_most}
 use Rattle.header.specs.declared.Reading.{Reading}
 use Rattle.header.specs.Header.{read_header, written, written_refusal, written_count, bytes_after}
 use Rattle.header.proofs.TableLaws.{read_told}
-use Rattle.nodes.specs.declared.Loaded.{Loaded}
 use Rattle.nodes.specs.Load.{loaded, loaded_refusal, nodes_after}
 use Rattle.inforce.specs.declared.Area.{Area}
 use Rattle.inforce.specs.declared.InForce.{InForce}
@@ -32,7 +32,7 @@ use Rattle.lookup.specs.Answer.{answer_record, stored_record}
 use Rattle.lookup.specs.Lookup.{looked}
 use Rattle.lookup.proofs.AnswerLaws.{answer_stored}
 use Rattle.exercise.specs.Exercise.{many_verdict, results_after}
-use Rattle.screen.specs.declared.ScreenAnswer.{ScreenAnswer}
+use Rattle.screen.specs.declared.Shifts.{Shifts}
 use Rattle.screen.specs.declared.ScreenRecord.{ScreenRecord}
 use Rattle.screen.specs.Screen.{screen_refusal, shifts_of, answer_of, record_of}
 use Rattle.logs.specs.Line.{position_of}
@@ -129,7 +129,7 @@ module _ (text : List ℕ) (lent : List ℤ) (r : Reading) (e : r ≡ read_heade
       ap (left f.number f.place) (sym (lent_kept f (numbers_of r.group) lent (λ z. no_acceptance f (sym w ∙ t.zero (ap (λ (x : Result ⊤ Refusal). (verdict_refusal x).number) w ∙ z)))))
       ∙ by_verdict (Err f) v
 
-pub load_told : (quantum : ℤ) (flag : Float) (floats : List Float) (nodes after : List ℤ) (q : ℕ) (l : Loaded) (r : Refusal)
+pub load_told : (quantum : ℤ) (flag : Float) (floats : List Float) (nodes after : List ℤ) (q : ℕ) (l : Result ⊤ Refusal) (r : Refusal)
     → q ≡ count_of quantum → l ≡ loaded q flag floats (length nodes) → after ≡ nodes_after q flag floats nodes → r ≡ loaded_refusal l
     → left r.number r.place after ≡ load_answer quantum flag floats nodes
 unfolding load_answer
@@ -149,15 +149,15 @@ module _ (number place : ℕ) (fix : List ℤ) where
 
 module _ (quantum parameters : ℤ) (number place : ℕ) (fix : List ℤ) (q np : ℕ) (f : Result Fix Refusal) (eq : q ≡ count_of quantum) (en : np ≡ count_of parameters)
     (ef : f ≡ lookup_of number place fix) where
-  pub shown_told : (s : ScreenAnswer) → s ≡ answer_of f q np → s ≡ shown_of quantum parameters number place fix
+  pub shown_told : (s : Result Shifts Refusal) → s ≡ answer_of f q np → s ≡ shown_of quantum parameters number place fix
   unfolding shown_of
   shown_told s e = e ∙ (λ i. answer_of (ef i) (eq i) (en i))
 
-  pub shifts_told : (s : ScreenAnswer) (r : Refusal) (fs : List Float) → s ≡ answer_of f q np → r ≡ screen_refusal s → fs ≡ shifts_of s
+  pub shifts_told : (s : Result Shifts Refusal) (r : Refusal) (fs : List Float) → s ≡ answer_of f q np → r ≡ screen_refusal s → fs ≡ shifts_of s
       → left r.number r.place fs ≡ shifts_answer (shown_of quantum parameters number place fix)
   shifts_told s r fs e a b = (λ i. record { refusal = a i; lent = b i }) ∙ ap shifts_answer (shown_told s e)
 
-  pub record_told : (lon lat x y : ℤ) (s : ScreenAnswer) (r : Refusal) (d : ScreenRecord) → x ≡ lon → y ≡ lat → s ≡ answer_of f q np
+  pub record_told : (lon lat x y : ℤ) (s : Result Shifts Refusal) (r : Refusal) (d : ScreenRecord) → x ≡ lon → y ≡ lat → s ≡ answer_of f q np
       → r ≡ screen_refusal s → d ≡ record_of (point_of x y) s
       → left r.number r.place (record_floats d) ≡ record_answer lon lat (shown_of quantum parameters number place fix)
   record_told lon lat x y s r d ex ey e a b =

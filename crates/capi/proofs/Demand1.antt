@@ -1,4 +1,5 @@
 -- Demand 1 holds of every call of the C interface.
+use Rattle.std.specs.Prelude.{Result, Ok, Err}
 use Prim.Native.Nat.{ℕ}
 use mathlib.Core.Path.{◌≡◌, refl, ap}
 use mathlib.Core.List.{List, map}
@@ -33,8 +34,7 @@ use Rattle.inforce.proofs.TableLaws.{listed_told, found_told}
 use Rattle.inforce.proofs.Order2.{refuses_alike}
 use Rattle.nodes.specs.Load.{node_of, loaded, loaded_refusal, nodes_after}
 use Rattle.nodes.proofs.TableLaws.{loaded_told}
-use Rattle.screen.specs.declared.ScreenAnswer.{ScreenAnswer}
-use Rattle.screen.specs.declared.ScreenAnswer.TheVariants as S
+use Rattle.screen.specs.declared.Shifts.{Shifts}
 use Rattle.screen.specs.Screen.{plus_zero, screen_refusal, shifts_of, record_of}
 use Rattle.screen.proofs.TableLaws.{answer_told}
 use Rattle.logs.specs.Line.{position_of}
@@ -166,10 +166,10 @@ shows quantum parameters number place fix lon lat =
       screen = screen s;
     }
   where
-    shifts : (s : ScreenAnswer) → ((screen_refusal s).number ≡ 0 → ⊥) → shifts_of s ≡ replicate 3 plus_zero
-    shifts (S.Fix a b c) n = absurd (n refl)
-    shifts (S.Refused r) n = refl
+    shifts : (s : Result Shifts Refusal) → ((screen_refusal s).number ≡ 0 → ⊥) → shifts_of s ≡ replicate 3 plus_zero
+    shifts (Ok f) n = absurd (n refl)
+    shifts (Err r) n = refl
 
-    screen : (s : ScreenAnswer) → ((screen_refusal s).number ≡ 0 → ⊥) → record_floats (record_of (point_of lon lat) s) ≡ replicate 5 plus_zero
-    screen (S.Fix a b c) n = absurd (n refl)
-    screen (S.Refused r) n = refl
+    screen : (s : Result Shifts Refusal) → ((screen_refusal s).number ≡ 0 → ⊥) → record_floats (record_of (point_of lon lat) s) ≡ replicate 5 plus_zero
+    screen (Ok f) n = absurd (n refl)
+    screen (Err r) n = refl

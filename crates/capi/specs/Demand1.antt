@@ -12,9 +12,8 @@ use Rattle.exercise.specs.Exercise.{many_verdict}
 use Rattle.inforce.specs.declared.Area.{Area}
 use Rattle.inforce.specs.InForce.{in_force_of}
 use Rattle.inforce.specs.Hole.{hole_of}
-use Rattle.nodes.specs.declared.Loaded.TheVariants.{Done}
 use Rattle.nodes.specs.Load.{loaded}
-use Rattle.screen.specs.declared.ScreenAnswer.TheVariants as S
+use Rattle.screen.specs.declared.Shifts.{Shifts}
 use Rattle.screen.specs.Screen.{plus_zero}
 use Rattle.logs.specs.declared.Fault.{Fault}
 use Rattle.logs.specs.Line.{position_of}
@@ -77,14 +76,14 @@ pub record FindsHole (group : List ℤ) (area : Area) : Type 0 where
   pub alike : (hole_answer group area).refusal ≡ (in_force_answer group area).refusal
 
 pub record Loads (quantum : ℤ) (flag : Float) (floats : List Float) (nodes : List ℤ) : Type 0 where
-  pub told : Told (loaded (count_of quantum) flag floats (length nodes) ≡ Done) (load_answer quantum flag floats nodes).refusal
+  pub told : Told (loaded (count_of quantum) flag floats (length nodes) ≡ Ok tt) (load_answer quantum flag floats nodes).refusal
   -- the nodes are as they were
   pub kept : LeftBeside nodes (load_answer quantum flag floats nodes)
 
 -- the answer of a lookup, shown: its shifts, and with the point its screen record
 pub record Shows (quantum parameters : ℤ) (number place : ℕ) (fix : List ℤ) (lon lat : ℤ) : Type 0 where
   pub told :
-      Told ((a b c : Float) × (shown_of quantum parameters number place fix ≡ S.Fix a b c))
+      Told ((s : Shifts) × (shown_of quantum parameters number place fix ≡ Ok s))
       (shifts_answer (shown_of quantum parameters number place fix)).refusal
   pub shifts : LeftBeside (replicate 3 plus_zero) (shifts_answer (shown_of quantum parameters number place fix))
   pub record_told :

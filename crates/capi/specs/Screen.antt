@@ -1,7 +1,8 @@
 -- A lookup's answer as the C interface passes it to the screen, and the floats that are handed back.
 use Rattle.std.specs.Prelude.{ℕ, cond, List, [], ◌∷◌, eqb, Float, ℤ, Result, Ok, Err}
+use Rattle.group.specs.declared.Refusal.{Refusal}
 use Rattle.group.specs.Refusals.{refusal}
-use Rattle.screen.specs.declared.ScreenAnswer.{ScreenAnswer}
+use Rattle.screen.specs.declared.Shifts.{Shifts}
 use Rattle.screen.specs.declared.ScreenRecord.{ScreenRecord}
 use Rattle.screen.specs.Screen.{screen_refusal, shifts_of, answer_of, record_of}
 use Rattle.numbers.specs.Order.{count_of}
@@ -18,15 +19,15 @@ lookup_of number place fix =
     (Err (refusal number place))
 
 -- what the screen answers for them; Q or NP below zero is outside its limit
-unfoldable pub shown_of : ℤ → ℤ → ℕ → ℕ → List ℤ → ScreenAnswer
+unfoldable pub shown_of : ℤ → ℤ → ℕ → ℕ → List ℤ → Result Shifts Refusal
 shown_of q np number place fix = answer_of (lookup_of number place fix) (count_of q) (count_of np)
 
 -- the floats of a screen record
 abbrev pub record_floats : ScreenRecord → List Float
 record_floats r = r.longitude ∷ r.latitude ∷ r.first ∷ r.second ∷ r.third ∷ []
 
-abbrev pub shifts_answer : ScreenAnswer → Answer (List Float)
+abbrev pub shifts_answer : Result Shifts Refusal → Answer (List Float)
 shifts_answer s = record { refusal = screen_refusal s; lent = shifts_of s }
 
-abbrev pub record_answer : ℤ → ℤ → ScreenAnswer → Answer (List Float)
+abbrev pub record_answer : ℤ → ℤ → Result Shifts Refusal → Answer (List Float)
 record_answer lon lat s = record { refusal = screen_refusal s; lent = record_floats (record_of (point_of lon lat) s) }

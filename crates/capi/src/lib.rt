@@ -22,8 +22,7 @@ use fix::Fix;
 use group::{GRIDS_MOST, Latitude, Longitude, Point, Position, Refusal};
 use inforce::{Area, GridInForce, InForce, Uncovered};
 use lookup::Answer;
-use nodes::Loaded;
-use screen::ScreenAnswer;
+use screen::Shifts;
 
 // The version of the interface: major * 1,000,000 + minor * 1,000 + patch.
 const VERSION: u64 = 4000000;
@@ -348,12 +347,12 @@ pub extern "C" fn bulhyemik_hole(
 }
 
 // The refusal of a load.
-fn loaded_refusal(l: Loaded) -> Refusal
+fn loaded_refusal(l: Result<(), Refusal>) -> Refusal
     ensures { result ≡ loaded_refusal l }
 {
     match l {
-        Loaded::Done => no_refusal(),
-        Loaded::Refused(refusal) => refusal,
+        Ok(()) => no_refusal(),
+        Err(refusal) => refusal,
     }
 }
 
@@ -393,22 +392,22 @@ fn lookup_of(number: u64, at: u64, fix: &[i64; 4]) -> Result<Fix, Refusal>
 }
 
 // The refusal of a screen answer.
-fn screen_refusal(s: ScreenAnswer) -> Refusal
+fn screen_refusal(s: Result<Shifts, Refusal>) -> Refusal
     ensures { result ≡ screen_refusal s }
 {
     match s {
-        ScreenAnswer::Fix(_, _, _) => no_refusal(),
-        ScreenAnswer::Refused(refusal) => refusal,
+        Ok(_) => no_refusal(),
+        Err(refusal) => refusal,
     }
 }
 
 // The shifts of a screen answer.
-fn shift_floats(s: ScreenAnswer) -> [f64; 3]
+fn shift_floats(s: Result<Shifts, Refusal>) -> [f64; 3]
     ensures { result ≡ shifts_of s }
 {
     match s {
-        ScreenAnswer::Fix(a, b, c) => [a, b, c],
-        ScreenAnswer::Refused(_) => [0.0, 0.0, 0.0],
+        Ok(shifts) => [shifts.first, shifts.second, shifts.third],
+        Err(_) => [0.0, 0.0, 0.0],
     }
 }
 
