@@ -38,8 +38,8 @@ handed_on r = cond (in_table r.number) r (refusal 2 0)
 
 -- a lookup's answer for the screen
 unfoldable pub shown : Lookup → ℕ → ℕ → Result Shifts Refusal
-shown (lookup.Fix f) q np = Ok (record { first = shown_shift q np 0 f.first; second = shown_shift q np 1 f.second; third = shown_shift q np 2 f.third })
-shown (lookup.Err r) q np = Err (handed_on r)
+shown (Ok f) q np = Ok (record { first = shown_shift q np 0 f.first; second = shown_shift q np 1 f.second; third = shown_shift q np 2 f.third })
+shown (Err r) q np = Err (handed_on r)
 
 -- the same, with Q and NP judged first: 2 with place 0
 unfoldable pub answer_of : Lookup → ℕ → ℕ → Result Shifts Refusal

@@ -85,7 +85,7 @@ fn handed_on(r: Refusal) -> Refusal
 // the lookup's refusal with its place. A quantum above QUANTUM_MOST, parameters other than 1 to PARAMETERS_MOST, or a
 // refusal's number outside the table are refused by 2 with place 0.
 #[tactic(auto, unfolding(crate::specs::Screen::answer_of, crate::specs::Screen::shown, group::specs::Refusals::refuse_if))]
-pub fn screen_answer(found: fix::Lookup, quantum: u64, parameters: u64) -> Result<Shifts, Refusal>
+pub fn screen_answer(found: Result<fix::Fix, group::Refusal>, quantum: u64, parameters: u64) -> Result<Shifts, Refusal>
     ensures { result ≡ answer_of found quantum parameters }
 {
     if !admits(quantum, parameters) {
@@ -95,12 +95,12 @@ pub fn screen_answer(found: fix::Lookup, quantum: u64, parameters: u64) -> Resul
         });
     }
     match found {
-        fix::Ok(f) => Ok(Shifts {
+        Ok(f) => Ok(Shifts {
             first: shown_shift(parameters, 0, f.first, quantum),
             second: shown_shift(parameters, 1, f.second, quantum),
             third: shown_shift(parameters, 2, f.third, quantum),
         }),
-        fix::Err(r) => Err(handed_on(r)),
+        Err(r) => Err(handed_on(r)),
     }
 }
 
@@ -130,7 +130,7 @@ pub fn record_of(point: Point, answer: Result<Shifts, Refusal>) -> ScreenRecord
 // The point in degrees and its shifts as `screen_answer` has them; five times +0 after a refusal.
 pub fn screen_record(
     point: Point,
-    found: fix::Lookup,
+    found: Result<fix::Fix, group::Refusal>,
     quantum: u64,
     parameters: u64,
 ) -> ScreenRecord
