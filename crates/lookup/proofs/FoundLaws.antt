@@ -22,7 +22,7 @@ use Rattle.fix.specs.declared.Fix.{Fix}
 use Rattle.fix.specs.Answers.{result_in}
 use Rattle.fix.specs.Fix.{corner_some, result_at, fix_in}
 use Rattle.lookup.specs.Lookup.{point_fits, ends_early, offset_of, fix_at, looked_in, looked, LookupReady}
-use Rattle.std.specs.Prelude.{Ok, Err}
+use Rattle.std.specs.Prelude.{Result, Ok, Err}
 
 -- a refusal is no fix
 pub no_fix : (f : Fix) (r : Refusal) → Err r ≡ Ok f → ⊥
@@ -44,7 +44,7 @@ pub record Found (g : Group) (nodes : List ℤ) (p : Point) (t : ℤ) (f : Fix) 
   pub number : f.grid ≡ suc k
   pub results : (q : ℕ) → q < 3 → result_in f q ≡ result_at (offset_of (grid_at g k) g.parameters p) nodes (factor_of g.function g.functions t) q
 
-same_fix : (e f : Fix) → Ok e ≡ Ok f → e ≡ f
+same_fix : (e f : Fix) → ◌≡◌ {A = Result Fix Refusal} (Ok e) (Ok f) → e ≡ f
 same_fix e f h = cc
 
 each : (f : Fix) (r : ℕ → ℤ) (n : ℕ) → ◌≡◌ {A = Fix} (record { grid = n; first = r 0; second = r 1; third = r 2 }) f → (q : ℕ) → q < 3 → result_in f q ≡ r q

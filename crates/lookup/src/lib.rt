@@ -286,11 +286,8 @@ pub fn look_accepted(
             place: 0,
         });
     }
-    let verdict = judge_nodes(words, frames, nodes.len());
-    match verdict {
-        Err(r) => Err(r),
-        Ok(()) => look_in(words, sides, ranks, frames, nodes, point, day),
-    }
+    judge_nodes(words, frames, nodes.len())?;
+    look_in(words, sides, ranks, frames, nodes, point, day)
 }
 
 // What a group handed over as a list of numbers says of a point on a day, as `lookup` says.
@@ -300,11 +297,8 @@ pub fn look_words(words: &[i64; GROUP_WORDS], nodes: &[i32], point: Point, day: 
     let mut sides = [0u64; flat::SIDES];
     let mut ranks = [0u64; group::GRIDS_MOST];
     let mut frames = [0u64; flat::FRAMES];
-    let verdict = judge::judge_into(words, &mut sides, &mut ranks, &mut frames);
-    match verdict {
-        Err(r) => Err(r),
-        Ok(()) => look_accepted(words, &sides, &ranks, &frames, nodes, point, day),
-    }
+    judge::judge_into(words, &mut sides, &mut ranks, &mut frames)?;
+    look_accepted(words, &sides, &ranks, &frames, nodes, point, day)
 }
 
 // What a group says of a point on a day: the number of the chosen grid and its results in steps, or the first refusal of 2 to 5
