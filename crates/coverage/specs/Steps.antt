@@ -9,7 +9,12 @@ use Rattle.region.specs.First.{first_in}
 use Rattle.region.specs.Earlier.{earlier}
 use Rattle.region.specs.declared.Bounds.{Bounds}
 use Rattle.region.specs.declared.Spot.{Spot}
-use Rattle.coverage.specs.Rectangles.{Rectangles, SoundRects, own_holds, first_chosen}
+use Rattle.coverage.specs.declared.Search.{Search}
+use Rattle.coverage.specs.Rectangles.{Rectangles, rectangles, SoundRects, own_holds, first_chosen}
+
+-- the grids that a search goes by
+abbrev pub searched : Search → Rectangles
+searched s = rectangles s.rects.now s.owners.now s.ranks.now
 
 -- rectangle r is one of a blocker of the grid numbered k, from 1, or of none where k is 0, and holds the point
 abbrev pub block_holds : Rectangles → ℕ → ℕ → ℕ → ℕ → Bool
