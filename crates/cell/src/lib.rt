@@ -1,10 +1,11 @@
 // The cell of a point along an axis, and the value of a cell at a point: the weighted mean of its used corners.
 #![tactic(auto)]
 
-ghost use Rattle.std.specs.Prelude.{◌≡◌, true, ◌^◌, ◌/◌, ◌%◌, ◌≤◌, ◌<◌, pos, ◌+ℤ◌, nat_abs};
+ghost use Rattle.std.specs.Prelude.{◌≡◌, true, ◌^◌, ◌/◌, ◌%◌, ◌≤◌, ◌<◌, pos, ◌+ℤ◌, nat_abs, ◌&&◌};
+ghost use Rattle.numbers.specs.Order.{within};
 ghost use Rattle.group.specs.Numbers.{nodes_least, is_mark};
 ghost use Rattle.pair.specs.Pair.{pair_value};
-ghost use Rattle.cell.specs.Cell.{cell_along, weights_of, used_some, weighted_sum, value_of};
+ghost use Rattle.cell.specs.Cell.{cell_along, weights_of, used, used_some, weighted_sum, value_of};
 ghost use Rattle.cell.specs.Sizes.{Distances, Weighed};
 ghost use Rattle.cell.specs.TwoParts.{parts_of};
 ghost use Rattle.cell.specs.Unsigned.{corner_shift, near_most, near_total, corners_near, summed, blended};
@@ -26,7 +27,7 @@ const NEAR_LEAST: i32 = -NEAR_MOST;
 const NEAR_SHIFT: u64 = NEAR_MOST as u64;
 
 // The greatest total for it: one more, and a sum might not fit 64 bits.
-pub const NEAR_TOTAL: u64 = 18446744073709551615 / (2 * NEAR_SHIFT);
+pub const NEAR_TOTAL: u64 = u64::MAX / (2 * NEAR_SHIFT);
 
 // The cell of a point along one axis: its index, from 0, and the distance from its node of lower index.
 #[derive(Clone, Copy)]
@@ -62,25 +63,21 @@ pub struct TwoParts {
 }
 
 // The cell of a point that lies a distance from node 0, on an axis with this spacing size and count of nodes.
+#[tactic(auto, unfolding(crate::specs::Cell::cell_along, crate::specs::Cell::cell_index))]
 pub fn cell_along(distance: u64, spacing: u64, count: u64) -> Along
     requires { (0 < spacing) × (nodes_least ≤ count) }
     ensures { result ≡ cell_along distance spacing count }
 {
     let last = count - 2;
-    let whole = distance / spacing;
-    if whole <= last {
-        return Along {
-            index: whole,
-            rest: distance - whole * spacing,
-        };
-    }
+    let index = (distance / spacing).min(last);
     Along {
-        index: last,
-        rest: distance - last * spacing,
+        index,
+        rest: distance - index * spacing,
     }
 }
 
 // The weights at the distances fx, fy from a cell's node of lower indices, with the spacing sizes sx, sy.
+#[tactic(auto, using(crate::proofs::WeightLaws::weighed), unfolding(crate::specs::Cell::weights_of))]
 pub fn weights_at(sx: u64, sy: u64, fx: u64, fy: u64) -> Weights
     requires { Distances sx sy fx fy }
     ensures { result ≡ weights_of sx sy fx fy }
@@ -96,14 +93,19 @@ pub fn weights_at(sx: u64, sy: u64, fx: u64, fy: u64) -> Weights
     }
 }
 
-// Whether a used corner, one whose weight is not 0, holds the no-data mark.
+// Whether a corner of this weight is used, as one whose weight is not 0 is, and holds the no-data mark.
+fn marked(weight: u64, value: i32) -> bool
+    ensures { result ≡ (used weight && is_mark value) }
+{
+    (0 < weight) & (value == MARK)
+}
+
+// Whether a used corner holds the no-data mark.
+#[tactic(auto, unfolding(crate::specs::Cell::used_some))]
 pub fn used_marked(w: Weights, v: Corners) -> bool
     ensures { result ≡ used_some is_mark w v }
 {
-    ((0 < w.w00) & ((MARK <= v.v00) & (v.v00 <= MARK)))
-        | ((0 < w.w10) & ((MARK <= v.v10) & (v.v10 <= MARK)))
-        | ((0 < w.w01) & ((MARK <= v.v01) & (v.v01 <= MARK)))
-        | ((0 < w.w11) & ((MARK <= v.v11) & (v.v11 <= MARK)))
+    marked(w.w00, v.v00) | marked(w.w10, v.v10) | marked(w.w01, v.v01) | marked(w.w11, v.v11)
 }
 
 // What a corner holds, shifted.
@@ -114,6 +116,7 @@ fn shifted(v: i32) -> u32
 }
 
 // The weighted sum of four numbers over the total, rounded, where the sum fits one word.
+#[tactic(auto, unfolding(crate::specs::Unsigned::blended))]
 fn blend_one_word(w: Weights, a: u64, b: u64, c: u64, d: u64) -> u64
     requires { summed w a b c d < 2 ^ 64 }
     ensures { result ≡ blended w a b c d }
@@ -128,8 +131,7 @@ fn blend_two_words(w: Weights, a: u32, b: u32, c: u32, d: u32) -> u64
     ensures { (result ≡ blended w a b c d) × (result < 2 ^ 32) }
 {
     let sum = pair::sum_of_products(w.w00, a, w.w10, b, w.w01, c, w.w11, d);
-    let q = pair::nearest_pair(sum, w.total);
-    q.low
+    pair::nearest_pair(sum, w.total).low
 }
 
 // The value of a cell whatever its total and its corners, in steps: in two words.
@@ -173,14 +175,19 @@ pub fn weighted_sum(w: Weights, v: Corners) -> TwoParts
     parted(raised, w.total)
 }
 
-// Whether every corner, used or not, lies so near 0 that the one-word way can take it. None then holds the mark.
+// Whether a corner lies so near 0 that the one-word way can take it.
+fn is_near(v: i32) -> bool
+    ensures { result ≡ within near_most v }
+{
+    (NEAR_LEAST <= v) & (v <= NEAR_MOST)
+}
+
+// Whether every corner, used or not, lies so near 0. None then holds the mark.
+#[tactic(auto, unfolding(crate::specs::Unsigned::corners_near))]
 pub fn all_near(v: Corners) -> bool
     ensures { result ≡ corners_near v }
 {
-    ((NEAR_LEAST <= v.v00) & (v.v00 <= NEAR_MOST))
-        & ((NEAR_LEAST <= v.v10) & (v.v10 <= NEAR_MOST))
-        & ((NEAR_LEAST <= v.v01) & (v.v01 <= NEAR_MOST))
-        & ((NEAR_LEAST <= v.v11) & (v.v11 <= NEAR_MOST))
+    is_near(v.v00) & is_near(v.v10) & is_near(v.v01) & is_near(v.v11)
 }
 
 // What a corner near 0 holds, raised so that it is not below 0.

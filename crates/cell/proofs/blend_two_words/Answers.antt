@@ -12,7 +12,7 @@ pub returns : goal.returns
 unfolding blended
 returns c =
     let a = c.args in let f = c.ranges in
-    let e = c.nearest_pair-q.ensures ∙ ap (λ (n : ℕ). nearest n a.w.total) c.sum_of_products-sum.ensures in
+    let e = c.nearest_pair.ensures ∙ ap (λ (n : ℕ). nearest n a.w.total) c.sum_of_products-sum.ensures in
     let m = blend_half_word c.requires f.a f.b f.c f.d in
-    let r = pair_low c.nearest_pair-q.result (omega arith) ∙ e in
+    let r = pair_low c.nearest_pair.result (omega arith) ∙ e in
     (r, omega arith)
