@@ -1,14 +1,12 @@
 -- What the verdict of a call for many points tells, what it leaves, and that a record that was stored is answered as it was.
-use Prim.Native.Nat.{ℕ, ◌≤◌, ◌<◌}
+use Prim.Native.Nat.{ℕ}
 use mathlib.Core.Path.{◌≡◌, refl, sym, ap, ◌∙◌}
 use mathlib.Core.Bool.{Bool, true, false, not}
 use mathlib.Core.List.{List, ◌++◌, map, append-nil}
-use native.Mathlib.Nat.{not-suc-le-zero}
-use native.Mathlib.Omega.{arith}
 use borrow.Author.Tests.{eqb-true, not-false}
 use lib.Dec.{eqb}
 use lib.IntN.{ℤ}
-use lib.ListN.{length, take, drop, length-map}
+use lib.ListN.{length, drop, length-map}
 use lib.Seq.{take-length, drop-length}
 use Rattle.numbers.specs.First.{some}
 use Rattle.group.specs.declared.Group.{Group}
@@ -23,8 +21,9 @@ use Rattle.judge.proofs.StoredLaws.{stored_judged, stored_back, stored_told}
 use Rattle.lookup.specs.declared.Answer.{Answer}
 use Rattle.lookup.specs.Lookup.{ends_early, nodes_judged}
 use Rattle.lookup.proofs.StageLaws.{nodes_accepted}
+use Rattle.exercise.specs.declared.Tables.{Tables}
 use Rattle.exercise.specs.Exercise.{many_judged, many_verdict, answer_at, results_after, columns_agree, column_numbers, columns_after}
-use Rattle.exercise.specs.Tables.{Tabled, CallReady, counted}
+use Rattle.exercise.specs.Tables.{Tabled, CallReady}
 use Rattle.exercise.proofs.FilledLaws.{filled}
 use Rattle.exercise.proofs.StageLaws.{many_group}
 use Rattle.std.specs.Prelude.{Result, Ok, Err, ⊤}
@@ -54,36 +53,36 @@ module _ (g : Group) (nodes : ℕ) (agree : Bool) where
     pub call_ends : some (ends_early g nodes) g.grids ≡ false
     call_ends = nodes_accepted g nodes past_lengths.1
 
-    pub call_ready : (tables : List ℕ) → Tabled g tables → CallReady g nodes tables
+    pub call_ready : (tables : Tables) → Tabled g tables → CallReady g nodes tables
     call_ready tables t = record { accepted = call_judged; ends = call_ends; tabled = t }
 
--- ---- how many points are answered
+-- ---- what a call leaves: all points answered where it is accepted, and else the list as it was
 
-pub counted_some : (v : Result ⊤ Refusal) (n i : ℕ) → i < counted v n → v ≡ Ok tt
-counted_some (Ok tt) n i h = refl
-counted_some (Err r) n i h = absurd (not-suc-le-zero h)
+pub filled_lent : {A : Type 0} (new old : List A) (v : Result ⊤ Refusal) → v ≡ Ok tt → length new ≡ length old
+    → filled new old (length new) ≡ lent_after (verdict_refusal v) new old
+filled_lent new old v e l =
+    (λ i. take-length new i ++ drop (l i) old) ∙ (λ i. new ++ drop-length old i) ∙ append-nil new
+    ∙ sym (ap (λ (w : Result ⊤ Refusal). lent_after (verdict_refusal w) new old) e ∙ lent_new no_refusal new old refl)
 
-pub counted_most : (v : Result ⊤ Refusal) (n : ℕ) → counted v n ≤ n
-counted_most (Ok tt) n = omega arith
-counted_most (Err r) n = omega arith
+pub refused_lent : {A : Type 0} (new old : List A) (v : Result ⊤ Refusal) (r : Refusal) → v ≡ Err r → Told (v ≡ Ok tt) (verdict_refusal v)
+    → old ≡ lent_after (verdict_refusal v) new old
+refused_lent new old v r e t = sym (lent_kept (verdict_refusal v) new old (λ z. no_acceptance r (sym e ∙ t.zero z)))
 
--- what a call leaves that answers all points, or none after a refusal
-module _ {A : Type 0} (new old : List A) (n : ℕ) where
-  pub filled_lent : (v : Result ⊤ Refusal) → Told (v ≡ Ok tt) (verdict_refusal v) → length new ≡ n → (v ≡ Ok tt → n ≡ length old)
-      → filled new old (counted v n) ≡ lent_after (verdict_refusal v) new old
-  filled_lent (Ok tt) t l h =
-      (λ i. take (sym l i) new ++ drop (h refl i) old)
-      ∙ (λ i. take-length new i ++ drop-length old i) ∙ append-nil new ∙ sym (lent_new no_refusal new old refl)
-  filled_lent (Err r) t l h = sym (lent_kept r new old (λ z. no_acceptance r (t.zero z)))
+module _ (g : Group) (nodes : List ℤ) (points : List Position) (results : List Answer) where
+  abbrev agree : Bool
+  agree = eqb (length points) (length results)
 
-pub results_all : (g : Group) (nodes : List ℤ) (points : List Position) (results : List Answer)
-    → let v = many_verdict g (length nodes) (eqb (length points) (length results)) in
-    filled (map (answer_at g nodes) points) results (counted v (length points)) ≡ results_after g nodes points results
-unfolding results_after
-results_all g nodes points results =
-    let agree = eqb (length points) (length results) in
-    filled_lent (map (answer_at g nodes) points) results (length points) (many_verdict g (length nodes) agree) (many_told g (length nodes) agree)
-    (length-map points (answer_at g nodes)) (λ e. eqb-true (length points) (length results) (call_agree g (length nodes) agree e))
+  pub results_all : many_verdict g (length nodes) agree ≡ Ok tt → filled (map (answer_at g nodes) points) results (length points) ≡ results_after g nodes points results
+  unfolding results_after
+  results_all e =
+      let l = length-map points (answer_at g nodes) in
+      ap (filled (map (answer_at g nodes) points) results) (sym l)
+      ∙ filled_lent (map (answer_at g nodes) points) results (many_verdict g (length nodes) agree) e
+      (l ∙ eqb-true (length points) (length results) (call_agree g (length nodes) agree e))
+
+  pub results_kept : (r : Refusal) → many_verdict g (length nodes) agree ≡ Err r → results ≡ results_after g nodes points results
+  unfolding results_after
+  results_kept r e = refused_lent (map (answer_at g nodes) points) results (many_verdict g (length nodes) agree) r e (many_told g (length nodes) agree)
 
 -- ---- a record that was stored
 

@@ -3,7 +3,6 @@ pub mod ScaleLaws
 pub mod TableLaws
 pub mod StageLaws
 pub mod FilledLaws
-pub mod WalkLaws
 pub mod CallLaws
 pub mod SmallLaws
 pub mod ColumnLaws

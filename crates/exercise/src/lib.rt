@@ -6,9 +6,11 @@ ghost use Rattle.std.proofs.lemmas.List.Edits.{sets};
 ghost use Rattle.abi.specs.Abi.{group_of_words};
 ghost use Rattle.judge.specs.Judge.{judged};
 ghost use Rattle.lookup.specs.Lookup.{looked};
+ghost use Rattle.flat.specs.Lists.{Framed};
+ghost use Rattle.group.specs.Numbers.{grids_most};
 ghost use Rattle.lookup.specs.Flat.{Laid};
 ghost use Rattle.exercise.specs.Exercise.{many_verdict, many_judged, answer_at, results_after, columns_agree, columns_after, answer_words};
-ghost use Rattle.exercise.specs.Tables.{table_words, frames_in, Tabled, TablesReady, CallReady, scale_for, no_scale, counted, stored_numbers};
+ghost use Rattle.exercise.specs.Tables.{Tabled, CallJudged, CallReady, scale_for, no_scale, stored_numbers};
 
 use abi::GROUP_WORDS;
 use fix::Fix;
@@ -16,20 +18,19 @@ use flat::ROWS;
 use group::{GRIDS_MOST, Group, Latitude, Longitude, Point, Position, Refusal};
 use lookup::Answer;
 
-// Where the parts of the tables begin, and how many numbers they have: the rows by rank, their owners and shifts, the frames of all grids
-// and the count of rows.
-pub const OWNERS_FROM: usize = ROWS * 4;
-
-pub const SHIFTS_FROM: usize = OWNERS_FROM + ROWS;
-
-pub const FRAMES_FROM: usize = SHIFTS_FROM + ROWS;
-
-pub const COUNT_AT: usize = FRAMES_FROM + flat::FRAMES;
-
-pub const TABLE_WORDS: usize = COUNT_AT + 1;
-
 // The numbers of an answer in a list of them.
 const ANSWER_WORDS: usize = 6;
+
+// What a call for many points looks each of them up by, made once: the rows by rank with their owners and shifts, how many there are, and
+// the frames of all grids.
+#[derive(Clone, Copy)]
+pub struct Tables {
+    pub rows: [u64; ROWS * 4],
+    pub owners: [u64; ROWS],
+    pub shifts: [u64; ROWS],
+    pub count: usize,
+    pub frames: [u64; flat::FRAMES],
+}
 
 // A day outside the limit, which stands for none.
 const NO_DAY: i64 = group::DAY_MOST + 1;
@@ -60,67 +61,48 @@ pub fn scale_on(words: &[i64; GROUP_WORDS], before: Scale, day: i64) -> Scale
         return before;
     }
     if !lookup::day_fits(day) {
-        return Scale {
-            day: day,
-            factor: 0,
-        };
+        return Scale { day, factor: 0 };
     }
-    let factor = lookup::factor_on(words, abi::function_count(words), day);
     Scale {
-        day: day,
-        factor: factor,
+        day,
+        factor: lookup::factor_on(words, abi::function_count(words), day),
     }
 }
 
-// Copies numbers to the front of a list.
-fn copy_front(numbers: &[u64], list: &mut [u64])
-    requires { length numbers.now ≤ length list.old }
-    ensures { list.new ≡ sets list.old 0 numbers.now }
-{
-    let mut i = 0;
-    while i < numbers.len() {
-        list[i] = numbers[i];
-        i += 1;
-    }
-}
-
-// Fills the tables of a group, whose frames stand in them, from its other lists.
-fn fill_tables(words: &[i64; GROUP_WORDS], sides: &[u64], ranks: &[u64], tables: &mut [u64])
-    requires { (judged (group_of_words words.now) ≡ Ok tt) × (length tables.old ≡ table_words)
-        × Laid (group_of_words words.now) sides.now ranks.now (frames_in tables.old) }
-    ensures { Tabled (group_of_words words.now) tables.new }
-{
-    let mut owners = [0u64; ROWS];
-    let mut shifts = [0u64; ROWS];
-    let n = abi::grid_count(words) as usize;
-    let from = OWNERS_FROM;
-    let middle = SHIFTS_FROM;
-    let to = FRAMES_FROM;
-    let count = flat::rank_rows(
-        sides,
-        &ranks[..n],
-        &mut tables[..from],
-        &mut owners,
-        &mut shifts,
-    );
-    copy_front(&owners, &mut tables[from..middle]);
-    copy_front(&shifts, &mut tables[middle..to]);
-    tables[COUNT_AT] = count as u64;
-}
-
-// Refusals 12, unless the lengths agree, and 13 of a call for many points in an accepted group; if there is none, the tables are filled.
-fn judge_rest(
+// The tables of an accepted group, from its lists.
+fn tables_of(
     words: &[i64; GROUP_WORDS],
     sides: &[u64],
     ranks: &[u64],
+    frames: [u64; flat::FRAMES],
+) -> Tables
+    requires { (judged (group_of_words words.now) ≡ Ok tt) × Laid (group_of_words words.now) sides.now ranks.now frames }
+    ensures { Tabled (group_of_words words.now) result }
+{
+    let mut rows = [0u64; ROWS * 4];
+    let mut owners = [0u64; ROWS];
+    let mut shifts = [0u64; ROWS];
+    let n = abi::grid_count(words) as usize;
+    let count = flat::rank_rows(sides, &ranks[..n], &mut rows, &mut owners, &mut shifts);
+    Tables {
+        rows,
+        owners,
+        shifts,
+        count,
+        frames,
+    }
+}
+
+// Refusals 12, unless the lengths agree, and 13 of a call for many points in an accepted group.
+fn judge_rest(
+    words: &[i64; GROUP_WORDS],
+    frames: &[u64],
     nodes: usize,
     agree: bool,
-    tables: &mut [u64],
 ) -> Result<(), Refusal>
-    requires { (judged (group_of_words words.now) ≡ Ok tt) × (length tables.old ≡ table_words)
-        × Laid (group_of_words words.now) sides.now ranks.now (frames_in tables.old) }
-    ensures { (result ≡ many_judged (group_of_words words.now) nodes agree)
-        × TablesReady result (group_of_words words.now) tables.new }
+    requires { (judged (group_of_words words.now) ≡ Ok tt) × Framed (group_of_words words.now) (group_of_words words.now).grids frames.now
+        × (grids_most * 7 ≤ length frames.now) }
+    ensures { result ≡ many_judged (group_of_words words.now) nodes agree }
 {
     if !agree {
         return Err(Refusal {
@@ -128,67 +110,25 @@ fn judge_rest(
             place: 0,
         });
     }
-    let from = FRAMES_FROM;
-    let to = COUNT_AT;
-    let verdict = lookup::judge_nodes(words, &tables[from..to], nodes);
-    match verdict {
-        Err(r) => Err(r),
-        Ok(()) => {
-            fill_tables(words, sides, ranks, tables);
-            Ok(())
-        }
-    }
+    lookup::judge_nodes(words, frames, nodes)
 }
 
-// Refusals 2 to 5, 12 and 13 of a call for many points; if there is none, the tables are filled.
-fn judge_tables(
-    words: &[i64; GROUP_WORDS],
-    nodes: usize,
-    agree: bool,
-    tables: &mut [u64],
-) -> Result<(), Refusal>
-    requires { length tables.old ≡ table_words }
-    ensures { (result ≡ many_verdict (group_of_words words.now) nodes agree)
-        × TablesReady result (group_of_words words.now) tables.new }
+// Refusals 2 to 5, 12 and 13 of a call for many points, or the tables by which it is answered.
+pub fn judge_call(words: &[i64; GROUP_WORDS], nodes: usize, agree: bool) -> Result<Tables, Refusal>
+    ensures { CallJudged (group_of_words words.now) nodes agree result }
 {
     let mut sides = [0u64; flat::SIDES];
     let mut ranks = [0u64; GRIDS_MOST];
-    let from = FRAMES_FROM;
-    let to = COUNT_AT;
-    let verdict = judge::judge_into(words, &mut sides, &mut ranks, &mut tables[from..to]);
-    match verdict {
-        Err(r) => Err(r),
-        Ok(()) => judge_rest(words, &sides, &ranks, nodes, agree, tables),
-    }
-}
-
-// The same, over tables of their whole length.
-pub fn judge_call(
-    words: &[i64; GROUP_WORDS],
-    nodes: usize,
-    agree: bool,
-    tables: &mut [u64; TABLE_WORDS],
-) -> Result<(), Refusal>
-    ensures { (result ≡ many_verdict (group_of_words words.now) nodes agree)
-        × TablesReady result (group_of_words words.now) tables.new }
-{
-    judge_tables(words, nodes, agree, tables)
-}
-
-// How many points a call answers: all, or none after a refusal.
-fn counted(verdict: Result<(), Refusal>, points: usize) -> usize
-    ensures { result ≡ counted verdict points }
-{
-    match verdict {
-        Ok(()) => points,
-        Err(_) => 0,
-    }
+    let mut frames = [0u64; flat::FRAMES];
+    judge::judge_into(words, &mut sides, &mut ranks, &mut frames)?;
+    judge_rest(words, &frames, nodes, agree)?;
+    Ok(tables_of(words, &sides, &ranks, frames))
 }
 
 // The lookup of a point on the day of a scale, by the tables of an accepted call: refusal 6, 9, 7 or 8, or the fix.
 fn look_ready(
     words: &[i64; GROUP_WORDS],
-    tables: &[u64],
+    tables: &Tables,
     nodes: &[i32],
     scale: Scale,
     point: Point,
@@ -210,17 +150,12 @@ fn look_ready(
     }
     let x = extent::lon_from_least(point.lon);
     let y = extent::lat_from_least(point.lat);
-    let owners = OWNERS_FROM;
-    let shifts = SHIFTS_FROM;
-    let frames = FRAMES_FROM;
-    let end = COUNT_AT;
-    let count = tables[COUNT_AT] as usize;
     lookup::look_ranked(
-        &tables[..owners],
-        &tables[owners..shifts],
-        &tables[shifts..frames],
-        &tables[frames..end],
-        count,
+        &tables.rows,
+        &tables.owners,
+        &tables.shifts,
+        &tables.frames,
+        tables.count,
         abi::parameter_count(words),
         nodes,
         scale.factor,
@@ -232,7 +167,7 @@ fn look_ready(
 // The answer at a position, whose day has this scale, by the tables of an accepted call.
 fn look_one(
     words: &[i64; GROUP_WORDS],
-    tables: &[u64; TABLE_WORDS],
+    tables: &Tables,
     nodes: &[i32],
     scale: Scale,
     position: Position,
@@ -240,9 +175,10 @@ fn look_one(
     requires { CallReady (group_of_words words.now) (length nodes.now) tables.now × (scale ≡ scale_for (group_of_words words.now) position.day) }
     ensures { result ≡ answer_at (group_of_words words.now) nodes.now position }
 {
-    let lon = position.lon;
-    let lat = position.lat;
-    let point = Point { lon: lon, lat: lat };
+    let point = Point {
+        lon: position.lon,
+        lat: position.lat,
+    };
     lookup::answer_of(look_ready(words, tables, nodes, scale, point))
 }
 
@@ -257,23 +193,13 @@ pub fn many_words(
         (eqb (length points.now) (length results.old)))
         × (results.new ≡ results_after (group_of_words words.now) nodes.now points.now results.old) }
 {
-    let mut tables = [0u64; TABLE_WORDS];
-    let verdict = judge_call(
-        words,
-        nodes.len(),
-        points.len() == results.len(),
-        &mut tables,
-    );
-    let count = counted(verdict, points.len());
+    let tables = judge_call(words, nodes.len(), points.len() == results.len())?;
     let mut scale = no_scale();
-    let mut i = 0;
-    while i < count {
-        let p = points[i];
+    for (i, p) in points.iter().enumerate() {
         scale = scale_on(words, scale, p.day);
-        results[i] = look_one(words, &tables, nodes, scale, p);
-        i += 1;
+        results[i] = look_one(words, &tables, nodes, scale, *p);
     }
-    verdict
+    Ok(())
 }
 
 // Looks every point of a list up, each on its own day: result k becomes what the single lookup of point k answers, refusals
@@ -330,25 +256,20 @@ pub fn columns_words(
         × (results.new ≡ columns_after (group_of_words words.now) nodes.now
         lons.now lats.now days.now results.old) }
 {
-    let mut tables = [0u64; TABLE_WORDS];
     let agree = columns_agree(lons.len(), lats.len(), days.len(), results.len());
-    let verdict = judge_call(words, nodes.len(), agree, &mut tables);
-    let count = counted(verdict, lons.len());
+    let tables = judge_call(words, nodes.len(), agree)?;
     let mut scale = no_scale();
-    let mut i = 0;
-    while i < count {
+    for i in 0..lons.len() {
         let day = days[i];
         let p = Position {
             lon: Longitude(lons[i]),
             lat: Latitude(lats[i]),
-            day: day,
+            day,
         };
         scale = scale_on(words, scale, day);
-        let a = look_one(words, &tables, nodes, scale, p);
-        store_answer(results, i, a);
-        i += 1;
+        store_answer(results, i, look_one(words, &tables, nodes, scale, p));
     }
-    verdict
+    Ok(())
 }
 
 // The call `lookup_many` over plain numbers: the points as three columns, longitudes and latitudes in mas and days, and the results as

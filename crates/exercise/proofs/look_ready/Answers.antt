@@ -8,7 +8,6 @@ use lib.ListN.{length}
 use mir.Syntax.{w64}
 use mir.Val.{SFits, to_z, of_z}
 use mir.ValLaws.{to_z-of_z}
-use Rattle.numbers.specs.Lists.{at}
 use Rattle.group.specs.declared.Group.{Group}
 use Rattle.group.specs.Numbers.{day_fits, factor_most}
 use Rattle.abi.specs.Abi.{group_of_words}
@@ -20,9 +19,8 @@ use Rattle.lookup.specs.Flat.{fix_ranked}
 use Rattle.lookup.proofs.StageLaws.{day_told, looked_accepted, looked_6, looked_9, looked_on}
 use Rattle.lookup.proofs.BridgeLaws.{ranked_laid, ranked_fix}
 use Rattle.exercise.specs.declared.Scale.{Scale}
-use Rattle.exercise.specs.Tables.{count_index, rows_in, owners_in, shifts_in, frames_in}
 use Rattle.exercise.proofs.ScaleLaws.{scale_in}
-use Rattle.exercise.proofs.TableLaws.{rows_length, owners_length, shifts_length, frames_length, few_rows}
+use Rattle.exercise.proofs.TableLaws.{few_rows}
 use borrow.Author.Rules.{rules}
 use Rattle.exercise.proofs.look_ready.Goals as goal
 
@@ -44,12 +42,6 @@ returns-then-not-day_fits c =
     (sym c.point_fits.ensures ∙ c.if-not-point_fits.false)
     (day_told {t = a.scale.day} (search rules) c.day_fits.ensures ∙ c.if-not-day_fits.true))
 
-pub bounds-tables-1600 : goal.bounds-tables-1600
-bounds-tables-1600 c = omega (arith, c.requires.0.tabled.long)
-
-pub slice_bounds-look_ranked-end : goal.slice_bounds-look_ranked-end
-slice_bounds-look_ranked-end c = sym (rows_length c.args.tables.now c.requires.0.tabled.long)
-
 pub look_ranked-requires : goal.look_ranked-requires
 look_ranked-requires c =
     let g : Group = group_of_words c.args.words.now in
@@ -67,9 +59,9 @@ look_ranked-requires c =
     ∙ ap (λ (s : Scale). s.factor) (c.requires.1 ∙ scale_in (g) c.args.scale.day day) in
     let a = c.args in let t = c.requires.0.tabled in let l = a.tables.now in let e = c.requires.0.accepted in let m = few_rows (g) l e t in (
       rw c.parameter_count.ensures
-          (ranked_laid (g) a.nodes.now a.point a.scale.day (ready) t.sides t.ranks (frames_in l) t.flat c.lat_from_least-y.ensures t.room
-          (rows_in l) (owners_in l) (shifts_in l) (at l count_index) t.rows c.lon_from_least-x.ensures
-          (omega (arith, rows_length l t.long)) (omega (arith, owners_length l t.long)) (omega (arith, shifts_length l t.long)) (omega (arith, frames_length l t.long, (accepted_head (g) e).grids))),
+          (ranked_laid (g) a.nodes.now a.point a.scale.day (ready) t.sides t.ranks l.frames t.flat c.lat_from_least-y.ensures t.room
+          l.rows l.owners l.shifts l.count t.rows c.lon_from_least-x.ensures
+          (omega (arith, m)) (omega (arith, m)) (omega (arith, m)) (omega (arith, (accepted_head (g) e).grids))),
       subst (λ (z : ℤ). nat_abs z ≤ factor_most) (sym (factor))
           (factor_bound (g).function a.scale.day (g).functions (accepted_head (g) e).functions (accepted (g) e).function),
     )
@@ -92,7 +84,7 @@ returns c =
     let a = c.args in let t = c.requires.0.tabled in let l = a.tables.now in
     let x = c.lon_from_least-x.result in let y = c.lat_from_least-y.result in
     c.look_ranked.ensures
-    ∙ (λ i. fix_ranked (rows_in l) (owners_in l) (shifts_in l) (frames_in l) (at l count_index) (c.parameter_count.ensures i) a.nodes.now (to_z w64 (of_z w64 a.scale.factor)) x y)
-    ∙ ranked_fix (g) a.nodes.now a.point a.scale.day (ready) t.sides t.ranks (frames_in l) t.flat c.lat_from_least-y.ensures t.room
-    (rows_in l) (owners_in l) (shifts_in l) (at l count_index) t.rows c.lon_from_least-x.ensures (factor)
+    ∙ (λ i. fix_ranked l.rows l.owners l.shifts l.frames l.count (c.parameter_count.ensures i) a.nodes.now (to_z w64 (of_z w64 a.scale.factor)) x y)
+    ∙ ranked_fix (g) a.nodes.now a.point a.scale.day (ready) t.sides t.ranks l.frames t.flat c.lat_from_least-y.ensures t.room
+    l.rows l.owners l.shifts l.count t.rows c.lon_from_least-x.ensures (factor)
     ∙ sym (looked_accepted (g) a.nodes.now a.point a.scale.day c.requires.0.accepted ∙ looked_on (g) a.nodes.now a.point a.scale.day (ready))

@@ -1,5 +1,4 @@
 -- `many_words`: the first i results are the answers at the first i points, and the scale is that of its day.
-use Prim.Native.Nat.{◌-◌, ◌≤◌}
 use mathlib.Core.Path.{◌≡◌}
 use mathlib.Core.List.{map}
 use Rattle.abi.specs.Abi.{group_of_words}
@@ -11,10 +10,6 @@ use Rattle.exercise.proofs.many_words.Given as goal
 abbrev pub invariant-loop-i : goal.invariant-loop-i
 invariant-loop-i l =
     record {
-      up_to : l.i ≤ l.count;
       written : l.results ≡ filled (map (answer_at (group_of_words l.words) l.nodes) l.points) l.initial.results l.i;
       scaled : l.scale ≡ scale_for (group_of_words l.words) l.scale.day;
     }
-
-abbrev pub decreases-loop-i : goal.decreases-loop-i
-decreases-loop-i l = l.count - l.i

@@ -28,8 +28,8 @@ returns-then-not-day_fits c =
     (λ i. record { day = to_z-of_z w64 c.args.day c.ranges.day i; factor = pos 0 })
     ∙ sym (scale_out (group_of_words c.args.words.now) c.args.day (day_told c.ranges.day c.day_fits.ensures ∙ c.if-not-day_fits.true))
 
-pub factor_on-factor-requires : goal.factor_on-factor-requires
-factor_on-factor-requires c =
+pub factor_on-requires : goal.factor_on-requires
+factor_on-requires c =
     let ns = c.args.words.now in let e = c.function_count.ensures in (
       (search rules),
       omega (arith, (accepted_head (group_of_words ns) c.requires.0).functions, e),
@@ -42,7 +42,7 @@ returns c =
     let ns = c.args.words.now in
     let day = to_z-of_z w64 c.args.day c.ranges.day in
     let factor =
-    to_z-of_z w64 c.factor_on-factor.result (record { sfits = c.factor_on-factor.type_inv }) ∙ c.factor_on-factor.ensures
+    to_z-of_z w64 c.factor_on.result (record { sfits = c.factor_on.type_inv }) ∙ c.factor_on.ensures
     ∙ (λ i. factor_in (function_rows ns) (c.function_count.ensures i) (day i)) ∙ rows_factor ns c.requires.0 c.args.day in
     (λ i. record { day = day i; factor = factor i })
     ∙ sym (scale_in (group_of_words ns) c.args.day (day_told c.ranges.day c.day_fits.ensures ∙ c.if-not-day_fits.false))
