@@ -172,15 +172,13 @@ fn minus(m: u64) -> i64
 pub fn read_number(s: &[u8]) -> Option<i64>
     ensures { result ≡ number_of (read_int s.now) }
 {
-    let [b'-', digits @ ..] = s else {
-        let m = read_natural(s)?;
-        return Some(plus(m));
-    };
-    let m = read_natural(digits)?;
-    if m == 0 {
-        return None;
+    match s {
+        [b'-', digits @ ..] => match read_natural(digits)? {
+            0 => None,
+            m => Some(minus(m)),
+        },
+        _ => Some(plus(read_natural(s)?)),
     }
-    Some(minus(m))
 }
 
 // Whether s holds the bytes of w.
