@@ -9,6 +9,9 @@ ghost use Rattle.pair.specs.Division.{Parts};
 // A digit of half a word is below this.
 const BASE: u64 = 4294967296;
 
+// One word more than a word can hold.
+const WORD: u128 = 18446744073709551616;
+
 // The number high times 2 to the power 64, and low.
 #[derive(Clone, Copy)]
 pub struct Pair {
@@ -27,12 +30,10 @@ struct Part {
 pub fn product(a: u64, p: u32) -> Pair
     ensures { pair_value result ≡ a * p }
 {
-    let factor = u64::from(p);
-    let low = a % BASE * factor;
-    let high = (a >> 32) * factor + (low >> 32);
+    let whole = u128::from(a) * u128::from(p);
     Pair {
-        high: high >> 32,
-        low: high % BASE * BASE + low % BASE,
+        high: (whole >> 64) as u64,
+        low: (whole % WORD) as u64,
     }
 }
 
