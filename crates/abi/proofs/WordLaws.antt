@@ -8,7 +8,8 @@ use lib.ListN.{length, get_or}
 use Rattle.group.specs.Numbers.{name_most}
 use Rattle.abi.specs.Words.{name_words}
 use Rattle.group.specs.declared.Name.{Name}
-use Rattle.abi.specs.Abi.{byte_at, byte_of, count_at, four_of, word_of, name_of_words, signed_most}
+use Rattle.std.specs.Int.{w64, from_le_bytes}
+use Rattle.abi.specs.Abi.{list_of, byte_at, byte_of, count_at, four_of, word_of, name_of_words, signed_most}
 use Rattle.abi.proofs.ListLaws.{list_of_is}
 
 -- eight bytes in one number
@@ -63,6 +64,14 @@ module _ (bs : List ℕ) (small : (j : ℕ) → j < name_most → byte_at bs j <
       (low w l) (byte w 1 l (omega arith)) (byte w 2 l (omega arith)) (byte w 3 l (omega arith))
       (byte w 4 l (omega arith)) (byte w 5 l (omega arith)) (byte w 6 l (omega arith)) (byte w 7 l (omega arith)) j m
       ∙ picked bs (w * 8) j m
+
+-- the number of a name's eight bytes, as std reads them
+pub word_read : (bs : List ℕ) (w : ℕ) → from_le_bytes w64 (list_of (λ j. byte_at bs (w * 8 + j)) 8) ≡ word_of bs w
+unfolding word_of list_of
+word_read bs w =
+    let e : w * 8 + 0 ≡ w * 8 = omega arith in
+    let first = ap (byte_at bs) e in
+    omega (arith, first)
 
 -- a name whose words stand in a list from place k on
 pub name_back : (ns : List ℤ) (k : ℕ) (n : Name) → length n.bytes ≡ name_most → ((j : ℕ) → j < name_most → byte_at n.bytes j < 256)

@@ -10,7 +10,7 @@ ghost use Rattle.group.specs.Numbers.{name_most, functions_most, grids_most};
 ghost use Rattle.abi.specs.Words.{name_words, head_words, grids_from, group_words};
 ghost use Rattle.abi.specs.Abi.{number_at, byte_at, count_at, list_of, byte_of, name_of_words, unit_of, function_of, function_of_words, grid_of_words, group_of_words};
 ghost use Rattle.abi.specs.Clear.{FourTold};
-ghost use Rattle.abi.specs.Abi.{stored, unit_number, four_of, name_number, function_numbers, grid_numbers, head_numbers, joined, numbers_of};
+ghost use Rattle.abi.specs.Abi.{stored, unit_number, name_number, function_numbers, grid_numbers, head_numbers, joined, numbers_of};
 
 use group::{
     FUNCTIONS_MOST, Function, GRIDS_MOST, Grid, Group, Latitude, Longitude, NAME_MOST, Name, Ramp,
@@ -263,7 +263,8 @@ pub fn grid_name_byte(numbers: &[i64; GROUP_WORDS], k: usize, i: usize) -> u8
     byte_of(count_at(numbers, at), (i % 8) as u64)
 }
 
-// Whether the four numbers from place k on are all 0.
+// Whether the four numbers from place k on are all 0. Each is read by its place: of numbers that a chain goes over no proof knows
+// that they have 64 bits, which the bytes of a name need.
 fn four_clear(numbers: &[i64; GROUP_WORDS], k: usize) -> bool
     requires { k + 3 < group_words }
     ensures { FourTold numbers.now k result }
@@ -327,33 +328,13 @@ pub fn store_numbers(out: &mut [i64], k: usize, numbers: &[i64])
     out[k..k + numbers.len()].copy_from_slice(numbers);
 }
 
-// Four bytes as one number, the first lowest.
-fn four(a: u8, b: u8, c: u8, d: u8) -> u64
-    ensures { (result ≡ four_of a b c d) × (result < 4294967296) }
-{
-    u64::from(a) + u64::from(b) * 256 + u64::from(c) * 65536 + u64::from(d) * 16777216
-}
-
-// Number w of the three that hold the bytes of a name.
-#[tactic(auto, unfolding(crate::specs::Abi::word_of))]
+// Number w of the three that hold the bytes of a name, the first of its eight lowest.
 fn name_number(name: Name, w: usize) -> i64
     requires { w < name_words }
     ensures { result ≡ name_number name w }
 {
-    let i = w * 8;
-    let low = four(
-        name.bytes[i],
-        name.bytes[i + 1],
-        name.bytes[i + 2],
-        name.bytes[i + 3],
-    );
-    let high = four(
-        name.bytes[i + 4],
-        name.bytes[i + 5],
-        name.bytes[i + 6],
-        name.bytes[i + 7],
-    );
-    as_stored(low + high * 4294967296)
+    let bytes = std::array::from_fn(|j| name.bytes[w * 8 + j]);
+    as_stored(u64::from_le_bytes(bytes))
 }
 
 // The number of a unit.
