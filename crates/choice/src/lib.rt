@@ -1,4 +1,5 @@
-// Which grid is chosen at a point. Sides are four numbers a grid: west, east, south, north, edges included, grid i, from 0, at 4 * i.
+// Which grid is chosen at a point. Sides are four numbers a grid: west, east, south, north, edges included, grid i, from 0, at 4 * i. The
+// lists are flat ones of numbers since tables of a fixed length hold them.
 // Longitudes run round a circle: `turn` is a whole turn, and x + turn and x - turn are the point (x, y) too.
 #![tactic(auto)]
 
