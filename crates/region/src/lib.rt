@@ -24,8 +24,8 @@ pub struct Bounds {
     pub north: u64,
 }
 
-// Of a row: its westmost free longitude, or the last row that the blockers of this one hold whole. Neither is an error or an absence, so an
-// Option or a Result would say less.
+// Of a row: its westmost free longitude, or the last row that the blockers of this one hold whole.
+// No Option and no Result: either number is an answer, with a meaning of its own.
 #[derive(Clone, Copy)]
 enum Row {
     Open(u64),
@@ -38,6 +38,7 @@ fn reaches(rs: &[u64], i: usize, x: u64, y: u64) -> bool
     ensures { result ≡ reaches rs.now i x y }
 {
     let at = i * 4;
+    // all three sides are tested, so that no branch is made
     (x <= rs[at + 1]) & ((rs[at + 2] <= y) & (y <= rs[at + 3]))
 }
 
