@@ -11,7 +11,7 @@ ghost use Rattle.day.specs.Flat.{factor_in};
 ghost use Rattle.day.specs.Even.{Even};
 ghost use Rattle.day.specs.Day.{ramp_factor, step_parts, step_factor, ramp2_parts, ramp2_factor, function_factor, result_of};
 
-use group::{FACTOR_ONE, Function, RESULT_MOST, Shape};
+use group::{FACTOR_ONE, Function, RESULT_MOST, Ramp, Ramp2, Shape, Step};
 
 // The size of a function's factor, in millionths.
 const FACTOR: u64 = group::FUNCTION_FACTOR_MOST as u64;
@@ -28,10 +28,11 @@ fn rounded(n: i64, d: i64, most: u64) -> i64
 }
 
 // The factor of a ramp on a day, in millionths.
-fn ramp_factor(a: i64, s0: i64, b: i64, s1: i64, day: i64) -> i64
-    requires { ramp_numbers_fit a s0 b s1 ≡ true }
-    ensures { result ≡ ramp_factor a s0 b s1 day }
+fn ramp_factor(r: Ramp, day: i64) -> i64
+    requires { ramp_numbers_fit r.a r.s0 r.b r.s1 ≡ true }
+    ensures { result ≡ ramp_factor r.a r.s0 r.b r.s1 day }
 {
+    let Ramp { a, s0, b, s1 } = r;
     if b <= day {
         return s1;
     }
@@ -49,10 +50,15 @@ fn step_parts(event: i64, day: i64) -> i64
 }
 
 // The factor of a step on a day, in millionths.
-fn step_factor(event: i64, reference: i64, mult: i64, day: i64) -> i64
-    requires { step_numbers_fit event reference mult ≡ true }
-    ensures { result ≡ step_factor event reference mult day }
+fn step_factor(s: Step, day: i64) -> i64
+    requires { step_numbers_fit s.event s.reference s.mult ≡ true }
+    ensures { result ≡ step_factor s.event s.reference s.mult day }
 {
+    let Step {
+        event,
+        reference,
+        mult,
+    } = s;
     mult * (step_parts(event, day) - step_parts(event, reference))
 }
 
@@ -71,24 +77,30 @@ fn ramp2_parts(start: i64, end: i64, day: i64) -> i64
 }
 
 // The factor of a ramp2 on a day, in millionths.
-fn ramp2_factor(start: i64, end: i64, reference: i64, mult: i64, day: i64) -> i64
-    requires { ramp2_numbers_fit start end reference mult ≡ true }
-    ensures { result ≡ ramp2_factor start end reference mult day }
+fn ramp2_factor(r: Ramp2, day: i64) -> i64
+    requires { ramp2_numbers_fit r.start r.end r.reference r.mult ≡ true }
+    ensures { result ≡ ramp2_factor r.start r.end r.reference r.mult day }
 {
+    let Ramp2 {
+        start,
+        end,
+        reference,
+        mult,
+    } = r;
     let parts = ramp2_parts(start, end, day) - ramp2_parts(start, end, reference);
     rounded(mult * parts, end - start, FACTOR)
 }
 
 // The factor of a function of any kind on a day, in millionths.
+#[tactic(auto, unfolding(crate::specs::Day::shape_factor))]
 fn function_factor(f: Function, day: i64) -> i64
     requires { function_fits f ≡ true }
     ensures { result ≡ function_factor f day }
 {
-    let shape = f.shape;
-    match shape {
-        Shape::Ramp(r) => ramp_factor(r.a, r.s0, r.b, r.s1, day),
-        Shape::Step(s) => step_factor(s.event, s.reference, s.mult, day),
-        Shape::Ramp2(r) => ramp2_factor(r.start, r.end, r.reference, r.mult, day),
+    match f.shape {
+        Shape::Ramp(r) => ramp_factor(r, day),
+        Shape::Step(s) => step_factor(s, day),
+        Shape::Ramp2(r) => ramp2_factor(r, day),
     }
 }
 
@@ -102,11 +114,9 @@ pub fn day_factor(functions: &[i64], n: usize, day: i64) -> i64
         return FACTOR_ONE;
     }
     let mut sum = 0;
-    let mut i = 0;
-    while i < n {
+    for i in 0..n {
         let f = flat::function_at(functions, i);
         sum += function_factor(f, day);
-        i += 1;
     }
     sum
 }

@@ -3,15 +3,15 @@
 #![tactic(auto)]
 
 use extent::{LatSpan, LonSpan};
+use fix::Lookup;
 use group::{Group, Latitude, Longitude, MARK, Point, Refusal};
-use inforce::{Area, GridInForce, InForce, Uncovered};
-use nodes::Loaded;
+use inforce::{Area, InForce};
+use std::fmt;
 use std::io;
 
 // The group of an accepted header text.
 fn read(text: &[u8]) -> Group {
-    let reading = header::read_header(text);
-    reading.group
+    header::read_header(text).group
 }
 
 // The header of document 01.
@@ -54,55 +54,40 @@ fn area(west: i64, east: i64, south: i64, north: i64) -> Area {
     }
 }
 
-// Writes text to standard output.
-fn say(rt: &impl Print, text: &str) -> io::Result<()> {
-    print!(rt; "{text}")
-}
+// A refusal: its number, and its place where it names one.
+#[derive(Clone, Copy)]
+struct Refused(Refusal);
 
-// Writes a number that is not below zero.
-fn say_count(rt: &impl Print, n: u64) -> io::Result<()> {
-    print!(rt; "{n}")
-}
-
-// Writes a number, led by a minus sign where it is below zero.
-fn say_number(rt: &impl Print, z: i64) -> io::Result<()> {
-    if numbers::negative(z) {
-        say(rt, "-")?;
+impl fmt::Display for Refused {
+    fn fmt<W: fmt::Write>(&self, f: &mut fmt::Formatter<W>) -> fmt::Result {
+        let refusal = self.0;
+        write!(f, "refused {}", refusal.number)?;
+        if refusal.place != 0 {
+            write!(f, " at {}", refusal.place)?;
+        }
+        Ok(())
     }
-    say_count(rt, numbers::magnitude(z))
 }
 
-// Writes a longitude and a latitude, in mas.
-fn say_point(rt: &impl Print, lon: Longitude, lat: Latitude) -> io::Result<()> {
-    say(rt, "(")?;
-    say_number(rt, lon.0)?;
-    say(rt, ", ")?;
-    say_number(rt, lat.0)?;
-    say(rt, ")")
-}
+// A longitude and a latitude, in mas.
+#[derive(Clone, Copy)]
+struct At(Longitude, Latitude);
 
-// Writes a refusal's number, and its place where it names one.
-fn say_refused(rt: &impl Print, r: Refusal) -> io::Result<()> {
-    say(rt, "refused ")?;
-    say_count(rt, r.number)?;
-    if r.place != 0 {
-        say(rt, " at ")?;
-        say_count(rt, r.place)?;
+impl fmt::Display for At {
+    fn fmt<W: fmt::Write>(&self, f: &mut fmt::Formatter<W>) -> fmt::Result {
+        let lon = self.0;
+        let lat = self.1;
+        write!(f, "({}, {})", lon.0, lat.0)
     }
-    Ok(())
 }
 
 // What reading a header text answers: accepted, or the refusal.
 fn header(rt: &impl Print, label: &str, text: &[u8]) -> io::Result<()> {
-    say(rt, label)?;
-    say(rt, ": ")?;
-    let reading = header::read_header(text);
-    let verdict = reading.verdict;
-    match verdict {
-        Ok(()) => say(rt, "accepted")?,
-        Err(r) => say_refused(rt, r)?,
+    print!(rt; "{label}: ")?;
+    match header::read_header(text).verdict {
+        Ok(()) => println!(rt; "accepted"),
+        Err(r) => println!(rt; "{}", Refused(r)),
     }
-    say(rt, "\n")
 }
 
 // A lookup's answer at a point in mas: the chosen grid's number and its first result, or the refusal.
@@ -119,20 +104,11 @@ fn looked(
         lon: Longitude(lon),
         lat: Latitude(lat),
     };
-    say(rt, label)?;
-    say(rt, " ")?;
-    say_point(rt, p.lon, p.lat)?;
-    say(rt, ": ")?;
+    print!(rt; "{label} {}: ", At(p.lon, p.lat))?;
     match lookup::lookup(group, nodes, p, day) {
-        Ok(f) => {
-            say(rt, "grid ")?;
-            say_count(rt, f.grid)?;
-            say(rt, ", ")?;
-            say_number(rt, f.first)?;
-        }
-        Err(r) => say_refused(rt, r)?,
+        Ok(f) => println!(rt; "grid {}, {}", f.grid, f.first),
+        Err(r) => println!(rt; "{}", Refused(r)),
     }
-    say(rt, "\n")
 }
 
 // The answer in grid `basin` with no functions, where the day plays no part.
@@ -140,81 +116,50 @@ fn looked_plain(rt: &impl Print, label: &str, nodes: &[i32], lon: i64, lat: i64)
     looked(rt, label, plain(), nodes, lon, lat, 0)
 }
 
-// Writes an entry of the grids in force, behind a comma if it isn't the first.
-fn say_entry(rt: &impl Print, first: bool, e: GridInForce) -> io::Result<()> {
-    if !first {
-        say(rt, ", ")?;
+// Writes the grids in force, each with its coordinate, with commas between them.
+fn say_list(rt: &impl Print, list: &InForce) -> io::Result<()> {
+    let mut between = "";
+    for e in list.entries.iter().take(list.count as usize) {
+        print!(rt; "{between}{} at {}", e.grid, At(e.lon, e.lat))?;
+        between = ", ";
     }
-    say_count(rt, e.grid)?;
-    say(rt, " at ")?;
-    say_point(rt, e.lon, e.lat)
-}
-
-// Writes the grids in force, each with its coordinate.
-fn say_list(rt: &impl Print, list: InForce) -> io::Result<()> {
-    let n = list.count;
-    let mut i = 0;
-    while i < 64 {
-        if (i as u64) < n {
-            let e = list.entries[i];
-            say_entry(rt, i == 0, e)?;
-        }
-        i += 1;
-    }
-    Ok(())
+    println!(rt; "")
 }
 
 // The grids in force in an area, or the refusal.
 fn in_force(rt: &impl Print, label: &str, group: Group, a: Area) -> io::Result<()> {
-    say(rt, label)?;
-    say(rt, ": ")?;
+    print!(rt; "{label}: ")?;
     let list = inforce::grids_in_force(group, a);
-    let verdict = list.verdict;
-    match verdict {
-        Ok(()) => say_list(rt, list)?,
-        Err(r) => say_refused(rt, r)?,
+    match list.verdict {
+        Ok(()) => say_list(rt, &list),
+        Err(r) => println!(rt; "{}", Refused(r)),
     }
-    say(rt, "\n")
 }
 
-// Writes where a hole is, if there is one.
-fn say_hole(rt: &impl Print, h: Uncovered) -> io::Result<()> {
-    if h.found {
-        say(rt, "at ")?;
-        return say_point(rt, h.lon, h.lat);
-    }
-    say(rt, "none")
-}
-
-// The hole in an area, or the refusal.
+// The hole in an area if there is one, or the refusal.
 fn hole(rt: &impl Print, label: &str, group: Group, a: Area) -> io::Result<()> {
-    say(rt, label)?;
-    say(rt, ": ")?;
-    let found = inforce::hole(group, a);
-    let verdict = found.verdict;
-    match verdict {
-        Ok(()) => say_hole(rt, found)?,
-        Err(r) => say_refused(rt, r)?,
+    print!(rt; "{label}: ")?;
+    let hole = inforce::hole(group, a);
+    match hole.verdict {
+        Ok(()) => {
+            if hole.found {
+                println!(rt; "at {}", At(hole.lon, hole.lat))
+            } else {
+                println!(rt; "none")
+            }
+        }
+        Err(r) => println!(rt; "{}", Refused(r)),
     }
-    say(rt, "\n")
-}
-
-// Writes a node's value, in steps.
-fn say_node(rt: &impl Print, n: i32) -> io::Result<()> {
-    say_number(rt, n as i64)
 }
 
 // The node that a float loads as at quantum 0, or the refusal.
 fn loaded(rt: &impl Print, label: &str, x: f32) -> io::Result<()> {
-    let floats = [x];
     let mut nodes = [MARK];
-    say(rt, label)?;
-    say(rt, ": ")?;
-    match nodes::load_nodes(&floats, -1.0, 0, &mut nodes) {
-        Loaded::Done => say_node(rt, nodes[0])?,
-        Loaded::Refused(r) => say_refused(rt, r)?,
+    print!(rt; "{label}: ")?;
+    match nodes::load_nodes(&[x], -1.0, 0, &mut nodes) {
+        Ok(()) => println!(rt; "{}", nodes[0]),
+        Err(r) => println!(rt; "{}", Refused(r)),
     }
-    say(rt, "\n")
 }
 
 // M1 to M3.
@@ -249,18 +194,18 @@ fn factors(rt: &impl Print) -> io::Result<()> {
     looked(rt, "M10, day 200", basin(), &nodes, 5, 5, 200)
 }
 
-// Writes an answer of the columns: the chosen grid's number and its first result, or the refusal.
-fn say_answer(rt: &impl Print, number: i64, grid: i64, first: i64) -> io::Result<()> {
-    if number == 0 {
-        say(rt, "grid ")?;
-        say_number(rt, grid)?;
-        say(rt, ", ")?;
-        say_number(rt, first)?;
-    } else {
-        say(rt, "refused ")?;
-        say_number(rt, number)?;
+// Writes the answers of the columns, six numbers each: the chosen grid's number and its first result, or the refusal.
+fn say_answers(rt: &impl Print, answers: &[i64]) -> io::Result<()> {
+    let mut between = "";
+    for answer in answers.chunks_exact(6) {
+        if answer[0] == 0 {
+            print!(rt; "{between}grid {}, {}", answer[2], answer[3])?;
+        } else {
+            print!(rt; "{between}refused {}", answer[0])?;
+        }
+        between = "; ";
     }
-    Ok(())
+    println!(rt; "")
 }
 
 // M10's three days and a day beyond the limit in one call, as columns.
@@ -268,21 +213,11 @@ fn days_at_once(rt: &impl Print) -> io::Result<()> {
     let nodes = [1000000; 6];
     let days = [99, 133, 200, 1000001];
     let mut results = [-1i64; 24];
-    let verdict = exercise::lookup_columns(basin(), &nodes, &[5; 4], &[5; 4], &days, &mut results);
-    say(rt, "M10, its days and 1000001 at once: ")?;
-    match verdict {
-        Ok(()) => {
-            say_answer(rt, results[0], results[2], results[3])?;
-            say(rt, "; ")?;
-            say_answer(rt, results[6], results[8], results[9])?;
-            say(rt, "; ")?;
-            say_answer(rt, results[12], results[14], results[15])?;
-            say(rt, "; ")?;
-            say_answer(rt, results[18], results[20], results[21])?;
-        }
-        Err(r) => say_refused(rt, r)?,
+    print!(rt; "M10, its days and 1000001 at once: ")?;
+    match exercise::lookup_columns(basin(), &nodes, &[5; 4], &[5; 4], &days, &mut results) {
+        Ok(()) => say_answers(rt, &results),
+        Err(r) => println!(rt; "{}", Refused(r)),
     }
-    say(rt, "\n")
 }
 
 // M11 and M12, and M11 in the area of longitudes ±648,000,000 and latitudes ±324,000,000.

@@ -1,4 +1,5 @@
 -- `ramp2_factor` meets its contract.
+use borrow.Author.Rules.{rules}
 use Prim.Native.Nat.{◌*◌, ◌≤◌}
 use mathlib.Core.Bool.{true}
 use mathlib.Core.Path.{◌≡◌, refl, sym, ◌∙◌, subst}
@@ -38,45 +39,45 @@ module _ (start end reference mult : ℤ) (r : ramp2_numbers_fit start end refer
     parts_asked = rw (to_z-of_z w64 start f, to_z-of_z w64 end g) (sizes.start_most, sizes.end_most)
 
 pub ramp2_parts-requires : goal.ramp2_parts-requires
-ramp2_parts-requires c = parts_asked c.args.start c.args.end c.args.reference c.args.mult c.requires c.ranges.start c.ranges.end
+ramp2_parts-requires c = parts_asked c.args.r.start c.args.r.end c.args.r.reference c.args.r.mult c.requires (search rules) (search rules)
 
 pub ramp2_parts-requires-2 : goal.ramp2_parts-requires-2
-ramp2_parts-requires-2 c = parts_asked c.args.start c.args.end c.args.reference c.args.mult c.requires c.ranges.start c.ranges.end
+ramp2_parts-requires-2 c = parts_asked c.args.r.start c.args.r.end c.args.r.reference c.args.r.mult c.requires (search rules) (search rules)
 
 module _ (c : After-ramp2_parts-2) where
-  on_day : held c.ramp2_parts.result ≡ ramp2_parts c.args.start c.args.end c.args.day
+  on_day : held c.ramp2_parts.result ≡ ramp2_parts c.args.r.start c.args.r.end c.args.day
   on_day =
       to_z-of_z w64 c.ramp2_parts.result (record { sfits = c.ramp2_parts.type_inv }) ∙ c.ramp2_parts.ensures
-      ∙ (λ i. ramp2_parts (to_z-of_z w64 c.args.start c.ranges.start i) (to_z-of_z w64 c.args.end c.ranges.end i)
+      ∙ (λ i. ramp2_parts (to_z-of_z w64 c.args.r.start (search rules) i) (to_z-of_z w64 c.args.r.end (search rules) i)
       (to_z-of_z w64 c.args.day c.ranges.day i))
 
-  on_reference : held c.ramp2_parts-2.result ≡ ramp2_parts c.args.start c.args.end c.args.reference
+  on_reference : held c.ramp2_parts-2.result ≡ ramp2_parts c.args.r.start c.args.r.end c.args.r.reference
   on_reference =
       to_z-of_z w64 c.ramp2_parts-2.result (record { sfits = c.ramp2_parts-2.type_inv }) ∙ c.ramp2_parts-2.ensures
-      ∙ (λ i. ramp2_parts (to_z-of_z w64 c.args.start c.ranges.start i) (to_z-of_z w64 c.args.end c.ranges.end i)
-      (to_z-of_z w64 c.args.reference c.ranges.reference i))
+      ∙ (λ i. ramp2_parts (to_z-of_z w64 c.args.r.start (search rules) i) (to_z-of_z w64 c.args.r.end (search rules) i)
+      (to_z-of_z w64 c.args.r.reference (search rules) i))
 
-  abbrev mult_sized : nat_abs c.args.mult ≤ function_factor_most
-  mult_sized = (sizes c.args.start c.args.end c.args.reference c.args.mult c.requires).mult_most
+  abbrev mult_sized : nat_abs c.args.r.mult ≤ function_factor_most
+  mult_sized = (sizes c.args.r.start c.args.r.end c.args.r.reference c.args.r.mult c.requires).mult_most
 
-  part_at : (t : ℤ) → Part (nat_abs (c.args.end -ℤ c.args.start)) (ramp2_parts c.args.start c.args.end t)
-  part_at = part c.args.start c.args.end c.args.reference c.args.mult c.requires
+  part_at : (t : ℤ) → Part (nat_abs (c.args.r.end -ℤ c.args.r.start)) (ramp2_parts c.args.r.start c.args.r.end t)
+  part_at = part c.args.r.start c.args.r.end c.args.r.reference c.args.r.mult c.requires
 
-  most : nat_abs (c.args.end -ℤ c.args.start) ≤ 2 * day_most
-  most = whole_most c.args.start c.args.end c.args.reference c.args.mult c.requires
+  most : nat_abs (c.args.r.end -ℤ c.args.r.start) ≤ 2 * day_most
+  most = whole_most c.args.r.start c.args.r.end c.args.r.reference c.args.r.mult c.requires
 
-  facts : Gained c.args.mult c.ramp2_parts.result c.ramp2_parts-2.result
-      (ramp2_parts c.args.start c.args.end c.args.day)
-      (ramp2_parts c.args.start c.args.end c.args.reference)
+  facts : Gained c.args.r.mult c.ramp2_parts.result c.ramp2_parts-2.result
+      (ramp2_parts c.args.r.start c.args.r.end c.args.day)
+      (ramp2_parts c.args.r.start c.args.r.end c.args.r.reference)
   facts =
-      gained (nat_abs (c.args.end -ℤ c.args.start)) c.args.mult most mult_sized c.ranges.mult
-      on_day on_reference (part_at c.args.day) (part_at c.args.reference)
+      gained (nat_abs (c.args.r.end -ℤ c.args.r.start)) c.args.r.mult most mult_sized (search rules)
+      on_day on_reference (part_at c.args.day) (part_at c.args.r.reference)
 
-  whole_is : held c.args.end -ℤ held c.args.start ≡ c.args.end -ℤ c.args.start
-  whole_is = gap_is c.args.end c.args.start c.ranges.end c.ranges.start
+  whole_is : held c.args.r.end -ℤ held c.args.r.start ≡ c.args.r.end -ℤ c.args.r.start
+  whole_is = gap_is c.args.r.end c.args.r.start (search rules) (search rules)
 
-  fits : SFits w64 (c.args.end -ℤ c.args.start)
-  fits = whole_fits c.args.start c.args.end c.args.reference c.args.mult c.requires
+  fits : SFits w64 (c.args.r.end -ℤ c.args.r.start)
+  fits = whole_fits c.args.r.start c.args.r.end c.args.r.reference c.args.r.mult c.requires
 
 pub overflow_sub-parts : goal.overflow_sub-parts
 overflow_sub-parts c = let e = (goal.at.overflow_sub-parts c).After-ramp2_parts-2 in subst (SFits w64) (sym (facts e).less_is) (facts e).less_fits
@@ -91,9 +92,9 @@ pub rounded-requires : goal.rounded-requires
 rounded-requires c =
     let e = (goal.at.rounded-requires c).After-ramp2_parts-2 in
     rw (through w64 (facts e).times_is (facts e).times_fits, through w64 (whole_is e) (fits e)) (
-      gap_positive c.args.end c.args.start (sizes c.args.start c.args.end c.args.reference c.args.mult c.requires).start_below,
+      gap_positive c.args.r.end c.args.r.start (sizes c.args.r.start c.args.r.end c.args.r.reference c.args.r.mult c.requires).start_below,
       refl,
-      relative_size function_factor_most _ c.args.mult _ _ (mult_sized e) (part_at e c.args.day) (part_at e c.args.reference),
+      relative_size function_factor_most _ c.args.r.mult _ _ (mult_sized e) (part_at e c.args.day) (part_at e c.args.r.reference),
       omega (arith, most e),
     )
 

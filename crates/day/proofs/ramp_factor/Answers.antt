@@ -1,4 +1,5 @@
 -- `ramp_factor` meets its contract.
+use borrow.Author.Rules.{rules}
 use Prim.Native.Nat.{◌*◌, ◌≤◌}
 use mathlib.Core.Path.{◌≡◌, refl, sym, ◌∙◌, subst}
 use mathlib.Core.Bool.{false}
@@ -52,49 +53,49 @@ sloped a s0 b s1 t z e f =
 pub returns-then-b-day : goal.returns-then-b-day
 unfolding ramp_factor
 returns-then-b-day c =
-    rw (tested c.args.b c.args.day c.ranges.b c.ranges.day c.if-b-day.true) (to_z-of_z w64 c.args.s1 c.ranges.s1)
+    rw (tested c.args.r.b c.args.day (search rules) c.ranges.day c.if-b-day.true) (to_z-of_z w64 c.args.r.s1 (search rules))
 
 pub returns-then-day-a : goal.returns-then-day-a
 unfolding ramp_factor
 returns-then-day-a c =
     rw (
-      tested c.args.b c.args.day c.ranges.b c.ranges.day c.if-b-day.false,
-      tested c.args.day c.args.a c.ranges.day c.ranges.a c.if-day-a.true,
+      tested c.args.r.b c.args.day (search rules) c.ranges.day c.if-b-day.false,
+      tested c.args.day c.args.r.a c.ranges.day (search rules) c.if-day-a.true,
     )
-    (to_z-of_z w64 c.args.s0 c.ranges.s0)
+    (to_z-of_z w64 c.args.r.s0 (search rules))
 
 module _ (c : Else-day-a) where
-  before_b : le_z c.args.b c.args.day ≡ false
-  before_b = tested c.args.b c.args.day c.ranges.b c.ranges.day c.if-b-day.false
+  before_b : le_z c.args.r.b c.args.day ≡ false
+  before_b = tested c.args.r.b c.args.day (search rules) c.ranges.day c.if-b-day.false
 
-  behind_a : le_z c.args.day c.args.a ≡ false
-  behind_a = tested c.args.day c.args.a c.ranges.day c.ranges.a c.if-day-a.false
+  behind_a : le_z c.args.day c.args.r.a ≡ false
+  behind_a = tested c.args.day c.args.r.a c.ranges.day (search rules) c.if-day-a.false
 
-  facts : Sloped c.args.a c.args.s0 c.args.b c.args.s1 c.args.day
+  facts : Sloped c.args.r.a c.args.r.s0 c.args.r.b c.args.r.s1 c.args.day
   facts =
-      sloped c.args.a c.args.s0 c.args.b c.args.s1 c.args.day
-      (ramp_sizes c.args.a c.args.s0 c.args.b c.args.s1 c.requires) before_b behind_a
+      sloped c.args.r.a c.args.r.s0 c.args.r.b c.args.r.s1 c.args.day
+      (ramp_sizes c.args.r.a c.args.r.s0 c.args.r.b c.args.r.s1 c.requires) before_b behind_a
 
   -- each operation, and what is read of it
-  left_is : held c.args.b -ℤ held c.args.day ≡ c.args.b -ℤ c.args.day
-  left_is = gap_is c.args.b c.args.day c.ranges.b c.ranges.day
+  left_is : held c.args.r.b -ℤ held c.args.day ≡ c.args.r.b -ℤ c.args.day
+  left_is = gap_is c.args.r.b c.args.day (search rules) c.ranges.day
 
-  first_is : held c.args.s0 *ℤ held (held c.args.b -ℤ held c.args.day) ≡ c.args.s0 *ℤ (c.args.b -ℤ c.args.day)
-  first_is i = to_z-of_z w64 c.args.s0 c.ranges.s0 i *ℤ through w64 left_is facts.left i
+  first_is : held c.args.r.s0 *ℤ held (held c.args.r.b -ℤ held c.args.day) ≡ c.args.r.s0 *ℤ (c.args.r.b -ℤ c.args.day)
+  first_is i = to_z-of_z w64 c.args.r.s0 (search rules) i *ℤ through w64 left_is facts.left i
 
-  right_is : held c.args.day -ℤ held c.args.a ≡ c.args.day -ℤ c.args.a
-  right_is = gap_is c.args.day c.args.a c.ranges.day c.ranges.a
+  right_is : held c.args.day -ℤ held c.args.r.a ≡ c.args.day -ℤ c.args.r.a
+  right_is = gap_is c.args.day c.args.r.a c.ranges.day (search rules)
 
-  second_is : held c.args.s1 *ℤ held (held c.args.day -ℤ held c.args.a) ≡ c.args.s1 *ℤ (c.args.day -ℤ c.args.a)
-  second_is i = to_z-of_z w64 c.args.s1 c.ranges.s1 i *ℤ through w64 right_is facts.right i
+  second_is : held c.args.r.s1 *ℤ held (held c.args.day -ℤ held c.args.r.a) ≡ c.args.r.s1 *ℤ (c.args.day -ℤ c.args.r.a)
+  second_is i = to_z-of_z w64 c.args.r.s1 (search rules) i *ℤ through w64 right_is facts.right i
 
-  sum_is : held (held c.args.s0 *ℤ held (held c.args.b -ℤ held c.args.day))
-      +ℤ held (held c.args.s1 *ℤ held (held c.args.day -ℤ held c.args.a))
-      ≡ c.args.s0 *ℤ (c.args.b -ℤ c.args.day) +ℤ c.args.s1 *ℤ (c.args.day -ℤ c.args.a)
+  sum_is : held (held c.args.r.s0 *ℤ held (held c.args.r.b -ℤ held c.args.day))
+      +ℤ held (held c.args.r.s1 *ℤ held (held c.args.day -ℤ held c.args.r.a))
+      ≡ c.args.r.s0 *ℤ (c.args.r.b -ℤ c.args.day) +ℤ c.args.r.s1 *ℤ (c.args.day -ℤ c.args.r.a)
   sum_is i = through w64 first_is facts.first i +ℤ through w64 second_is facts.second i
 
-  whole_is : held c.args.b -ℤ held c.args.a ≡ c.args.b -ℤ c.args.a
-  whole_is = gap_is c.args.b c.args.a c.ranges.b c.ranges.a
+  whole_is : held c.args.r.b -ℤ held c.args.r.a ≡ c.args.r.b -ℤ c.args.r.a
+  whole_is = gap_is c.args.r.b c.args.r.a (search rules) (search rules)
 
 pub overflow_mul-s0 : goal.overflow_mul-s0
 overflow_mul-s0 c = let e = (goal.at.overflow_mul-s0 c).Else-day-a in subst (SFits w64) (sym (first_is e)) (facts e).first
@@ -108,9 +109,9 @@ overflow_add-s0 c = let e = (goal.at.overflow_add-s0 c).Else-day-a in subst (SFi
 pub rounded-requires : goal.rounded-requires
 rounded-requires c =
     let e = (goal.at.rounded-requires c).Else-day-a in let s = c.args in let l = (facts e).whole_most in
-    let h = above s.b s.day (before_b e) in let k = above s.day s.a (behind_a e) in
+    let h = above s.r.b s.day (before_b e) in let k = above s.day s.r.a (behind_a e) in
     rw (through w64 (sum_is e) (facts e).sum, through w64 (whole_is e) (facts e).whole)
-    (gap_positive s.b s.a (omega arith), refl, (facts e).sum_most, omega arith)
+    (gap_positive s.r.b s.r.a (omega arith), refl, (facts e).sum_most, omega arith)
 
 pub returns : goal.returns
 unfolding ramp_factor

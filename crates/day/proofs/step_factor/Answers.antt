@@ -1,4 +1,5 @@
 -- `step_factor` meets its contract: over 1 nothing is rounded.
+use borrow.Author.Rules.{rules}
 use mathlib.Core.Path.{◌≡◌, sym, ◌∙◌, subst}
 use native.Mathlib.Omega.{arith}
 use mir.Syntax.{w64}
@@ -13,22 +14,22 @@ use Rattle.day.proofs.step_factor.Goals as goal
 use Rattle.day.proofs.step_factor.Goals.{After-step_parts-2}
 
 module _ (c : After-step_parts-2) where
-  on_day : held c.step_parts.result ≡ step_parts c.args.event c.args.day
+  on_day : held c.step_parts.result ≡ step_parts c.args.s.event c.args.day
   on_day =
       to_z-of_z w64 c.step_parts.result (record { sfits = c.step_parts.type_inv }) ∙ c.step_parts.ensures
-      ∙ (λ i. step_parts (to_z-of_z w64 c.args.event c.ranges.event i) (to_z-of_z w64 c.args.day c.ranges.day i))
+      ∙ (λ i. step_parts (to_z-of_z w64 c.args.s.event (search rules) i) (to_z-of_z w64 c.args.day c.ranges.day i))
 
-  on_reference : held c.step_parts-2.result ≡ step_parts c.args.event c.args.reference
+  on_reference : held c.step_parts-2.result ≡ step_parts c.args.s.event c.args.s.reference
   on_reference =
       to_z-of_z w64 c.step_parts-2.result (record { sfits = c.step_parts-2.type_inv }) ∙ c.step_parts-2.ensures
-      ∙ (λ i. step_parts (to_z-of_z w64 c.args.event c.ranges.event i) (to_z-of_z w64 c.args.reference c.ranges.reference i))
+      ∙ (λ i. step_parts (to_z-of_z w64 c.args.s.event (search rules) i) (to_z-of_z w64 c.args.s.reference (search rules) i))
 
-  facts : Gained c.args.mult c.step_parts.result c.step_parts-2.result
-      (step_parts c.args.event c.args.day) (step_parts c.args.event c.args.reference)
+  facts : Gained c.args.s.mult c.step_parts.result c.step_parts-2.result
+      (step_parts c.args.s.event c.args.day) (step_parts c.args.s.event c.args.s.reference)
   facts =
-      gained 1 c.args.mult (omega arith) (step_size c.args.event c.args.reference c.args.mult c.requires)
-      c.ranges.mult on_day on_reference
-      (step_part c.args.event c.args.day) (step_part c.args.event c.args.reference)
+      gained 1 c.args.s.mult (omega arith) (step_size c.args.s.event c.args.s.reference c.args.s.mult c.requires)
+      (search rules) on_day on_reference
+      (step_part c.args.s.event c.args.day) (step_part c.args.s.event c.args.s.reference)
 
 pub overflow_sub-result : goal.overflow_sub-result
 overflow_sub-result c = let e = (goal.at.overflow_sub-result c).After-step_parts-2 in subst (SFits w64) (sym (facts e).less_is) (facts e).less_fits
