@@ -8,7 +8,7 @@ use Rattle.numbers.specs.First.{first, some}
 use Rattle.numbers.proofs.Bools.{true_false}
 use Rattle.numbers.proofs.FirstLaws.{first_same, some_same}
 use Rattle.group.specs.declared.Refusal.{Refusal}
-use Rattle.group.specs.Refusals.{refusal, no_refusal, in_table, verdict_refusal, refuse_if, refuse_first, unless_refused, Told, lent_after}
+use Rattle.group.specs.Refusals.{refusal, no_refusal, in_table, verdict_refusal, refusal_of, refuse_if, refuse_first, unless_refused, Told, lent_after}
 use Rattle.std.specs.Prelude.{Result, Ok, Err, ⊤}
 
 -- ---- a stage that refuses, and one that is passed
@@ -129,6 +129,16 @@ pub record Answers {A : Type 0} (Accepts : A → Type 0) (refusalOf : A → Refu
 
 pub verdicts : Answers (λ (v : Result ⊤ Refusal). v ≡ Ok tt) verdict_refusal Err
 verdicts = record { back = λ r. refl; never = no_acceptance }
+
+-- so of any answer that is a result
+pub no_answer : {A : Type 0} (r : Refusal) (x : A) → ◌≡◌ {A = Result A Refusal} (Err r) (Ok x) → ⊥
+no_answer r x e = let z : ◌≡◌ {A = ℕ} 0 1 = cc in omega arith
+
+pub ok_same : {A : Type 0} (x y : A) → ◌≡◌ {A = Result A Refusal} (Ok x) (Ok y) → x ≡ y
+ok_same x y e = cc
+
+pub results : {A : Type 0} → Answers (λ (v : Result A Refusal). (x : A) × (v ≡ Ok x)) refusal_of Err
+results = record { back = λ r. refl; never = λ r e. no_answer r e.0 e.1 }
 
 -- each stage of a chain tells so where its number stands in the table and what follows tells so
 module _ {A : Type 0} {Accepts : A → Type 0} {refusalOf : A → Refusal} {refused : Refusal → A} (k : Answers Accepts refusalOf refused) where

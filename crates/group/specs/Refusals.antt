@@ -19,6 +19,16 @@ abbrev pub verdict_refusal : Result ⊤ Refusal → Refusal
 verdict_refusal (Ok tt) = no_refusal
 verdict_refusal (Err r) = r
 
+-- what an answer refuses
+abbrev pub refusal_of : {A : Type 0} → Result A Refusal → Refusal
+refusal_of (Ok x) = no_refusal
+refusal_of (Err r) = r
+
+-- whether it is one
+abbrev pub verdict_of : {A : Type 0} → Result A Refusal → Result ⊤ Refusal
+verdict_of (Ok x) = Ok tt
+verdict_of (Err r) = Err r
+
 -- ---- one refusal after the other: `refused` is how the answer says a refusal
 
 module _ {A : Type 0} (refused : Refusal → A) where

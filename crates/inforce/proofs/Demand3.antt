@@ -61,7 +61,6 @@ module _ (g : Group) (e : judged g ≡ Ok tt) (a : Area) (f : area_fits a ≡ tr
   of_list : GridsInForce g a (accepted_list es)
   of_list =
       record {
-        accepted = refl;
         named = λ x y k i c.
             let n = (placed_in g e a f).named (lon_from_least x) (lat_from_least y) k (area_inside a f x y i) (by_distances g a f x y i ∙ c) in
             (n.0, n.1, ap (λ (t : GridInForce). t.grid) (used es n.0 n.1) ∙ n.2);
@@ -93,4 +92,4 @@ module _ (g : Group) (e : judged g ≡ Ok tt) (a : Area) (f : area_fits a ≡ tr
           absurd (h (lon_at s.lon) (lat_at s.lat) k p.inside c.0 c.1)
 
 pub demand_3 : (g : Group) (a : Area) → Demand3 g a
-demand_3 g a e f = subst (GridsInForce g a) (sym (in_force_listed g a (area_accepted g a e f))) (of_list g e a f)
+demand_3 g a e f = (accepted_list (in_force_in g a), in_force_listed g a (area_accepted g a e f), of_list g e a f)

@@ -126,7 +126,7 @@ module _ (g : Group) (a : Area) (f : area_fits a ≡ true) where
   hole_found x y i c =
       first_found (choice_at g) (area_from_least a) (lon_from_least x) (lat_from_least y) 0 (area_inside a f x y i) (by_distances x y i ∙ c)
 
-  pub narrow_hole : NarrowSpot (hole_in g a)
+  pub narrow_hole : (s : Spot) → hole_in g a ≡ Some s → NarrowSpot s
   narrow_hole s e =
       let m = inside_most a f s.x s.y (first_taken_lem (choice_at g) (area_from_least a) 0 s e).inside in
       (omega (arith, m.0), omega (arith, m.1))

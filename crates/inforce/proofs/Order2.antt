@@ -7,27 +7,32 @@ use native.Mathlib.Omega.{arith}
 use native.Mathlib.Decide.{dec_lt}
 use lib.IntN.{ℤ}
 use Rattle.std.specs.Prelude.{Option, Some, None}
-use Rattle.numbers.proofs.Bools.{true_false}
 use Rattle.group.specs.declared.Group.{Group}
+use Rattle.group.specs.declared.Point.{Point}
 use Rattle.group.specs.declared.Refusal.{Refusal}
-use Rattle.group.proofs.RefusalLaws.{no_acceptance}
+use Rattle.group.specs.Refusals.{verdict_of}
 use Rattle.ingroup.specs.InGroup.{chosen_in, Held}
 use Rattle.ingroup.proofs.InGroupLaws.{chosen_holds, none_holds}
 use Rattle.region.specs.declared.Spot.{Spot}
 use Rattle.inforce.specs.declared.Area.{Area}
 use Rattle.inforce.specs.declared.InForce.{InForce}
-use Rattle.inforce.specs.declared.Uncovered.{Uncovered}
 use Rattle.inforce.specs.Area.{area_fits, area_judged, JudgesArea}
 use Rattle.inforce.specs.InForce.{in_force_of}
-use Rattle.inforce.specs.Hole.{hole_in, no_hole, accepted_hole, hole_of}
-use Rattle.inforce.specs.Demand3.{entry_at, GridsInForce}
+use Rattle.inforce.specs.Hole.{hole_in, shown_hole, accepted_hole, hole_of}
+use Rattle.inforce.specs.Demand3.{entry_at, IsFirstChosen, GridsInForce}
 use Rattle.inforce.specs.Order2.{HoleInArea, Order2, RefusesAlike, NamedOnce, HoleNamed, Accounted, Together}
 use Rattle.inforce.proofs.GroupLaws.{hole_first, hole_found}
-use Rattle.inforce.proofs.StageLaws.{area_group, area_10, area_accepted, in_force_refused, in_force_listed, hole_refused, hole_answered, found_accepted}
+use Rattle.inforce.proofs.StageLaws.{area_group, area_10, area_accepted, in_force_refused, in_force_listed, hole_refused, hole_answered}
 use Rattle.inforce.proofs.Demand3.{demand_3}
 use Rattle.std.specs.Prelude.{Result, Ok, Err, ⊤}
 
 -- ---- the answer
+
+some_same : (p q : Point) → ◌≡◌ {A = Option Point} (Some p) (Some q) → p ≡ q
+some_same p q e = cc
+
+some_none : (p : Point) → ◌≡◌ {A = Option Point} (Some p) None → ⊥
+some_none p e = let z : ◌≡◌ {A = ℕ} 0 1 = cc in omega arith
 
 module _ (g : Group) (a : Area) (f : area_fits a ≡ true) where
   -- a coordinate is held by a grid, or none is chosen there
@@ -45,41 +50,37 @@ module _ (g : Group) (a : Area) (f : area_fits a ≡ true) where
   answers (Some s) e =
       let p = hole_first g a f s e in
       record {
-        accepted = refl;
-        named = λ x y i c. refl;
-        placed = λ t. p;
-        bare = λ t. bare _ _ p.chosen;
+        named = λ x y i c. (shown_hole s, refl);
+        placed = λ q t. subst (λ (r : Point). IsFirstChosen g a 0 r.lon.0 r.lat.0) (some_same (shown_hole s) q t) p;
+        bare = λ q t. bare _ _ (subst (λ (r : Point). chosen_in g r.lon.0 r.lat.0 ≡ 0) (some_same (shown_hole s) q t) p.chosen);
         none = λ h. absurd (bare _ _ p.chosen (h _ _ p.inside));
-        held = λ t. absurd (true_false refl t);
-        zeros = λ t. absurd (true_false refl t);
+        held = λ t. absurd (some_none (shown_hole s) t);
       }
   answers None e =
       record {
-        accepted = refl;
         named = λ x y i c. let n = hole_found g a f x y i c in absurd (nowhere n.0 (sym e ∙ n.1));
-        placed = λ t. absurd (true_false t refl);
-        bare = λ t. absurd (true_false t refl);
+        placed = λ q t. absurd (some_none q (sym t));
+        bare = λ q t. absurd (some_none q (sym t));
         none = λ h. refl;
         held = λ t x y i. held x y (λ c. let n = hole_found g a f x y i c in nowhere n.0 (sym e ∙ n.1));
-        zeros = λ t. refl;
       }
     where
       nowhere : (s : Spot) → None ≡ Some s → ⊥
       nowhere s q = let z : ◌≡◌ {A = ℕ} 0 1 = cc in omega arith
 
 pub order_2 : (g : Group) (a : Area) → Order2 g a
-order_2 g a e f = subst (HoleInArea g a) (sym (hole_answered g a (area_accepted g a e f))) (answers g a f (hole_in g a) refl)
+order_2 g a e f = (accepted_hole (hole_in g a), hole_answered g a (area_accepted g a e f), answers g a f (hole_in g a) refl)
 
 -- ---- the refusals
 
 pub refuses_alike : (g : Group) (a : Area) → RefusesAlike g a
-refuses_alike g a = record { judges = judges; alike = alike (area_judged g a) refl; zeros = zeros }
+refuses_alike g a = record { judges = judges; alike = alike (area_judged g a) refl }
   where
-    told : (v : Result ⊤ Refusal) → area_judged g a ≡ v → (hole_of g a).verdict ≡ v
-    told (Err r) e = ap (λ (x : Uncovered). x.verdict) (hole_refused g a r e)
-    told (Ok tt) e = ap (λ (x : Uncovered). x.verdict) (hole_answered g a e) ∙ found_accepted (hole_in g a)
+    told : (v : Result ⊤ Refusal) → area_judged g a ≡ v → verdict_of (hole_of g a) ≡ v
+    told (Err r) e = ap verdict_of (hole_refused g a r e)
+    told (Ok tt) e = ap verdict_of (hole_answered g a e)
 
-    judges : JudgesArea g a (hole_of g a).verdict
+    judges : JudgesArea g a (verdict_of (hole_of g a))
     judges =
         record {
           group = λ r e. told (Err r) (area_group g a r e);
@@ -87,16 +88,9 @@ refuses_alike g a = record { judges = judges; alike = alike (area_judged g a) re
           neither = λ e f. told (Ok tt) (area_accepted g a e f);
         }
 
-    alike : (v : Result ⊤ Refusal) → area_judged g a ≡ v → (hole_of g a).verdict ≡ (in_force_of g a).verdict
-    alike (Err r) e = told (Err r) e ∙ sym (ap (λ (x : InForce). x.verdict) (in_force_refused g a r e))
-    alike (Ok tt) e = told (Ok tt) e ∙ sym (ap (λ (x : InForce). x.verdict) (in_force_listed g a e))
-
-    zeros : (r : Refusal) → (hole_of g a).verdict ≡ Err r → hole_of g a ≡ no_hole (Err r)
-    zeros r e = go (area_judged g a) refl
-      where
-        go : (v : Result ⊤ Refusal) → area_judged g a ≡ v → hole_of g a ≡ no_hole (Err r)
-        go (Err s) q = hole_refused g a s q ∙ ap no_hole (sym (told (Err s) q) ∙ e)
-        go (Ok tt) q = absurd (no_acceptance r (sym e ∙ told (Ok tt) q))
+    alike : (v : Result ⊤ Refusal) → area_judged g a ≡ v → verdict_of (hole_of g a) ≡ verdict_of (in_force_of g a)
+    alike (Err r) e = told (Err r) e ∙ sym (ap verdict_of (in_force_refused g a r e))
+    alike (Ok tt) e = told (Ok tt) e ∙ sym (ap verdict_of (in_force_listed g a e))
 
 -- ---- together with demand 3
 
@@ -109,16 +103,18 @@ once g a l h i j k m n p q =
       | no ge ↦ elim (dec_lt j i) [ yes lt ↦ absurd (h.once j i lt m (q ∙ sym p)) | no ge₂ ↦ omega arith ]
     ]
 
-accounted : (g : Group) (a : Area) (l : InForce) (h : Uncovered) → GridsInForce g a l → HoleInArea g a h → Accounted g a l h
+accounted : (g : Group) (a : Area) (l : InForce) (h : Option Point) → GridsInForce g a l → HoleInArea g a h → Accounted g a l h
 accounted g a l h d o x y i = go (chosen_in g x y) refl
   where
     go : (c : ℕ) → chosen_in g x y ≡ c → ((k : ℕ) × (chosen_in g x y ≡ suc k) × NamedOnce l (suc k)) ⊎ HoleNamed g h x y
     go zero e =
         let n = o.named x y i e in
-        inr (record { none = e; found = n; before = (o.placed n).others x y i e })
+        inr (record { none = e; point = n.0; found = n.1; before = (o.placed n.0 n.1).others x y i e })
     go (suc k) e =
         let n = d.named x y k i e in
         inl (k, e, record { entry = n.0; counted = n.1; named = n.2; once = λ j m q. once g a l d n.0 j (suc k) n.1 m n.2 q })
 
 pub together : (g : Group) (a : Area) → Together g a
-together g a e f = accounted g a (in_force_of g a) (hole_of g a) (demand_3 g a e f) (order_2 g a e f)
+together g a e f =
+    let d = demand_3 g a e f in let o = order_2 g a e f in
+    (d.0, o.0, d.1, o.1, accounted g a d.0 o.0 d.2 o.2)

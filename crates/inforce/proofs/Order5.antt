@@ -1,5 +1,6 @@
 -- Order 5 holds of areas.
-use mathlib.Core.Path.{◌≡◌}
+use mathlib.Core.Path.{◌≡◌, sym, ◌∙◌, subst}
+use Rattle.std.specs.Prelude.{Some}
 use mathlib.Core.Bool.{true}
 use Rattle.numbers.proofs.Bools.{both}
 use Rattle.group.specs.declared.Group.{Group}
@@ -7,6 +8,8 @@ use Rattle.group.specs.Numbers.{lon_most, lat_most}
 use Rattle.inforce.specs.declared.Area.{Area}
 use Rattle.inforce.specs.Area.{area_fits}
 use Rattle.inforce.specs.Order5.{AreaLimits, AdmittedExactly, Own}
+use Rattle.group.proofs.RefusalLaws.{ok_same}
+use Rattle.inforce.specs.Demand3.{GridsInForce}
 use Rattle.inforce.proofs.AreaLaws.{sides_told, told_sides, lon_fits_lem, lat_fits_lem}
 use Rattle.inforce.proofs.Demand3.{demand_3}
 use Rattle.inforce.proofs.Order2.{order_2}
@@ -27,4 +30,8 @@ module _ (a : Area) where
 
 pub own_longitudes : (g : Group) (a : Area) → Own g a
 own_longitudes g a e f =
-    record { entry = λ i l. ((demand_3 g a e f).placed i l).first.inside; hole = λ t. ((order_2 g a e f).placed t).inside }
+    let d = demand_3 g a e f in let o = order_2 g a e f in
+    record {
+      entry = λ l q i h. ((subst (GridsInForce g a) (ok_same d.0 l (sym d.1 ∙ q)) d.2).placed i h).first.inside;
+      hole = λ p q. (o.2.placed p (ok_same o.0 (Some p) (sym o.1 ∙ q))).inside;
+    }

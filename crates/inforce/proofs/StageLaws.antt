@@ -4,7 +4,6 @@ use Prim.Native.Nat.{ℕ}
 use mathlib.Core.Bool.{true, false, not}
 use mathlib.Core.List.{List}
 use borrow.Author.Tests.{not-false}
-use Rattle.std.specs.Prelude.{Option, Some, None}
 use Rattle.group.specs.declared.Group.{Group}
 use Rattle.group.specs.declared.Refusal.{Refusal}
 use Rattle.group.specs.Refusals.{refusal, refuse_if, unless_refused}
@@ -12,12 +11,11 @@ use Rattle.group.proofs.RefusalLaws.{if_here, if_past, passed_if, passed_verdict
 use Rattle.abi.specs.Abi.{group_of_words, numbers_of, MachineGroup}
 use Rattle.judge.specs.Judge.{judged}
 use Rattle.judge.proofs.StoredLaws.{stored_told}
-use Rattle.region.specs.declared.Spot.{Spot}
 use Rattle.inforce.specs.declared.Area.{Area}
 use Rattle.inforce.specs.Area.{area_fits, area_judged}
 use Rattle.inforce.specs.Flat.{Ready}
-use Rattle.inforce.specs.InForce.{in_force_in, accepted_list, refused_by, in_force_of}
-use Rattle.inforce.specs.Hole.{hole_in, accepted_hole, refused_hole, hole_of}
+use Rattle.inforce.specs.InForce.{in_force_in, accepted_list, in_force_of}
+use Rattle.inforce.specs.Hole.{hole_in, accepted_hole, hole_of}
 use Rattle.std.specs.Prelude.{Ok, Err}
 
 module _ (g : Group) (a : Area) where
@@ -41,26 +39,21 @@ module _ (g : Group) (a : Area) where
       let v = passed_verdict Err (Ok tt) no_acceptance (judged g) (refuse_if Err (not (area_fits a)) 10 0 (Ok tt)) e in
       (v.0, not-false (area_fits a) (passed_if Err (Ok tt) no_acceptance (not (area_fits a)) 10 0 (Ok tt) v.1).0)
 
-  pub in_force_refused : (r : Refusal) → area_judged g a ≡ Err r → in_force_of g a ≡ refused_by r
+  pub in_force_refused : (r : Refusal) → area_judged g a ≡ Err r → in_force_of g a ≡ Err r
   unfolding in_force_of
   in_force_refused r e = rw e refl
 
-  pub in_force_listed : area_judged g a ≡ Ok tt → in_force_of g a ≡ accepted_list (in_force_in g a)
+  pub in_force_listed : area_judged g a ≡ Ok tt → in_force_of g a ≡ Ok (accepted_list (in_force_in g a))
   unfolding in_force_of
   in_force_listed e = rw e refl
 
-  pub hole_refused : (r : Refusal) → area_judged g a ≡ Err r → hole_of g a ≡ refused_hole r
+  pub hole_refused : (r : Refusal) → area_judged g a ≡ Err r → hole_of g a ≡ Err r
   unfolding hole_of
   hole_refused r e = rw e refl
 
-  pub hole_answered : area_judged g a ≡ Ok tt → hole_of g a ≡ accepted_hole (hole_in g a)
+  pub hole_answered : area_judged g a ≡ Ok tt → hole_of g a ≡ Ok (accepted_hole (hole_in g a))
   unfolding hole_of
   hole_answered e = rw e refl
-
--- a hole or none, either is accepted
-pub found_accepted : (s : Option Spot) → (accepted_hole s).verdict ≡ Ok tt
-found_accepted (Some s) = refl
-found_accepted None = refl
 
 -- what a list or a hole is worked out from is judged
 pub ready_judged : {g : Group} {a : Area} {sides ranks : List ℕ} → Ready g a sides ranks → (judged g ≡ Ok tt) × (area_fits a ≡ true)

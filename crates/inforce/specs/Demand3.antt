@@ -36,8 +36,6 @@ pub record GridPlaced (g : Group) (a : Area) (e : GridInForce) : Type 0 where
   pub first : IsFirstChosen g a e.grid e.lon.0 e.lat.0
 
 pub record GridsInForce (g : Group) (a : Area) (r : InForce) : Type 0 where
-  -- the list is no refusal, also where it is empty
-  pub accepted : r.verdict ≡ Ok tt
   -- a grid chosen at one or more coordinates of the area is named
   pub named : (x y : ℤ) (k : ℕ) → InArea a x y → chosen_in g x y ≡ suc k → (i : ℕ) × (i < r.count) × ((entry_at r i).grid ≡ suc k)
   -- and no other: a grid named is chosen at the coordinate beside it, which is the southmost, then westmost such
@@ -60,6 +58,6 @@ pub record GridsInForce (g : Group) (a : Area) (r : InForce) : Type 0 where
 
 -- ---- the whole
 
--- for every accepted group and admitted area
+-- for every accepted group and admitted area; the answer is a list and no refusal, also where the list is empty
 abbrev pub Demand3 : Group → Area → Type 0
-Demand3 g a = judged g ≡ Ok tt → area_fits a ≡ true → GridsInForce g a (in_force_of g a)
+Demand3 g a = judged g ≡ Ok tt → area_fits a ≡ true → (r : InForce) × (in_force_of g a ≡ Ok r) × GridsInForce g a r

@@ -1,5 +1,5 @@
 -- Document 01's grids in force: refusals 2 to 5, then 10, else the list of the area.
-use Rattle.std.specs.Prelude.{ℕ, ◌-◌, List, ◌++◌, map, pos, length, replicate, Ok, Err}
+use Rattle.std.specs.Prelude.{ℕ, ◌-◌, List, ◌++◌, map, pos, length, replicate, Result, Ok, Err}
 use Rattle.group.specs.declared.Group.{Group}
 use Rattle.group.specs.declared.Refusal.{Refusal}
 use Rattle.group.specs.Numbers.{grids_most, rank_most}
@@ -33,12 +33,8 @@ blank_entry = record { grid = 0; lon = record { 0 = pos 0 }; lat = record { 0 = 
 
 -- the count and 64 entries, of which the unused ones are zero
 abbrev pub accepted_list : List Entry → InForce
-accepted_list es = record { verdict = Ok tt; count = length es; entries = map shown_entry es ++ replicate (grids_most - length es) blank_entry }
-
--- beside a refusal the list is empty
-abbrev pub refused_by : Refusal → InForce
-refused_by r = record { verdict = Err r; count = 0; entries = replicate grids_most blank_entry }
+accepted_list es = record { count = length es; entries = map shown_entry es ++ replicate (grids_most - length es) blank_entry }
 
 -- 2 to 5, then 10, else the list
-unfoldable pub in_force_of : Group → Area → InForce
-in_force_of g a = unless_refused refused_by (area_judged g a) (accepted_list (in_force_in g a))
+unfoldable pub in_force_of : Group → Area → Result InForce Refusal
+in_force_of g a = unless_refused Err (area_judged g a) (Ok (accepted_list (in_force_in g a)))

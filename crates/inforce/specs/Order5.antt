@@ -1,9 +1,11 @@
 -- Order 5 of document 02 in its own words, of areas: which of them are admitted, and that the answers give an area's own longitudes.
-use Rattle.std.specs.Prelude.{ℕ, ◌≤◌, ◌<◌, ◌≡◌, true, ◌↔◌, nat_abs, ◌≤ℤ◌, Ok}
+use Rattle.std.specs.Prelude.{ℕ, ◌≤◌, ◌<◌, ◌≡◌, true, ◌↔◌, nat_abs, ◌≤ℤ◌, Some, Ok}
 use Rattle.group.specs.declared.Group.{Group}
+use Rattle.group.specs.declared.Point.{Point}
 use Rattle.group.specs.Numbers.{lon_most, lat_most}
 use Rattle.judge.specs.Judge.{judged}
 use Rattle.inforce.specs.declared.Area.{Area}
+use Rattle.inforce.specs.declared.InForce.{InForce}
 use Rattle.inforce.specs.Area.{area_fits, InArea}
 use Rattle.inforce.specs.InForce.{in_force_of}
 use Rattle.inforce.specs.Hole.{hole_of}
@@ -24,8 +26,8 @@ AdmittedExactly a = (area_fits a ≡ true) ↔ AreaLimits a
 
 -- entries and holes give coordinates of the area, with its own longitudes and never turned ones
 pub record OwnLongitudes (g : Group) (a : Area) : Type 0 where
-  pub entry : (i : ℕ) → i < (in_force_of g a).count → InArea a (entry_at (in_force_of g a) i).lon.0 (entry_at (in_force_of g a) i).lat.0
-  pub hole : (hole_of g a).found ≡ true → InArea a (hole_of g a).lon.0 (hole_of g a).lat.0
+  pub entry : (l : InForce) → in_force_of g a ≡ Ok l → (i : ℕ) → i < l.count → InArea a (entry_at l i).lon.0 (entry_at l i).lat.0
+  pub hole : (p : Point) → hole_of g a ≡ Ok (Some p) → InArea a p.lon.0 p.lat.0
 
 -- for every accepted group and admitted area
 abbrev pub Own : Group → Area → Type 0

@@ -7,15 +7,16 @@ ghost use Rattle.abi.specs.Abi.{group_of_words};
 ghost use Rattle.flat.specs.Lists.{Room};
 ghost use Rattle.inforce.specs.Area.{lon_fits, lat_fits, area_fits, lon_at, lat_at, area_from_least, area_judged};
 ghost use Rattle.inforce.specs.Flat.{FlatSound, Admitted, Ready, SidesLeft, flat_listing, flat_hole};
-ghost use Rattle.inforce.specs.InForce.{in_force_in, shown_entry, blank_entry, accepted_list, refused_by, in_force_of};
-ghost use Rattle.inforce.specs.Hole.{hole_in, no_hole, accepted_hole, hole_of};
+ghost use Rattle.inforce.specs.InForce.{in_force_in, shown_entry, blank_entry, accepted_list, in_force_of};
+ghost use Rattle.inforce.specs.Hole.{hole_in, shown_hole, accepted_hole, hole_of};
 ghost use Rattle.inforce.specs.Handed.{shown_list, Narrow, NarrowSpot};
 
 use abi::GROUP_WORDS;
 use coverage::{Entry, Listing};
 use extent::{LatSpan, LonSpan, lat_from_least, lon_from_least};
 use group::{
-    GRIDS_MOST, Group, LAT_LEAST, LAT_MOST, LON_LEAST, LON_MOST, Latitude, Longitude, Refusal,
+    GRIDS_MOST, Group, LAT_LEAST, LAT_MOST, LON_LEAST, LON_MOST, Latitude, Longitude, Point,
+    Refusal,
 };
 use region::Spot;
 
@@ -45,60 +46,48 @@ pub struct GridInForce {
     pub lat: Latitude,
 }
 
-// The grids in force: how many, and 64 entries, best rank first; unused ones are zero, all of them beside a refusal.
+// The grids in force: how many, and 64 entries, best rank first; unused ones are zero.
 #[derive(Clone, Copy)]
 pub struct InForce {
-    pub verdict: Result<(), Refusal>,
     pub count: u64,
     pub entries: [GridInForce; GRIDS_MOST],
-}
-
-// Whether an area has a coordinate at which no grid is chosen, and the southmost, then westmost such, in mas; zeros where it has none, and
-// beside a refusal.
-#[derive(Clone, Copy)]
-pub struct Uncovered {
-    pub verdict: Result<(), Refusal>,
-    pub found: bool,
-    pub lon: Longitude,
-    pub lat: Latitude,
 }
 
 // Whether longitudes are within the limits, west not above east.
 fn lon_fits(s: LonSpan) -> bool
     ensures { result ≡ lon_fits s }
 {
-    ((LON_LEAST <= s.west.0) & (s.west.0 <= LON_MOST))
-        & ((LON_LEAST <= s.east.0) & (s.east.0 <= LON_MOST))
-        & (s.west.0 <= s.east.0)
+    (LON_LEAST..=LON_MOST).contains(&s.west.0)
+        && (LON_LEAST..=LON_MOST).contains(&s.east.0)
+        && s.west.0 <= s.east.0
 }
 
 // Whether latitudes are within the limits, south not above north.
 fn lat_fits(s: LatSpan) -> bool
     ensures { result ≡ lat_fits s }
 {
-    ((LAT_LEAST <= s.south.0) & (s.south.0 <= LAT_MOST))
-        & ((LAT_LEAST <= s.north.0) & (s.north.0 <= LAT_MOST))
-        & (s.south.0 <= s.north.0)
+    (LAT_LEAST..=LAT_MOST).contains(&s.south.0)
+        && (LAT_LEAST..=LAT_MOST).contains(&s.north.0)
+        && s.south.0 <= s.north.0
 }
 
 // Whether an area is admitted.
+#[tactic(auto, unfolding(crate::specs::Area::area_fits))]
 fn area_fits(a: Area) -> bool
     ensures { result ≡ area_fits a }
 {
-    lon_fits(a.lon) & lat_fits(a.lat)
+    lon_fits(a.lon) && lat_fits(a.lat)
 }
 
 // An area by the distances of its sides from the least longitude and latitude.
 fn area_from_least(a: Area) -> region::Bounds
     ensures { result ≡ area_from_least a }
 {
-    let lon = a.lon;
-    let lat = a.lat;
     region::Bounds {
-        west: lon_from_least(lon.west),
-        east: lon_from_least(lon.east),
-        south: lat_from_least(lat.south),
-        north: lat_from_least(lat.north),
+        west: lon_from_least(a.lon.west),
+        east: lon_from_least(a.lon.east),
+        south: lat_from_least(a.lat.south),
+        north: lat_from_least(a.lat.north),
     }
 }
 
@@ -115,10 +104,7 @@ fn judge_area(
         × SidesLeft result (group_of_words words.now) sides.new ranks.new }
 {
     let mut frames = [0u64; flat::FRAMES];
-    let verdict = judge::judge_into(words, sides, ranks, &mut frames);
-    if let Err(r) = verdict {
-        return Err(r);
-    }
+    judge::judge_into(words, sides, ranks, &mut frames)?;
     if !area_fits(area) {
         return Err(Refusal {
             number: 10,
@@ -195,29 +181,12 @@ fn shown_list(l: Listing) -> InForce
 {
     let none = blank_entry();
     let mut entries = [none; GRIDS_MOST];
-    let n = l.count;
-    let mut i = 0;
-    while i < n {
-        let e = l.entries[i];
-        entries[i] = shown_entry(e);
-        i += 1;
+    for i in 0..l.count {
+        entries[i] = shown_entry(l.entries[i]);
     }
     InForce {
-        verdict: Ok(()),
-        count: n as u64,
-        entries: entries,
-    }
-}
-
-// What stands beside a refusal: no entries.
-fn refused_by(r: Refusal) -> InForce
-    ensures { result ≡ refused_by r }
-{
-    let none = blank_entry();
-    InForce {
-        verdict: Err(r),
-        count: 0,
-        entries: [none; GRIDS_MOST],
+        count: l.count as u64,
+        entries,
     }
 }
 
@@ -232,21 +201,18 @@ fn list_in(words: &[i64; GROUP_WORDS], sides: &[u64], ranks: &[u64], area: Area)
 }
 
 // The grids in force of a group handed over as a list of numbers, as `grids_in_force` says.
-pub fn force_words(words: &[i64; GROUP_WORDS], area: Area) -> InForce
+pub fn force_words(words: &[i64; GROUP_WORDS], area: Area) -> Result<InForce, Refusal>
     ensures { result ≡ in_force_of (group_of_words words.now) area }
 {
     let mut sides = [0u64; flat::SIDES];
     let mut ranks = [0u64; GRIDS_MOST];
-    let verdict = judge_area(words, area, &mut sides, &mut ranks);
-    match verdict {
-        Err(r) => refused_by(r),
-        Ok(()) => list_in(words, &sides, &ranks, area),
-    }
+    judge_area(words, area, &mut sides, &mut ranks)?;
+    Ok(list_in(words, &sides, &ranks, area))
 }
 
 // The grids in force in an area: each grid chosen at one or more of its coordinates, best rank first, with the southmost, then westmost
 // such coordinate. Refusals 2 to 5, then 10.
-pub fn grids_in_force(group: Group, area: Area) -> InForce
+pub fn grids_in_force(group: Group, area: Area) -> Result<InForce, Refusal>
     ensures { result ≡ in_force_of group area }
 {
     let words = abi::numbers_of(group);
@@ -269,59 +235,39 @@ fn hole_flat(sides: &[u64], ranks: &[u64], n: usize, a: region::Bounds) -> Optio
     coverage::hole(&rects[..m], &owners[..count], &ranks[..n], a)
 }
 
-// None, with zeros.
-fn no_hole(verdict: Result<(), Refusal>) -> Uncovered
-    ensures { result ≡ no_hole verdict }
-{
-    Uncovered {
-        verdict: verdict,
-        found: false,
-        lon: Longitude(0),
-        lat: Latitude(0),
-    }
-}
-
-// The coordinate that was found, in mas, or none.
-fn shown_hole(s: Option<Spot>) -> Uncovered
+// The coordinate that was found, in mas.
+fn shown_hole(s: Spot) -> Point
     requires { NarrowSpot s }
-    ensures { result ≡ accepted_hole s }
+    ensures { result ≡ shown_hole s }
 {
-    match s {
-        Some(spot) => Uncovered {
-            verdict: Ok(()),
-            found: true,
-            lon: lon_at(spot.x),
-            lat: lat_at(spot.y),
-        },
-        None => no_hole(Ok(())),
+    Point {
+        lon: lon_at(s.x),
+        lat: lat_at(s.y),
     }
 }
 
 // The hole of an accepted group, whose grids' sides and ranks are these, and an admitted area.
-fn hole_in(words: &[i64; GROUP_WORDS], sides: &[u64], ranks: &[u64], area: Area) -> Uncovered
+fn hole_in(words: &[i64; GROUP_WORDS], sides: &[u64], ranks: &[u64], area: Area) -> Option<Point>
     requires { Ready (group_of_words words.now) area sides.now ranks.now }
     ensures { result ≡ accepted_hole (hole_in (group_of_words words.now) area) }
 {
     let n = abi::grid_count(words) as usize;
-    let s = hole_flat(sides, ranks, n, area_from_least(area));
-    shown_hole(s)
+    let spot = hole_flat(sides, ranks, n, area_from_least(area))?;
+    Some(shown_hole(spot))
 }
 
 // The hole of a group handed over as a list of numbers, as `hole` says.
-pub fn hole_words(words: &[i64; GROUP_WORDS], area: Area) -> Uncovered
+pub fn hole_words(words: &[i64; GROUP_WORDS], area: Area) -> Result<Option<Point>, Refusal>
     ensures { result ≡ hole_of (group_of_words words.now) area }
 {
     let mut sides = [0u64; flat::SIDES];
     let mut ranks = [0u64; GRIDS_MOST];
-    let verdict = judge_area(words, area, &mut sides, &mut ranks);
-    match verdict {
-        Err(r) => no_hole(Err(r)),
-        Ok(()) => hole_in(words, &sides, &ranks, area),
-    }
+    judge_area(words, area, &mut sides, &mut ranks)?;
+    Ok(hole_in(words, &sides, &ranks, area))
 }
 
 // Whether an area has a coordinate at which no grid is chosen, and the southmost, then westmost such. Refusals 2 to 5, then 10.
-pub fn hole(group: Group, area: Area) -> Uncovered
+pub fn hole(group: Group, area: Area) -> Result<Option<Point>, Refusal>
     ensures { result ≡ hole_of group area }
 {
     let words = abi::numbers_of(group);

@@ -1,20 +1,24 @@
 -- `hole_words` meets its contract, refusal by refusal.
-use mathlib.Core.Path.{◌∙◌, sym}
+use mathlib.Core.Path.{◌∙◌, sym, ap}
 use native.Mathlib.Omega.{arith}
+use Rattle.std.specs.Prelude.{Ok}
+use Rattle.std.proofs.lemmas.Result.{err_from_is_err_and}
 use Rattle.inforce.proofs.StageLaws.{hole_refused, hole_answered}
 use Rattle.inforce.proofs.hole_words.Goals as goal
 
 pub hole_in-requires : goal.hole_in-requires
 hole_in-requires c =
-    let j = c.judge_area-verdict in let v = c.in-Accepted.is in
+    let j = c.judge_area in let e = sym c.in_ok-judge_area.ensures.0 in
     record {
-      accepted = sym j.ensures.0 ∙ v;
-      sided = j.ensures.1 v;
+      accepted = e;
+      sided = j.ensures.1 (j.ensures.0 ∙ e);
       room = record { few = omega arith; sides_room = omega (arith, j.auto.sides); ranks_room = omega (arith, j.auto.ranks) };
     }
 
-pub returns-in-Refused : goal.returns-in-Refused
-returns-in-Refused c = c.no_hole.ensures ∙ sym (hole_refused _ _ _ (sym c.judge_area-verdict.ensures.0 ∙ c.in-Refused.is))
+pub returns-in_err-judge_area : goal.returns-in_err-judge_area
+returns-in_err-judge_area c =
+    let p = err_from_is_err_and c.from_residual.result c.from_residual.ensures.1 in
+    rw (p.1, p.2) (sym (hole_refused _ _ _ (sym c.in_err-judge_area.ensures.0)))
 
-pub returns-in-Accepted : goal.returns-in-Accepted
-returns-in-Accepted c = c.hole_in.ensures ∙ sym (hole_answered _ _ (sym c.judge_area-verdict.ensures.0 ∙ c.in-Accepted.is))
+pub returns : goal.returns
+returns c = ap Ok c.hole_in.ensures ∙ sym (hole_answered _ _ (sym c.in_ok-judge_area.ensures.0))
