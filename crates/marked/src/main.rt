@@ -6,8 +6,7 @@ use extent::{LatSpan, LonSpan};
 use fix::Lookup;
 use group::{Group, Latitude, Longitude, MARK, Point, Refusal};
 use inforce::{Area, InForce};
-use std::fmt;
-use std::io;
+use std::{fmt, io};
 
 // The group of an accepted header text.
 fn read(text: &[u8]) -> Group {
@@ -118,10 +117,12 @@ fn looked_plain(rt: &impl Print, label: &str, nodes: &[i32], lon: i64, lat: i64)
 
 // Writes the grids in force, each with its coordinate, with commas between them.
 fn say_list(rt: &impl Print, list: &InForce) -> io::Result<()> {
-    let mut between = "";
-    for e in list.entries.iter().take(list.count as usize) {
-        print!(rt; "{between}{} at {}", e.grid, At(e.lon, e.lat))?;
-        between = ", ";
+    for (i, e) in list.entries.iter().enumerate() {
+        if i as u64 == list.count {
+            break;
+        }
+        let before = if i == 0 { "" } else { ", " };
+        print!(rt; "{before}{} at {}", e.grid, At(e.lon, e.lat))?;
     }
     println!(rt; "")
 }
@@ -196,14 +197,13 @@ fn factors(rt: &impl Print) -> io::Result<()> {
 
 // Writes the answers of the columns, six numbers each: the chosen grid's number and its first result, or the refusal.
 fn say_answers(rt: &impl Print, answers: &[i64]) -> io::Result<()> {
-    let mut between = "";
-    for answer in answers.chunks_exact(6) {
+    for (i, answer) in answers.chunks_exact(6).enumerate() {
+        let before = if i == 0 { "" } else { "; " };
         if answer[0] == 0 {
-            print!(rt; "{between}grid {}, {}", answer[2], answer[3])?;
+            print!(rt; "{before}grid {}, {}", answer[2], answer[3])?;
         } else {
-            print!(rt; "{between}refused {}", answer[0])?;
+            print!(rt; "{before}refused {}", answer[0])?;
         }
-        between = "; ";
     }
     println!(rt; "")
 }
