@@ -63,13 +63,15 @@ pub struct TwoParts {
 }
 
 // The cell of a point that lies a distance from node 0, on an axis with this spacing size and count of nodes.
+// An `if` and no `min`, since what counts the division signs of a lookup follows no method.
 #[tactic(auto, unfolding(crate::specs::Cell::cell_along, crate::specs::Cell::cell_index))]
 pub fn cell_along(distance: u64, spacing: u64, count: u64) -> Along
     requires { (0 < spacing) × (nodes_least ≤ count) }
     ensures { result ≡ cell_along distance spacing count }
 {
     let last = count - 2;
-    let index = (distance / spacing).min(last);
+    let whole = distance / spacing;
+    let index = if whole <= last { whole } else { last };
     Along {
         index,
         rest: distance - index * spacing,
