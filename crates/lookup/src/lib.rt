@@ -61,29 +61,19 @@ pub fn answer_of(found: Result<Fix, Refusal>) -> Answer
     }
 }
 
-// The distance of two numbers.
-fn distance(a: u64, b: u64) -> u64
-    ensures { result ≡ distance a b }
-{
-    if a <= b {
-        return b - a;
-    }
-    a - b
-}
-
 // A point, as distances in mas from the least longitude and latitude, seen from a grid.
 pub fn offset_in(f: Frame, np: u64, x: u64, y: u64) -> Offset
     ensures { result ≡ offset_in f np x y }
 {
     Offset {
-        dx: distance(x, f.lon),
-        dy: distance(y, f.lat),
+        dx: x.abs_diff(f.lon),
+        dy: y.abs_diff(f.lat),
         sx: f.dlon,
         sy: f.dlat,
         ni: f.ni,
         nj: f.nj,
         start: f.start,
-        np: np,
+        np,
     }
 }
 
@@ -116,8 +106,7 @@ fn chosen_flat(sides: &[u64], ranks: &[u64], grids: usize, x: u64, y: u64) -> u6
     requires { Room sides.now ranks.now grids × (lon_turn ≤ x) × (x + lon_turn < 2 ^ 64) }
     ensures { result ≡ chosen (λ i. turn_holds lon_turn sides.now i x y) (at ranks.now) grids }
 {
-    let m = grids * 4;
-    choice::chosen_at(&sides[..m], &ranks[..grids], LON_TURN, x, y)
+    choice::chosen_at(&sides[..grids * 4], &ranks[..grids], LON_TURN, x, y)
 }
 
 // The longitude that the grid numbered c, from 1, uses of a point (x, y); x itself where c is 0, for none.
@@ -184,31 +173,28 @@ fn first_short(frames: &[u64], n: u64, np: u64, count: u64) -> u64
     requires { (n * 7 ≤ length frames.now) × (np ≤ parameters_most) × FramesSized frames.now n }
     ensures { result ≡ first (λ k. ltb count (frame_end np (frame_at frames.now k))) n }
 {
-    let mut i: u64 = 0;
-    while i < n {
-        let at = i as usize;
-        let f = flat::frame_at(frames, at);
+    for i in 0..n {
+        let f = flat::frame_at(frames, i as usize);
         if count < extent::node_end(f.start, f.ni, f.nj, np) {
             return i;
         }
-        i += 1;
     }
-    i
+    n
 }
 
 // Whether a point is within the limits.
 pub fn point_fits(p: Point) -> bool
     ensures { result ≡ point_fits p }
 {
-    ((group::LON_LEAST <= p.lon.0) & (p.lon.0 <= group::LON_MOST))
-        & ((group::LAT_LEAST <= p.lat.0) & (p.lat.0 <= group::LAT_MOST))
+    (group::LON_LEAST..=group::LON_MOST).contains(&p.lon.0)
+        & (group::LAT_LEAST..=group::LAT_MOST).contains(&p.lat.0)
 }
 
 // Whether a day is within the limit.
 pub fn day_fits(day: i64) -> bool
     ensures { result ≡ day_fits day }
 {
-    (group::DAY_LEAST <= day) & (day <= group::DAY_MOST)
+    group::day_fits(day)
 }
 
 // The factor of the first functions of a group's numbers, so many, on a day within the limit, in millionths.
@@ -216,9 +202,11 @@ pub fn factor_on(numbers: &[i64], functions: u64, day: i64) -> i64
     requires { (group_words ≤ length numbers.now) × (functions ≤ functions_most) × FunctionsFit numbers.now functions × (day_fits day ≡ true) }
     ensures { result ≡ factor_in (function_rows numbers.now) functions day }
 {
-    let from = abi::HEAD_WORDS;
-    let to = abi::GRIDS_FROM;
-    day::day_factor(&numbers[from..to], functions as usize, day)
+    day::day_factor(
+        &numbers[abi::HEAD_WORDS..abi::GRIDS_FROM],
+        functions as usize,
+        day,
+    )
 }
 
 // The lookup in an accepted group, whose flat lists are these, of a point and a day within the limits, with every node range within the
@@ -291,7 +279,12 @@ pub fn look_accepted(
 }
 
 // What a group handed over as a list of numbers says of a point on a day, as `lookup` says.
-pub fn look_words(words: &[i64; GROUP_WORDS], nodes: &[i32], point: Point, day: i64) -> Result<Fix, Refusal>
+pub fn look_words(
+    words: &[i64; GROUP_WORDS],
+    nodes: &[i32],
+    point: Point,
+    day: i64,
+) -> Result<Fix, Refusal>
     ensures { result ≡ looked (group_of_words words.now) nodes.now point day }
 {
     let mut sides = [0u64; flat::SIDES];

@@ -26,12 +26,6 @@ returns-then-count-node_end c =
     passed_found (late c.args.frames.now c.args.np c.args.count) c.args.n l.i l.invariant c.loop-i-test.true
     (ap (ltb c.args.count) (sym ends) ∙ lt-ltb _ _ c.if-count-node_end.true)
 
-pub overflow_add-i : goal.overflow_add-i
-overflow_add-i c = omega arith
-
-pub loop-i-smaller : goal.loop-i-smaller
-loop-i-smaller c = omega arith
-
 pub loop-i-preserved : goal.loop-i-preserved
 loop-i-preserved c =
     let ends : c.node_end.result ≡ frame_end c.args.np (frame_at c.args.frames.now c.loop-i.i) = c.node_end.ensures ∙ ap (frame_end c.args.np) c.frame_at-f.ensures in
@@ -40,4 +34,4 @@ loop-i-preserved c =
     (ap (ltb c.args.count) (sym ends) ∙ le-ltb _ _ c.if-count-node_end.false)
 
 pub returns : goal.returns
-returns c = passed_end _ _ _ c.loop-i.invariant c.loop-i-test.false
+returns c = let e : c.args.n ≡ c.loop-i.i = omega arith in e ∙ passed_end _ _ _ c.loop-i.invariant (omega arith)

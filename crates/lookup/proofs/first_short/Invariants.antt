@@ -1,5 +1,5 @@
 -- `first_short` meets its contract, by the loop of FirstLaws.
-use Prim.Native.Nat.{ℕ, ◌-◌}
+use Prim.Native.Nat.{ℕ}
 use mathlib.Core.Bool.{Bool}
 use mathlib.Core.List.{List}
 use lib.Dec.{ltb}
@@ -12,6 +12,3 @@ late frames np count k = ltb count (frame_end np (frame_at frames k))
 
 abbrev pub invariant-loop-i : goal.invariant-loop-i
 invariant-loop-i l = Passed (late l.frames l.np l.count) l.n l.i
-
-abbrev pub decreases-loop-i : goal.decreases-loop-i
-decreases-loop-i l = l.n - l.i
