@@ -52,7 +52,7 @@ pub fn cell_of(l: Offset) -> Cell
     Cell {
         i: x.index,
         j: y.index,
-        weights: weights,
+        weights,
     }
 }
 
@@ -95,7 +95,14 @@ fn no_data() -> Result<Fix, Refusal>
 }
 
 // The fix of a point with the weights w of its cell's corners, whose node of lower indices stands at a, whatever these hold: in two words.
-fn fix_far(l: Offset, w: Weights, a: u64, nodes: &[i32], factor: i64, grid: u64) -> Result<Fix, Refusal>
+fn fix_far(
+    l: Offset,
+    w: Weights,
+    a: u64,
+    nodes: &[i32],
+    factor: i64,
+    grid: u64,
+) -> Result<Fix, Refusal>
     requires { Begun l (length nodes.now) w a × (0 < l.np) × (nat_abs factor ≤ factor_most) }
     ensures { result ≡ fix_in l nodes.now factor grid }
 {
@@ -106,8 +113,8 @@ fn fix_far(l: Offset, w: Weights, a: u64, nodes: &[i32], factor: i64, grid: u64)
     let first = day::result_of(cell::value_two_words(w, u), factor);
     if l.np <= 1 {
         return Ok(Fix {
-            grid: grid,
-            first: first,
+            grid,
+            first,
             second: 0,
             third: 0,
         });
@@ -119,9 +126,9 @@ fn fix_far(l: Offset, w: Weights, a: u64, nodes: &[i32], factor: i64, grid: u64)
     let second = day::result_of(cell::value_two_words(w, v), factor);
     if l.np <= 2 {
         return Ok(Fix {
-            grid: grid,
-            first: first,
-            second: second,
+            grid,
+            first,
+            second,
             third: 0,
         });
     }
@@ -131,17 +138,24 @@ fn fix_far(l: Offset, w: Weights, a: u64, nodes: &[i32], factor: i64, grid: u64)
     }
     let third = day::result_of(cell::value_two_words(w, t), factor);
     Ok(Fix {
-        grid: grid,
-        first: first,
-        second: second,
-        third: third,
+        grid,
+        first,
+        second,
+        third,
     })
 }
 
 // The fix of a point with the weights w of its cell's corners, whose node of lower indices stands at a: in one word as long as the total
 // and the corners of each parameter allow it, else by `fix_far`. One parameter at a time, with no loop and no call that is shared, so that each is
 // compiled in its place; `fix_far` is lent copies, so that what they are copied from stays in registers.
-fn fix_from(l: Offset, w: Weights, a: u64, nodes: &[i32], factor: i64, grid: u64) -> Result<Fix, Refusal>
+fn fix_from(
+    l: Offset,
+    w: Weights,
+    a: u64,
+    nodes: &[i32],
+    factor: i64,
+    grid: u64,
+) -> Result<Fix, Refusal>
     requires { Begun l (length nodes.now) w a × (0 < l.np) × (nat_abs factor ≤ factor_most) }
     ensures { result ≡ fix_in l nodes.now factor grid }
 {
@@ -155,8 +169,8 @@ fn fix_from(l: Offset, w: Weights, a: u64, nodes: &[i32], factor: i64, grid: u64
     let first = day::result_of(cell::value_one_word(w, u), factor);
     if l.np <= 1 {
         return Ok(Fix {
-            grid: grid,
-            first: first,
+            grid,
+            first,
             second: 0,
             third: 0,
         });
@@ -171,9 +185,9 @@ fn fix_from(l: Offset, w: Weights, a: u64, nodes: &[i32], factor: i64, grid: u64
     let second = day::result_of(cell::value_one_word(w, v), factor);
     if l.np <= 2 {
         return Ok(Fix {
-            grid: grid,
-            first: first,
-            second: second,
+            grid,
+            first,
+            second,
             third: 0,
         });
     }
@@ -186,10 +200,10 @@ fn fix_from(l: Offset, w: Weights, a: u64, nodes: &[i32], factor: i64, grid: u64
     }
     let third = day::result_of(cell::value_one_word(w, t), factor);
     Ok(Fix {
-        grid: grid,
-        first: first,
-        second: second,
-        third: third,
+        grid,
+        first,
+        second,
+        third,
     })
 }
 
@@ -201,7 +215,7 @@ pub fn fix_in(l: Offset, nodes: &[i32], factor: i64, grid: u64) -> Result<Fix, R
 {
     if l.np == 0 {
         return Ok(Fix {
-            grid: grid,
+            grid,
             first: 0,
             second: 0,
             third: 0,
