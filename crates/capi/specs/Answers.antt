@@ -1,16 +1,14 @@
 -- What each call of the C interface leaves: the refusal's number and place, 0 and 0 where it is accepted, and the lent memory.
-use Rattle.std.specs.Prelude.{ℕ, cond, List, [], ◌∷◌, ℤ, pos, Float, eqb, length, Result}
+use Rattle.std.specs.Prelude.{ℕ, List, [], ◌∷◌, ℤ, pos, Float, eqb, length, replicate, Option, Some, None, Result, Ok, Err}
 use Rattle.group.specs.declared.Point.{Point}
 use Rattle.group.specs.declared.Position.{Position}
 use Rattle.group.specs.declared.Refusal.{Refusal}
-use Rattle.group.specs.Refusals.{refusal, verdict_refusal, lent_after}
+use Rattle.group.specs.Refusals.{refusal, refusal_of}
 use Rattle.text.specs.Parts.{start_of, end_of}
-use Rattle.header.specs.declared.Reading.{Reading}
-use Rattle.header.specs.Header.{read_header, written, written_refusal, written_count, bytes_after}
-use Rattle.nodes.specs.Load.{loaded, loaded_refusal, nodes_after}
+use Rattle.header.specs.Header.{read_header, written, bytes_after}
+use Rattle.nodes.specs.Load.{loaded, nodes_after}
 use Rattle.judge.specs.Judge.{judged}
 use Rattle.inforce.specs.declared.Area.{Area}
-use Rattle.inforce.specs.declared.Uncovered.{Uncovered}
 use Rattle.inforce.specs.Hole.{hole_of}
 use Rattle.lookup.specs.declared.Answer.{Answer as Found}
 use Rattle.lookup.specs.Answer.{answer_record}
@@ -18,7 +16,7 @@ use Rattle.lookup.specs.Lookup.{looked}
 use Rattle.exercise.specs.Exercise.{many_verdict, results_after}
 use Rattle.logs.specs.declared.Fault.{Fault}
 use Rattle.logs.specs.Line.{position_of}
-use Rattle.logs.specs.Log.{log_judged, judgement_refusal, judgement_fault}
+use Rattle.logs.specs.Log.{log_judged}
 use Rattle.logs.specs.Writing.{line_written, line_after}
 use Rattle.numbers.specs.Order.{count_of}
 use Rattle.abi.specs.Abi.{group_of_words, numbers_of}
@@ -35,18 +33,23 @@ pub record Answer (A : Type 0) : Type 0 where
 abbrev pub left : {A : Type 0} → ℕ → ℕ → A → Answer A
 left number place lent = record { refusal = refusal number place; lent = lent }
 
+-- what a call answers: what its answer fills in, and beside a refusal what is given for it
+abbrev pub filled : {A B : Type 0} → (A → B) → B → Result A Refusal → B
+filled fill beside (Ok x) = fill x
+filled fill beside (Err r) = beside
+
+abbrev pub answered : {A B : Type 0} → (A → B) → B → Result A Refusal → Answer B
+answered fill beside a = record { refusal = refusal_of a; lent = filled fill beside a }
+
 -- ---- judging
 
 unfoldable pub judge_answer : List ℤ → Refusal
-judge_answer group = verdict_refusal (judged (group_of_words group))
+judge_answer group = refusal_of (judged (group_of_words group))
 
 -- ---- reading: the group's numbers, which stay as they were after a refusal
 
-abbrev pub read_of : Reading → List ℤ → Answer (List ℤ)
-read_of r lent = record { refusal = verdict_refusal r.verdict; lent = lent_after (verdict_refusal r.verdict) (numbers_of r.group) lent }
-
 unfoldable pub read_answer : List ℕ → List ℤ → Answer (List ℤ)
-read_answer text lent = read_of (read_header text) lent
+read_answer text lent = answered numbers_of lent (read_header text)
 
 -- ---- lookup: the chosen grid's number and three results
 
@@ -67,7 +70,7 @@ lookup_answer group nodes lon lat day = found_answer (answer_record (looked (gro
 unfoldable pub many_answer : (group nodes : List ℤ) → List Position → List Found → Answer (List Found)
 many_answer group nodes points results =
     record {
-      refusal = verdict_refusal (many_verdict (group_of_words group) (length nodes) (eqb (length points) (length results)));
+      refusal = refusal_of (many_verdict (group_of_words group) (length nodes) (eqb (length points) (length results)));
       lent = results_after (group_of_words group) nodes points results;
     }
 
@@ -80,16 +83,14 @@ area_of west east south north =
       lat = record { south = record { 0 = south }; north = record { 0 = north } };
     }
 
--- ---- the hole of an area: 1 if there is one, else 0, and its longitude and latitude
+-- ---- the hole of an area: 1, its longitude and its latitude, or three zeros where it has none and beside a refusal
 
-abbrev pub hole_numbers : Uncovered → List ℤ
-hole_numbers h = cond h.found (pos 1) (pos 0) ∷ h.lon.0 ∷ h.lat.0 ∷ []
-
-abbrev pub hole_left : Uncovered → Answer (List ℤ)
-hole_left h = record { refusal = verdict_refusal h.verdict; lent = hole_numbers h }
+abbrev pub hole_numbers : Option Point → List ℤ
+hole_numbers (Some p) = pos 1 ∷ p.lon.0 ∷ p.lat.0 ∷ []
+hole_numbers None = replicate 3 (pos 0)
 
 unfoldable pub hole_answer : List ℤ → Area → Answer (List ℤ)
-hole_answer group area = hole_left (hole_of (group_of_words group) area)
+hole_answer group area = answered hole_numbers (replicate 3 (pos 0)) (hole_of (group_of_words group) area)
 
 -- ---- writing: the count of bytes, and the lent bytes
 
@@ -101,7 +102,7 @@ abbrev pub lent_text : ℕ → List ℕ → Text
 lent_text count bytes = record { count = count; bytes = bytes }
 
 abbrev pub written_answer : Result ℕ Refusal → List ℕ → Answer Text
-written_answer w bytes = record { refusal = written_refusal w; lent = lent_text (written_count w) bytes }
+written_answer w bytes = record { refusal = refusal_of w; lent = lent_text (filled (λ n. n) 0 w) bytes }
 
 unfoldable pub write_answer : List ℤ → List ℕ → Answer Text
 write_answer group out = written_answer (written (group_of_words group) (length out)) (bytes_after (group_of_words group) out)
@@ -111,11 +112,8 @@ write_answer group out = written_answer (written (group_of_words group) (length 
 abbrev pub fault_numbers : Fault → List ℕ
 fault_numbers f = f.line ∷ f.kind ∷ []
 
-abbrev pub judgement_answer : Result Fault Refusal → Answer (List ℕ)
-judgement_answer j = record { refusal = judgement_refusal j; lent = fault_numbers (judgement_fault j) }
-
 unfoldable pub log_answer : (group nodes : List ℤ) → List ℕ → Answer (List ℕ)
-log_answer group nodes log = judgement_answer (log_judged (group_of_words group) nodes log)
+log_answer group nodes log = answered fault_numbers (replicate 2 0) (log_judged (group_of_words group) nodes log)
 
 -- ---- writing the line of a position, given as its three numbers
 
@@ -132,7 +130,7 @@ field_part line k = start_of 9 line k ∷ end_of 9 line k ∷ []
 -- ---- loading: Q below zero is outside its limit
 
 abbrev pub loaded_by : ℕ → Float → List Float → List ℤ → Answer (List ℤ)
-loaded_by q flag floats nodes = record { refusal = loaded_refusal (loaded q flag floats (length nodes)); lent = nodes_after q flag floats nodes }
+loaded_by q flag floats nodes = record { refusal = refusal_of (loaded q flag floats (length nodes)); lent = nodes_after q flag floats nodes }
 
 unfoldable pub load_answer : ℤ → Float → List Float → List ℤ → Answer (List ℤ)
 load_answer quantum flag floats nodes = loaded_by (count_of quantum) flag floats nodes

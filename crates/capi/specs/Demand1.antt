@@ -1,6 +1,8 @@
 -- Demand 1 of what every call of the C interface returns and leaves: 0 exactly where the call is accepted, else a number of the table; and
 -- after a refusal memory lent for output is as it was, and every number handed back beside it is 0.
-use Rattle.std.specs.Prelude.{ℕ, ◌≡◌, List, eqb, ℤ, pos, Float, length, replicate, Ok}
+use Rattle.std.specs.Prelude.{ℕ, ◌≡◌, List, eqb, ℤ, pos, Float, length, replicate, Option, Ok}
+use Rattle.group.specs.declared.Group.{Group}
+use Rattle.group.specs.declared.Point.{Point}
 use Rattle.group.specs.declared.Position.{Position}
 use Rattle.group.specs.Refusals.{Told}
 use Rattle.judge.specs.Judge.{judged}
@@ -10,6 +12,7 @@ use Rattle.lookup.specs.declared.Answer.{Answer as Found}
 use Rattle.lookup.specs.Lookup.{looked}
 use Rattle.exercise.specs.Exercise.{many_verdict}
 use Rattle.inforce.specs.declared.Area.{Area}
+use Rattle.inforce.specs.declared.InForce.{InForce}
 use Rattle.inforce.specs.InForce.{in_force_of}
 use Rattle.inforce.specs.Hole.{hole_of}
 use Rattle.nodes.specs.Load.{loaded}
@@ -34,7 +37,7 @@ pub record Judges (group : List ℤ) : Type 0 where
   pub told : Told (judged (group_of_words group) ≡ Ok tt) (judge_answer group)
 
 pub record Reads (text : List ℕ) (group : List ℤ) : Type 0 where
-  pub told : Told ((read_header text).verdict ≡ Ok tt) (read_answer text group).refusal
+  pub told : Told ((g : Group) × (read_header text ≡ Ok g)) (read_answer text group).refusal
   -- the group is as it was
   pub kept : LeftBeside group (read_answer text group)
 
@@ -66,11 +69,11 @@ pub record LooksMany (group nodes : List ℤ) (points : List Position) (results 
   pub kept : LeftBeside results (many_answer group nodes points results)
 
 pub record Lists (group : List ℤ) (area : Area) : Type 0 where
-  pub told : Told ((in_force_of (group_of_words group) area).verdict ≡ Ok tt) (in_force_answer group area).refusal
+  pub told : Told ((l : InForce) × (in_force_of (group_of_words group) area ≡ Ok l)) (in_force_answer group area).refusal
   pub zeros : LeftBeside (replicate list_words (pos 0)) (in_force_answer group area)
 
 pub record FindsHole (group : List ℤ) (area : Area) : Type 0 where
-  pub told : Told ((hole_of (group_of_words group) area).verdict ≡ Ok tt) (hole_answer group area).refusal
+  pub told : Told ((h : Option Point) × (hole_of (group_of_words group) area ≡ Ok h)) (hole_answer group area).refusal
   pub zeros : LeftBeside (replicate 3 (pos 0)) (hole_answer group area)
   -- the same refusal as of the grids in force
   pub alike : (hole_answer group area).refusal ≡ (in_force_answer group area).refusal

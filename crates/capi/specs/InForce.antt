@@ -1,13 +1,12 @@
 -- The list of grids in force as the C interface passes it: the count and all entries.
-use Rattle.std.specs.Prelude.{ℕ, ◌+◌, ◌*◌, List, [], ◌∷◌, ◌++◌, ℤ, pos, get_or}
+use Rattle.std.specs.Prelude.{ℕ, ◌+◌, ◌*◌, List, [], ◌∷◌, ◌++◌, ℤ, pos, get_or, replicate}
 use Rattle.group.specs.Numbers.{grids_most}
 use Rattle.inforce.specs.declared.Area.{Area}
 use Rattle.inforce.specs.declared.GridInForce.{GridInForce}
 use Rattle.inforce.specs.declared.InForce.{InForce}
 use Rattle.inforce.specs.InForce.{blank_entry, in_force_of}
-use Rattle.group.specs.Refusals.{verdict_refusal}
 use Rattle.abi.specs.Abi.{group_of_words, stored, joined}
-use Rattle.capi.specs.Answers.{Answer}
+use Rattle.capi.specs.Answers.{Answer, answered}
 
 -- where the entries begin, behind the count, the numbers of an entry, and how many numbers there are
 abbrev pub entries_from : ℕ
@@ -33,8 +32,6 @@ stored_entry e = stored e.grid ∷ e.lon.0 ∷ e.lat.0 ∷ []
 unfoldable pub stored_list : InForce → List ℤ
 stored_list r = (stored r.count ∷ []) ++ joined (λ k. stored_entry (get_or r.entries k blank_entry)) grids_most
 
-abbrev pub list_answer : InForce → Answer (List ℤ)
-list_answer r = record { refusal = verdict_refusal r.verdict; lent = list_numbers r }
-
+-- zeros beside a refusal
 unfoldable pub in_force_answer : List ℤ → Area → Answer (List ℤ)
-in_force_answer group area = list_answer (in_force_of (group_of_words group) area)
+in_force_answer group area = answered list_numbers (replicate list_words (pos 0)) (in_force_of (group_of_words group) area)

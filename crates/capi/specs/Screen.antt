@@ -1,14 +1,13 @@
 -- A lookup's answer as the C interface passes it to the screen, and the floats that are handed back.
 use Rattle.std.specs.Prelude.{ℕ, cond, List, [], ◌∷◌, eqb, Float, ℤ, Result, Ok, Err}
 use Rattle.group.specs.declared.Refusal.{Refusal}
-use Rattle.group.specs.Refusals.{refusal}
+use Rattle.group.specs.Refusals.{refusal, refusal_of}
 use Rattle.screen.specs.declared.Shifts.{Shifts}
 use Rattle.screen.specs.declared.ScreenRecord.{ScreenRecord}
-use Rattle.screen.specs.Screen.{screen_refusal, shifts_of, answer_of, record_of}
+use Rattle.screen.specs.Screen.{shifts_of, answer_of, record_of}
 use Rattle.numbers.specs.Order.{count_of}
 use Rattle.abi.specs.Abi.{number_at, count_at}
 use Rattle.capi.specs.Answers.{Answer, point_of}
-use Rattle.group.specs.declared.Refusal.{Refusal}
 use Rattle.fix.specs.declared.Fix.{Fix}
 
 -- the number that the lookup returned, the place that it left and the four numbers that it filled
@@ -27,7 +26,7 @@ abbrev pub record_floats : ScreenRecord → List Float
 record_floats r = r.longitude ∷ r.latitude ∷ r.first ∷ r.second ∷ r.third ∷ []
 
 abbrev pub shifts_answer : Result Shifts Refusal → Answer (List Float)
-shifts_answer s = record { refusal = screen_refusal s; lent = shifts_of s }
+shifts_answer s = record { refusal = refusal_of s; lent = shifts_of s }
 
 abbrev pub record_answer : ℤ → ℤ → Result Shifts Refusal → Answer (List Float)
-record_answer lon lat s = record { refusal = screen_refusal s; lent = record_floats (record_of (point_of lon lat) s) }
+record_answer lon lat s = record { refusal = refusal_of s; lent = record_floats (record_of (point_of lon lat) s) }

@@ -1,17 +1,14 @@
 // The C interface: every public call over numbers, slices and references to arrays, as include/bulhyemik.h documents it.
 #![tactic(auto)]
 
-ghost use Rattle.std.specs.Prelude.{◌≡◌, ◌≤◌, length, get_or};
+ghost use Rattle.std.specs.Prelude.{◌≡◌, ◌≤◌, length, get_or, replicate, pos};
 ghost use Rattle.std.proofs.lemmas.List.Edits.{sets};
 ghost use Rattle.group.specs.Numbers.{grids_most};
-ghost use Rattle.group.specs.Refusals.{refusal, no_refusal, verdict_refusal};
-ghost use Rattle.header.specs.Header.{written_refusal, written_count};
-ghost use Rattle.nodes.specs.Load.{loaded_refusal};
+ghost use Rattle.group.specs.Refusals.{refusal, refusal_of};
 ghost use Rattle.inforce.specs.InForce.{blank_entry};
-ghost use Rattle.screen.specs.Screen.{screen_refusal, shifts_of};
+ghost use Rattle.screen.specs.Screen.{shifts_of};
 ghost use Rattle.abi.specs.Abi.{joined};
-ghost use Rattle.logs.specs.Log.{judgement_refusal, judgement_fault};
-ghost use Rattle.capi.specs.Answers.{version, left, area_of, hole_numbers, fault_numbers, lent_text, field_part};
+ghost use Rattle.capi.specs.Answers.{version, left, filled, area_of, hole_numbers, fault_numbers, lent_text, field_part};
 ghost use Rattle.capi.specs.Answers.{judge_answer, read_answer, write_answer, lookup_answer, many_answer, hole_answer, log_answer, line_answer, load_answer};
 ghost use Rattle.capi.specs.InForce.{entries_from, list_words, stored_entry, stored_list, in_force_answer};
 ghost use Rattle.capi.specs.Screen.{lookup_of, shown_of, shifts_answer, record_answer};
@@ -20,7 +17,7 @@ use abi::GROUP_WORDS;
 use extent::{LatSpan, LonSpan};
 use fix::Fix;
 use group::{GRIDS_MOST, Latitude, Longitude, Point, Position, Refusal};
-use inforce::{Area, GridInForce, InForce, Uncovered};
+use inforce::{Area, GridInForce, InForce};
 use lookup::Answer;
 use screen::Shifts;
 
@@ -42,23 +39,19 @@ pub extern "C" fn bulhyemik_version() -> u64
     VERSION
 }
 
-// A call that was accepted.
-fn no_refusal() -> Refusal
-    ensures { result ≡ no_refusal }
+// Tells C what an answer refuses: the place is left, and the number returned, 0 and 0 where it refuses nothing.
+fn told<T>(answer: &Result<T, Refusal>, place: &mut u64) -> u64
+    ensures { refusal result place.new ≡ refusal_of answer.now }
 {
-    Refusal {
-        number: 0,
-        place: 0,
-    }
-}
-
-// The refusal of a verdict.
-fn verdict_refusal(v: Result<(), Refusal>) -> Refusal
-    ensures { result ≡ verdict_refusal v }
-{
-    match v {
-        Ok(()) => no_refusal(),
-        Err(refusal) => refusal,
+    match answer {
+        Ok(_) => {
+            *place = 0;
+            0
+        }
+        Err(refusal) => {
+            *place = refusal.place;
+            refusal.number
+        }
     }
 }
 
@@ -67,9 +60,7 @@ fn verdict_refusal(v: Result<(), Refusal>) -> Refusal
 pub extern "C" fn bulhyemik_judge(group: &[i64; GROUP_WORDS], place: &mut u64) -> u64
     ensures { refusal result place.new ≡ judge_answer group.now }
 {
-    let refusal = verdict_refusal(judge::judge_words(group));
-    *place = refusal.place;
-    refusal.number
+    told(&judge::judge_words(group), place)
 }
 
 // Reads a header text into a group, which stays as it was after a refusal: 1 or 2 at the first faulty line, then 3, 4, 5.
@@ -82,36 +73,17 @@ pub extern "C" fn bulhyemik_read_header(
     ensures { left result place.new group.new ≡ read_answer text.now group.old }
 {
     let reading = header::read_header(text);
-    let verdict = reading.verdict;
-    let found = reading.group;
-    match verdict {
-        Ok(()) => {
-            *group = abi::numbers_of(found);
-            *place = 0;
-            0
-        }
-        Err(refusal) => {
-            *place = refusal.place;
-            refusal.number
-        }
+    if let Ok(found) = reading {
+        *group = abi::numbers_of(found);
     }
+    told(&reading, place)
 }
 
-// The refusal of a writing.
-fn written_refusal(w: Result<usize, Refusal>) -> Refusal
-    ensures { result ≡ written_refusal w }
+// The count of bytes of a writing, 0 beside a refusal.
+fn written_count(written: Result<usize, Refusal>) -> u64
+    ensures { result ≡ filled (λ n. n) 0 written }
 {
-    match w {
-        Ok(_) => no_refusal(),
-        Err(refusal) => refusal,
-    }
-}
-
-// The count of bytes of a writing.
-fn written_count(w: Result<usize, Refusal>) -> u64
-    ensures { result ≡ written_count w }
-{
-    match w {
+    match written {
         Ok(n) => n as u64,
         Err(_) => 0,
     }
@@ -127,26 +99,14 @@ pub extern "C" fn bulhyemik_write_header(
 ) -> u64
     ensures { left result place.new (lent_text count.new out.new) ≡ write_answer group.now out.old }
 {
-    let w = header::write_words(group, out);
-    let refusal = written_refusal(w);
-    *count = written_count(w);
-    *place = refusal.place;
-    refusal.number
-}
-
-// The refusal of a judgement.
-fn judgement_refusal(j: Result<Fault, Refusal>) -> Refusal
-    ensures { result ≡ judgement_refusal j }
-{
-    match j {
-        Ok(_) => no_refusal(),
-        Err(refusal) => refusal,
-    }
+    let written = header::write_words(group, out);
+    *count = written_count(written);
+    told(&written, place)
 }
 
 // The line and the kind of a judgement.
 fn fault_numbers(j: Result<Fault, Refusal>) -> [u64; 2]
-    ensures { result ≡ fault_numbers (judgement_fault j) }
+    ensures { result ≡ filled fault_numbers (replicate 2 0) j }
 {
     match j {
         Ok(fault) => [fault.line, fault.kind],
@@ -166,11 +126,8 @@ pub extern "C" fn bulhyemik_judge_log(
     ensures { left result place.new fault.new ≡ log_answer group.now nodes.now log.now }
 {
     let judged = logs::log_words(group, nodes, log);
-    let numbers = fault_numbers(judged);
-    let refusal = judgement_refusal(judged);
-    *fault = numbers;
-    *place = refusal.place;
-    refusal.number
+    *fault = fault_numbers(judged);
+    told(&judged, place)
 }
 
 // Writes the line of a position, its longitude and latitude in mas and its day: refusals of a lookup, then 12 if `out` is too short.
@@ -192,11 +149,9 @@ pub extern "C" fn bulhyemik_write_log_line(
         lat: Latitude(position[1]),
         day: position[2],
     };
-    let w = logs::line_words(group, nodes, at, out);
-    let refusal = written_refusal(w);
-    *count = written_count(w);
-    *place = refusal.place;
-    refusal.number
+    let written = logs::line_words(group, nodes, at, out);
+    *count = written_count(written);
+    told(&written, place)
 }
 
 // Finds a field of a line, counted from 0: where it begins and where it ends. Nothing is refused.
@@ -244,21 +199,16 @@ pub extern "C" fn bulhyemik_lookup_many(
     ensures { left result place.new results.new
         ≡ many_answer group.now nodes.now points.now results.old }
 {
-    let verdict = exercise::many_words(group, nodes, points, results);
-    let refusal = verdict_refusal(verdict);
-    *place = refusal.place;
-    refusal.number
+    told(&exercise::many_words(group, nodes, points, results), place)
 }
 
 // The numbers of a list of grids in force: the count, and three of each entry.
 fn list_numbers(list: InForce) -> [i64; LIST_WORDS]
     ensures { result ≡ stored_list list }
 {
-    let entries = list.entries;
     let mut out = [0i64; LIST_WORDS];
-    let count = [abi::as_stored(list.count)];
-    abi::store_numbers(&mut out, 0, &count);
-    store_entries(&mut out, entries);
+    abi::store_numbers(&mut out, 0, &[abi::as_stored(list.count)]);
+    store_entries(&mut out, list.entries);
     out
 }
 
@@ -267,12 +217,20 @@ fn store_entries(out: &mut [i64], entries: [GridInForce; GRIDS_MOST])
     requires { list_words ≤ length out.old }
     ensures { out.new ≡ sets out.old entries_from (joined (λ k. stored_entry (get_or entries k blank_entry)) grids_most) }
 {
-    let mut i = 0;
-    while i < GRIDS_MOST {
+    for i in 0..GRIDS_MOST {
         let e = entries[i];
         let numbers = [abi::as_stored(e.grid), e.lon.0, e.lat.0];
         abi::store_numbers(out, i * ENTRY_WORDS + ENTRIES_FROM, &numbers);
-        i += 1;
+    }
+}
+
+// The same, zeros beside a refusal.
+fn listed(found: Result<InForce, Refusal>) -> [i64; LIST_WORDS]
+    ensures { result ≡ filled stored_list (replicate list_words (pos 0)) found }
+{
+    match found {
+        Ok(list) => list_numbers(list),
+        Err(_) => [0; LIST_WORDS],
     }
 }
 
@@ -306,22 +264,18 @@ pub extern "C" fn bulhyemik_grids_in_force(
     ensures { left result place.new list.new ≡ in_force_answer group.now (area_of west east south north) }
 {
     let found = inforce::force_words(group, area_of(west, east, south, north));
-    let verdict = found.verdict;
-    let numbers = list_numbers(found);
-    let refusal = verdict_refusal(verdict);
-    *list = numbers;
-    *place = refusal.place;
-    refusal.number
+    *list = listed(found);
+    told(&found, place)
 }
 
-// The numbers of a hole: 1 if there is one, else 0, and its longitude and latitude.
-fn hole_numbers(hole: Uncovered) -> [i64; 3]
-    ensures { result ≡ hole_numbers hole }
+// The numbers of a hole: 1, its longitude and its latitude, or zeros where there is none and beside a refusal.
+fn hole_numbers(found: Result<Option<Point>, Refusal>) -> [i64; 3]
+    ensures { result ≡ filled hole_numbers (replicate 3 (pos 0)) found }
 {
-    if hole.found {
-        return [1, hole.lon.0, hole.lat.0];
+    match found {
+        Ok(Some(p)) => [1, p.lon.0, p.lat.0],
+        _ => [0, 0, 0],
     }
-    [0, hole.lon.0, hole.lat.0]
 }
 
 // Finds the southmost, then westmost coordinate of an area at which no grid is chosen, all in mas: refusals 2 to 5, then 10.
@@ -337,23 +291,9 @@ pub extern "C" fn bulhyemik_hole(
 ) -> u64
     ensures { left result place.new uncovered.new ≡ hole_answer group.now (area_of west east south north) }
 {
-    let hole = inforce::hole_words(group, area_of(west, east, south, north));
-    let verdict = hole.verdict;
-    let numbers = hole_numbers(hole);
-    let refusal = verdict_refusal(verdict);
-    *uncovered = numbers;
-    *place = refusal.place;
-    refusal.number
-}
-
-// The refusal of a load.
-fn loaded_refusal(l: Result<(), Refusal>) -> Refusal
-    ensures { result ≡ loaded_refusal l }
-{
-    match l {
-        Ok(()) => no_refusal(),
-        Err(refusal) => refusal,
-    }
+    let found = inforce::hole_words(group, area_of(west, east, south, north));
+    *uncovered = hole_numbers(found);
+    told(&found, place)
 }
 
 // Loads floats in units as nodes in steps of 2 to the power -quantum: refusals 2, 12 and 11.
@@ -368,9 +308,7 @@ pub extern "C" fn bulhyemik_load_nodes(
     ensures { left result place.new nodes.new ≡ load_answer quantum flag floats.now nodes.old }
 {
     let q = numbers::count_of(quantum);
-    let refusal = loaded_refusal(nodes::load_nodes(floats, flag, q, nodes));
-    *place = refusal.place;
-    refusal.number
+    told(&nodes::load_nodes(floats, flag, q, nodes), place)
 }
 
 // A lookup's answer of the number that it returned, the place that it left and the numbers that it filled.
@@ -386,19 +324,9 @@ fn lookup_of(number: u64, at: u64, fix: &[i64; 4]) -> Result<Fix, Refusal>
         });
     }
     Err(Refusal {
-        number: number,
+        number,
         place: at,
     })
-}
-
-// The refusal of a screen answer.
-fn screen_refusal(s: Result<Shifts, Refusal>) -> Refusal
-    ensures { result ≡ screen_refusal s }
-{
-    match s {
-        Ok(_) => no_refusal(),
-        Err(refusal) => refusal,
-    }
 }
 
 // The shifts of a screen answer.
@@ -427,11 +355,8 @@ pub extern "C" fn bulhyemik_screen_answer(
     let q = numbers::count_of(quantum);
     let np = numbers::count_of(parameters);
     let shown = screen::screen_answer(lookup_of(number, at, fix), q, np);
-    let floats = shift_floats(shown);
-    let refusal = screen_refusal(shown);
-    *shifts = floats;
-    *place = refusal.place;
-    refusal.number
+    *shifts = shift_floats(shown);
+    told(&shown, place)
 }
 
 // Fills the screen record: the degrees of a point in mas, and the shifts as `bulhyemik_screen_answer` has them.
@@ -457,8 +382,6 @@ pub extern "C" fn bulhyemik_screen_record(
     };
     let shown = screen::screen_answer(lookup_of(number, at, fix), q, np);
     let r = screen::record_of(point, shown);
-    let refusal = screen_refusal(shown);
     *screen = [r.longitude, r.latitude, r.first, r.second, r.third];
-    *place = refusal.place;
-    refusal.number
+    told(&shown, place)
 }

@@ -8,4 +8,4 @@ pub returns : goal.returns
 returns c =
     let f = c.ranges in
     let area = c.area_of.ensures ∙ same_area (to_z-of_z f.west) (to_z-of_z f.east) (to_z-of_z f.south) (to_z-of_z f.north) in
-    hole_told c.args.group.now _ _ _ _ _ area c.hole_words-hole.ensures c.verdict_refusal-refusal.ensures c.hole_numbers-numbers.ensures
+    hole_told c.args.group.now _ _ _ _ _ _ area c.hole_words-found.ensures c.told.ensures c.hole_numbers.ensures

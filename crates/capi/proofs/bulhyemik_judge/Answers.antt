@@ -3,4 +3,4 @@ use Rattle.capi.proofs.AnswerLaws.{judge_told}
 use Rattle.capi.proofs.bulhyemik_judge.Goals as goal
 
 pub returns : goal.returns
-returns c = judge_told c.args.group.now _ _ c.judge_words.ensures c.verdict_refusal-refusal.ensures
+returns c = judge_told c.args.group.now _ _ _ c.judge_words.ensures c.told.ensures

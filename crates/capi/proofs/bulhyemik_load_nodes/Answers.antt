@@ -9,5 +9,5 @@ pub returns : goal.returns
 returns c =
     let s = c.args in
     let l = c.load_nodes.ensures in
-    load_told s.quantum s.flag s.floats.now s.nodes.now _ _ _ _ (c.count_of-q.ensures ∙ ap count_of (to_z-of_z c.ranges.quantum)) l.value
-    l.nodes_after c.loaded_refusal-refusal.ensures
+    load_told s.quantum s.flag s.floats.now s.nodes.now _ _ _ _ _ (c.count_of-q.ensures ∙ ap count_of (to_z-of_z c.ranges.quantum)) l.value
+    l.nodes_after c.told.ensures

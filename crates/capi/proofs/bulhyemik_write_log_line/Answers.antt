@@ -11,9 +11,9 @@ pub returns : goal.returns
 returns c =
     let s = c.args in
     let p = s.position.now in
-    let w = c.line_words-w.ensures in
+    let w = c.line_words-written.ensures in
     let lon : to_z w64 (of_z w64 (number_at p 0)) ≡ number_at p 0 = search rules in
     let lat : to_z w64 (of_z w64 (number_at p 1)) ≡ number_at p 1 = search rules in
     let day : to_z w64 (of_z w64 (number_at p 2)) ≡ number_at p 2 = search rules in
-    line_told s.group.now s.nodes.now p s.out.now _ _ _ _ _ (λ i. record { lon = record { 0 = lon i }; lat = record { 0 = lat i }; day = day i })
-    w.answer w.bytes c.written_refusal-refusal.ensures c.written_count.ensures
+    line_told s.group.now s.nodes.now p s.out.now _ _ _ _ _ _ (λ i. record { lon = record { 0 = lon i }; lat = record { 0 = lat i }; day = day i })
+    w.answer w.bytes c.told.ensures c.written_count.ensures

@@ -9,6 +9,3 @@ use Rattle.capi.proofs.store_entries.Given as goal
 
 abbrev pub invariant-loop-i : goal.invariant-loop-i
 invariant-loop-i l = Run (λ k. stored_entry (get_or l.entries k blank_entry)) grids_most l.initial.out entries_from l.i l.out
-
-abbrev pub decreases-loop-i : goal.decreases-loop-i
-decreases-loop-i l = grids_most - l.i
