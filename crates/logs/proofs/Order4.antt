@@ -43,18 +43,18 @@ called v w f = unless_refused Err v (unless_refused Err w (Ok f))
 
 called_refusal : (v w : Result ⊤ Refusal) (f : Fault) → judgement_refusal (called v w f) ≡ verdict_refusal (unless_refused Err v w)
 called_refusal (Err r) w f = refl
-called_refusal (Ok tt) (Err r) f = refl
-called_refusal (Ok tt) (Ok tt) f = refl
+called_refusal (Ok _) (Err r) f = refl
+called_refusal (Ok _) (Ok _) f = refl
 
 called_fault : (v w : Result ⊤ Refusal) (f : Fault) → unless_refused Err v w ≡ Ok tt → judgement_fault (called v w f) ≡ f
 called_fault (Err r) w f h = absurd (no_acceptance r h)
-called_fault (Ok tt) (Err r) f h = absurd (no_acceptance r h)
-called_fault (Ok tt) (Ok tt) f h = refl
+called_fault (Ok _) (Err r) f h = absurd (no_acceptance r h)
+called_fault (Ok _) (Ok _) f h = refl
 
 called_zeros : (v w : Result ⊤ Refusal) (f : Fault) → (judgement_refusal (called v w f) ≡ no_refusal → ⊥) → judgement_fault (called v w f) ≡ no_fault
 called_zeros (Err r) w f h = refl
-called_zeros (Ok tt) (Err r) f h = refl
-called_zeros (Ok tt) (Ok tt) f h = absurd (h refl)
+called_zeros (Ok _) (Err r) f h = refl
+called_zeros (Ok _) (Ok _) f h = absurd (h refl)
 
 module _ (g : Group) (nodes : List ℤ) where
   abbrev verdict : Result ⊤ Refusal
@@ -176,14 +176,14 @@ one_line g nodes line f h = fault_is g nodes (line ++ 10 ∷ []) h ∙ one_close
 called_good : (v w : Result ⊤ Refusal) (a b c : Fault) (n : ℕ) → (a ≡ no_fault → c ≡ later n b) → judgement_fault (called v w a) ≡ no_fault
     → judgement_fault (called v w c) ≡ later n (judgement_fault (called v w b))
 called_good (Err r) w a b c n f h = refl
-called_good (Ok tt) (Err r) a b c n f h = refl
-called_good (Ok tt) (Ok tt) a b c n f h = f h
+called_good (Ok _) (Err r) a b c n f h = refl
+called_good (Ok _) (Ok _) a b c n f h = f h
 
 called_bad : (v w : Result ⊤ Refusal) (a c : Fault) → ((a ≡ no_fault → ⊥) → c ≡ a) → (judgement_fault (called v w a) ≡ no_fault → ⊥)
     → judgement_fault (called v w c) ≡ judgement_fault (called v w a)
 called_bad (Err r) w a c f h = refl
-called_bad (Ok tt) (Err r) a c f h = refl
-called_bad (Ok tt) (Ok tt) a c f h = f h
+called_bad (Ok _) (Err r) a c f h = refl
+called_bad (Ok _) (Ok _) a c f h = f h
 
 pub in_parts : (g : Group) (nodes : List ℤ) (a b : List ℕ) → InParts g nodes a b
 unfolding log_judged log_fault
@@ -201,8 +201,8 @@ line_written_lem = own_writing
 
 called_passed : (v w : Result ⊤ Refusal) (f : Fault) → f ≡ no_fault → judgement_fault (called v w f) ≡ no_fault
 called_passed (Err r) w f h = refl
-called_passed (Ok tt) (Err r) f h = refl
-called_passed (Ok tt) (Ok tt) f h = h
+called_passed (Ok _) (Err r) f h = refl
+called_passed (Ok _) (Ok _) f h = h
 
 module _ (g : Group) (nodes : List ℤ) where
   -- a line of ours passes, alone and behind what passes

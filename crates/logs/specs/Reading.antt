@@ -11,6 +11,7 @@ use Rattle.judge.specs.Judge.{judged}
 use Rattle.fix.specs.declared.Fix.{Fix}
 use Rattle.fix.specs.Answers.{result_in}
 use Rattle.exercise.specs.declared.Scale.{Scale}
+use Rattle.exercise.specs.declared.Tables.{Tables}
 use Rattle.exercise.specs.Tables.{CallReady, scale_for}
 use Rattle.logs.specs.declared.Turn.{Turn}
 use Rattle.logs.specs.Line.{position_of, read_entry, line_kind}
@@ -39,7 +40,7 @@ abbrev pub Scaled : Group → Scale → Type 0
 Scaled g s = s ≡ scale_for g s.day
 
 -- what a line's turn may rely on, and what it answers: the line's kind, and the scale of the day last looked up
-pub record TurnReady (g : Group) (nodes : ℕ) (tables : List ℕ) (s : Scale) : Type 0 where
+pub record TurnReady (g : Group) (nodes : ℕ) (tables : Tables) (s : Scale) : Type 0 where
   pub call : CallReady g nodes tables
   pub scale : Scaled g s
 

@@ -18,7 +18,7 @@ ghost use Rattle.logs.specs.Writing.{line_text, found_written, found_after, line
 ghost use Rattle.logs.specs.Reading.{EntryRead, FoundIn, TurnReady, TurnTaken, FixFound};
 
 use abi::GROUP_WORDS;
-use exercise::{Scale, TABLE_WORDS};
+use exercise::{Scale, Tables};
 use fix::Fix;
 use group::{Group, Latitude, Longitude, Point, Position, Refusal};
 use line::Form;
@@ -93,12 +93,10 @@ fn names_grid(words: &[i64; GROUP_WORDS], k: usize, name: &[u8]) -> bool
     if name.len() as u64 != abi::grid_name_length(words, k) {
         return false;
     }
-    let mut i = 0;
-    while i < name.len() {
-        if name[i] != abi::grid_name_byte(words, k, i) {
+    for (i, b) in name.iter().enumerate() {
+        if *b != abi::grid_name_byte(words, k, i) {
             return false;
         }
-        i += 1;
     }
     true
 }
@@ -108,19 +106,21 @@ fn same_shifts(shifts: &[i64], results: &[i64], n: usize) -> bool
     requires { (n ≤ length shifts.now) × (n ≤ length results.now) }
     ensures { result ≡ same_shifts n shifts.now (number_at results.now) }
 {
-    let mut t = true;
-    let mut q = 0;
-    while q < n {
-        let a = shifts[q];
-        let b = results[q];
-        t = t & ((a <= b) & (b <= a));
-        q += 1;
+    for q in 0..n {
+        if shifts[q] != results[q] {
+            return false;
+        }
     }
-    t
+    true
 }
 
 // The kind of a line that names a grid and shifts, by what the lookup of its position answers.
-fn kind_of(words: &[i64; GROUP_WORDS], found: Result<Fix, Refusal>, name: &[u8], shifts: &[i64]) -> u64
+fn kind_of(
+    words: &[i64; GROUP_WORDS],
+    found: Result<Fix, Refusal>,
+    name: &[u8],
+    shifts: &[i64],
+) -> u64
     requires { FoundIn (group_of_words words.now) found × (length shifts.now ≡ parameters_most) }
     ensures { result ≡ found_kind (group_of_words words.now) name.now shifts.now found }
 {
@@ -138,10 +138,11 @@ fn kind_of(words: &[i64; GROUP_WORDS], found: Result<Fix, Refusal>, name: &[u8],
     0
 }
 
-// The lookup of a point on the day of a scale, by the tables of an accepted call: refusal 6, 9, 7 or 8, or the fix.
+// The lookup of a point on the day of a scale, by the tables of an accepted call: refusal 6, 9, 7 or 8, or the fix. It is written out
+// beside the lookup of many points: as one function with two callers it is in neither loop, and many points took up to 1.44 times as long.
 fn look_at(
     words: &[i64; GROUP_WORDS],
-    tables: &[u64],
+    tables: &Tables,
     nodes: &[i32],
     scale: Scale,
     point: Point,
@@ -163,27 +164,22 @@ fn look_at(
     }
     let x = extent::lon_from_least(point.lon);
     let y = extent::lat_from_least(point.lat);
-    let owners = exercise::OWNERS_FROM;
-    let shifts = exercise::SHIFTS_FROM;
-    let frames = exercise::FRAMES_FROM;
-    let end = exercise::COUNT_AT;
-    let count = tables[exercise::COUNT_AT] as usize;
     let held = choice::first_holder(
-        &tables[..owners],
-        &tables[owners..shifts],
-        &tables[shifts..frames],
-        count,
+        &tables.rows,
+        &tables.owners,
+        &tables.shifts,
+        tables.count,
         x,
         y,
     );
     let np = abi::parameter_count(words);
-    lookup::fix_held(&tables[frames..end], held, np, nodes, scale.factor, x, y)
+    lookup::fix_held(&tables.frames, held, np, nodes, scale.factor, x, y)
 }
 
 // Judges a line, given without its line feed, by the tables of an accepted call and the scale of the day last looked up.
 fn judge_line(
     words: &[i64; GROUP_WORDS],
-    tables: &[u64; TABLE_WORDS],
+    tables: &Tables,
     nodes: &[i32],
     scale: Scale,
     line: &[u8],
@@ -198,12 +194,11 @@ fn judge_line(
     if !read_entry(line, np, &mut cuts, &mut place, &mut shifts) {
         return Turn { kind: FORM, scale };
     }
-    let day = place[2];
     let point = Point {
         lon: Longitude(place[0]),
         lat: Latitude(place[1]),
     };
-    let next = exercise::scale_on(words, scale, day);
+    let next = exercise::scale_on(words, scale, place[2]);
     let found = look_at(words, tables, nodes, next, point);
     let name = text::cut_field(line, &cuts, GRID_FIELD);
     Turn {
@@ -212,13 +207,9 @@ fn judge_line(
     }
 }
 
-// Judges every line of a log in an accepted call.
-fn judge_lines(
-    words: &[i64; GROUP_WORDS],
-    tables: &[u64; TABLE_WORDS],
-    nodes: &[i32],
-    log: &[u8],
-) -> Fault
+// Judges every line of a log in an accepted call. No range or list says where the lines begin: each turn goes on behind the line feed that
+// it found, which is looked for in blocks of bytes.
+fn judge_lines(words: &[i64; GROUP_WORDS], tables: &Tables, nodes: &[i32], log: &[u8]) -> Fault
     requires { CallReady (group_of_words words.now) (length nodes.now) tables.now }
     ensures { result ≡ log_fault (group_of_words words.now) nodes.now log.now }
 {
@@ -226,7 +217,7 @@ fn judge_lines(
     let mut next = 0;
     let mut n: u64 = 0;
     while next < log.len() {
-        let e = text::find_from(log, next, 10);
+        let e = text::find_from(log, next, b'\n');
         if e == log.len() {
             return Fault {
                 line: n + 1,
@@ -251,12 +242,8 @@ fn judge_lines(
 pub fn log_words(words: &[i64; GROUP_WORDS], nodes: &[i32], log: &[u8]) -> Result<Fault, Refusal>
     ensures { result ≡ log_judged (group_of_words words.now) nodes.now log.now }
 {
-    let mut tables = [0u64; TABLE_WORDS];
-    let verdict = exercise::judge_call(words, nodes.len(), true, &mut tables);
-    match verdict {
-        Err(r) => Err(r),
-        Ok(()) => Ok(judge_lines(words, &tables, nodes, log)),
-    }
+    let tables = exercise::judge_call(words, nodes.len(), true)?;
+    Ok(judge_lines(words, &tables, nodes, log))
 }
 
 // Judges a log, one line for each position: `fix` LON LAT DAY GRID V1 .. VNP, parted by tabs, each line closed by its line feed.
@@ -280,15 +267,19 @@ fn put_line(words: &[i64; GROUP_WORDS], position: Position, f: Fix, out: &mut [u
     let r = text::put_number(position.lat.0, out, q);
     let s = text::put_number(position.day, out, r);
     let grid = abi::grid_of_words(words, (f.grid - 1) as usize);
-    let name = grid.name;
-    let t = line::put_name(name, out, s);
+    let t = line::put_name(grid.name, out, s);
     let results = [f.first, f.second, f.third];
     let u = line::put_numbers(&results, abi::parameter_count(words) as usize, out, t);
-    text::put_byte(10, out, u)
+    text::put_byte(b'\n', out, u)
 }
 
 // Writes the line of a fix, or nothing where the output is too short for it.
-fn write_fix(words: &[i64; GROUP_WORDS], position: Position, f: Fix, out: &mut [u8]) -> Result<usize, Refusal>
+fn write_fix(
+    words: &[i64; GROUP_WORDS],
+    position: Position,
+    f: Fix,
+    out: &mut [u8],
+) -> Result<usize, Refusal>
     requires { FixFound (group_of_words words.now) position f }
     ensures answer { result ≡ found_written (group_of_words words.now) position (length out.old) (Ok f) }
     ensures bytes { out.new ≡ found_after (group_of_words words.now) position (Ok f) out.old }
@@ -315,20 +306,23 @@ pub fn line_words(
     ensures answer { result ≡ line_written (group_of_words words.now) nodes.now position (length out.old) }
     ensures bytes { out.new ≡ line_after (group_of_words words.now) nodes.now position out.old }
 {
-    let lon = position.lon;
-    let lat = position.lat;
-    let point = Point { lon, lat };
-    let found = lookup::look_words(words, nodes, point, position.day);
-    match found {
-        Err(r) => Err(r),
-        Ok(f) => write_fix(words, position, f, out),
-    }
+    let point = Point {
+        lon: position.lon,
+        lat: position.lat,
+    };
+    let f = lookup::look_words(words, nodes, point, position.day)?;
+    write_fix(words, position, f, out)
 }
 
 // Writes the one line of a position, `fix` LON LAT DAY GRID V1 .. VNP with its line feed, and answers the count of bytes, at most 102;
 // what stands behind them stays. Refused as the lookup is, then by 12 if the output is too short; nothing is written then. Under the
 // same group and nodes the line passes `judge_log`.
-pub fn write_log_line(group: Group, nodes: &[i32], position: Position, out: &mut [u8]) -> Result<usize, Refusal>
+pub fn write_log_line(
+    group: Group,
+    nodes: &[i32],
+    position: Position,
+    out: &mut [u8],
+) -> Result<usize, Refusal>
     ensures answer { result ≡ line_written group nodes.now position (length out.old) }
     ensures bytes { out.new ≡ line_after group nodes.now position out.old }
 {

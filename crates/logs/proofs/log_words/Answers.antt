@@ -1,28 +1,25 @@
 -- `log_words` meets its contract.
-use mathlib.Core.Path.{◌≡◌, sym, ap, ◌∙◌}
-use mathlib.Core.Bool.{true}
+use mathlib.Core.Path.{ap, ◌∙◌}
 use lib.ListN.{length}
-use Rattle.group.specs.declared.Group.{Group}
+use Rattle.std.specs.Prelude.{Ok}
+use Rattle.std.proofs.lemmas.Result.{err_from_is_err_and}
 use Rattle.abi.specs.Abi.{group_of_words}
-use Rattle.exercise.specs.Exercise.{many_verdict}
 use Rattle.exercise.proofs.CallLaws.{call_ready}
 use Rattle.logs.proofs.LoopLaws.{call_refused, call_accepted}
 use Rattle.logs.proofs.log_words.Goals as goal
-use Rattle.std.specs.Prelude.{Ok}
+
+pub returns-in_err-tables : goal.returns-in_err-tables
+returns-in_err-tables c =
+    let a = c.args in
+    let p = err_from_is_err_and c.from_residual.result c.from_residual.ensures.1 in
+    rw (p.1, p.2) (call_refused (group_of_words a.words.now) a.nodes.now a.log.now _ c.in_err-tables.ensures)
 
 pub judge_lines-requires : goal.judge_lines-requires
 judge_lines-requires c =
-    let g : Group = group_of_words c.args.words.now in
-    let accepted : many_verdict g (length c.args.nodes.now) true ≡ Ok tt = sym c.judge_call-verdict.ensures.0 ∙ c.in-Accepted.is in
-    call_ready g (length c.args.nodes.now) true accepted _ (c.judge_call-verdict.ensures.1 c.in-Accepted.is)
+    let e = c.in_ok-tables.ensures in
+    call_ready (group_of_words c.args.words.now) (length c.args.nodes.now) _ e.0 _ e.1
 
-pub returns-in-Refused : goal.returns-in-Refused
-returns-in-Refused c =
+pub returns : goal.returns
+returns c =
     let a = c.args in
-    call_refused (group_of_words a.words.now) a.nodes.now a.log.now _ (sym c.judge_call-verdict.ensures.0 ∙ c.in-Refused.is)
-
-pub returns-in-Accepted : goal.returns-in-Accepted
-returns-in-Accepted c =
-    let g : Group = group_of_words c.args.words.now in
-    let accepted : many_verdict g (length c.args.nodes.now) true ≡ Ok tt = sym c.judge_call-verdict.ensures.0 ∙ c.in-Accepted.is in
-    ap Ok c.judge_lines.ensures ∙ call_accepted g c.args.nodes.now c.args.log.now accepted
+    ap Ok c.judge_lines.ensures ∙ call_accepted (group_of_words a.words.now) a.nodes.now a.log.now c.in_ok-tables.ensures.0
