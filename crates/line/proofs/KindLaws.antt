@@ -3,7 +3,7 @@ use Prim.Native.Nat.{ℕ, ◌<◌}
 use mathlib.Core.Path.{◌≡◌, refl, sym, ap, ◌∙◌}
 use mathlib.Core.Bool.{Bool, true, cond, ◌&&◌}
 use mathlib.Core.List.{List, [], ◌∷◌, ◌++◌, map}
-use mathlib.Core.Option.{Option, none, some}
+use Rattle.std.specs.Prelude.{Option, None, Some, Ok, Err}
 use native.Mathlib.Omega.{arith}
 use lib.ListN.{length, drop}
 use lib.IntN.{ℤ, pos}
@@ -24,7 +24,6 @@ use Rattle.group.specs.declared.Grid.{Grid}
 use Rattle.line.specs.declared.Head.{Head}
 use Rattle.line.specs.Names.{name_text, read_name, unit_text, read_unit}
 use Rattle.group.specs.Refusals.{refusal}
-use Rattle.line.specs.Line.{good, bad}
 use Rattle.line.specs.Lines.{fields, group_keyword, head_texts, paired, head_fit, head_of, head_ints, head_line, head_text, grid_keyword, grid_texts, grid_fit, grid_of, grid_ints, grid_line, grid_text}
 use Rattle.line.specs.Lines.{ramp_keyword, step_keyword, ramp2_keyword, no_texts, of_shape, shape_fit, shape_fields, function_fields, function_line, shape_keyword, function_text}
 use Rattle.line.proofs.LineLaws.{three_of, four_of_lem, eight_of, WellFormed, fielded_free, fields_good, fields_back, fields_same, limited, Kind, Body, Parted, keyed_same, none_same, parted_kind, body_kind}
@@ -61,7 +60,7 @@ function_parts f = shape_keyword f.shape ∷ map int_text (function_ints f)
 
 -- read, and written again
 module _ {word : List ℕ} {numbers : ℕ} {make : List ℤ → Shape} (k : ShapeKind word numbers make) where
-  function_same : (n : ℕ) (f : Function) (fs : List (List ℕ)) → shape_fields numbers make n fs ≡ good f → function_parts f ≡ word ∷ fs
+  function_same : (n : ℕ) (f : Function) (fs : List (List ℕ)) → shape_fields numbers make n fs ≡ Ok f → function_parts f ≡ word ∷ fs
   unfolding no_texts_lem no_part
   function_same n f fs e =
       let g = fields_good 0 numbers no_texts (shape_fit make) (of_shape make) (refusal 1 n) (refusal 2 n) fs f e in
@@ -76,7 +75,7 @@ unfolding no_texts_lem no_part
 function_back n numbers make s l e =
     fields_back 0 numbers no_texts (shape_fit make) (of_shape make) no_texts_lem no_part function_ints (refusal 1 n) (refusal 2 n) (record { shape = s })
     (record { lead_free = λ c l. tt; lead_count = refl; lead_back = refl; ints_count = l; whole = (λ i. record { shape = e i }) })
-    ∙ ap (λ (t : Shape). cond (shape_fits t) (good (record { shape = s })) (bad (refusal 2 n))) e
+    ∙ ap (λ (t : Shape). cond (shape_fits t) (Ok (record { shape = s })) (Err (refusal 2 n))) e
 
 -- every function is well formed
 abbrev pub FunctionFormed : ℕ → Function → Type 0
@@ -101,7 +100,7 @@ function_parts_lem =
     back n (S.Step s) = function_back n 3 step_of (S.Step s) refl refl
     back n (S.Ramp2 r) = function_back n 4 ramp2_of (S.Ramp2 r) refl refl
 
-    same : (n : ℕ) (ps : List (List ℕ)) (f : Function) → function_fields n ps ≡ good f → function_parts f ≡ ps
+    same : (n : ℕ) (ps : List (List ℕ)) (f : Function) → function_fields n ps ≡ Ok f → function_parts f ≡ ps
     same n ps f =
         keyed_same f (function_parts f) ramp_keyword (shape_fields 4 ramp_of n) _ (function_same ramp_shape n f)
         (keyed_same f (function_parts f) step_keyword (shape_fields 3 step_of n) _ (function_same step_shape n f)
@@ -154,7 +153,7 @@ grid_limits : (g : Grid) → name_fits g.name ≡ true → grid_fit (grid_ints g
 unfolding grid_fits
 grid_limits g e = rw e
 
-grid_lead : (fs : List (List ℕ)) (n : Name) → length fs ≡ 9 → grid_texts fs ≡ some n → fs ≡ (name_text n ∷ []) ++ drop 1 fs
+grid_lead : (fs : List (List ℕ)) (n : Name) → length fs ≡ 9 → grid_texts fs ≡ Some n → fs ≡ (name_text n ∷ []) ++ drop 1 fs
 grid_lead [] n l e = absurd (omega arith)
 grid_lead (f ∷ fs) n l e = ap (λ (g : List ℕ). g ∷ fs) (sym (name_read f n e))
 
@@ -171,7 +170,7 @@ grid_body =
     record {
       word_free = grid_free;
       free = λ c l n a e. fielded_free 1 8 grid_texts grid_fit grid_of grid_texted grid_part grid_ints c l a (grid_formed a e);
-      back = λ n a e. fields_back 1 8 grid_texts grid_fit grid_of grid_texted grid_part grid_ints (refusal 1 n) (refusal 2 n) a (grid_formed a e) ∙ ap (λ (t : Bool). cond t (good a) (bad (refusal 2 n))) (grid_limits a e.name);
+      back = λ n a e. fields_back 1 8 grid_texts grid_fit grid_of grid_texted grid_part grid_ints (refusal 1 n) (refusal 2 n) a (grid_formed a e) ∙ ap (λ (t : Bool). cond t (Ok a) (Err (refusal 2 n))) (grid_limits a e.name);
       same = λ n. fields_same 1 8 grid_texts grid_fit grid_of grid_texted grid_part grid_ints (refusal 1 n) (refusal 2 n) grid_lead (λ b zs. refl) grid_ints_lem;
     }
 
@@ -208,12 +207,12 @@ head_formed h f =
       whole = refl;
     }
 
-pub paired_both : (o : Option Name) (p : Option U.Unit) (t : Name × U.Unit) → paired o p ≡ some t → (o ≡ some t.0) × (p ≡ some t.1)
-paired_both none p t e = let x : ◌≡◌ {A = ℕ} 0 1 = cc in absurd (omega arith)
-paired_both (some n) none t e = let x : ◌≡◌ {A = ℕ} 0 1 = cc in absurd (omega arith)
-paired_both (some n) (some u) t e = let q : (n, u) ≡ t = cc in (ap (λ (x : Name × U.Unit). some x.0) q, ap (λ (x : Name × U.Unit). some x.1) q)
+pub paired_both : (o : Option Name) (p : Option U.Unit) (t : Name × U.Unit) → paired o p ≡ Some t → (o ≡ Some t.0) × (p ≡ Some t.1)
+paired_both None p t e = let x : ◌≡◌ {A = ℕ} 0 1 = cc in absurd (omega arith)
+paired_both (Some n) None t e = let x : ◌≡◌ {A = ℕ} 0 1 = cc in absurd (omega arith)
+paired_both (Some n) (Some u) t e = let q : (n, u) ≡ t = cc in (ap (λ (x : Name × U.Unit). Some x.0) q, ap (λ (x : Name × U.Unit). Some x.1) q)
 
-head_lead : (fs : List (List ℕ)) (t : Name × U.Unit) → length fs ≡ 6 → head_texts fs ≡ some t → fs ≡ (name_text t.0 ∷ unit_text t.1 ∷ []) ++ drop 2 fs
+head_lead : (fs : List (List ℕ)) (t : Name × U.Unit) → length fs ≡ 6 → head_texts fs ≡ Some t → fs ≡ (name_text t.0 ∷ unit_text t.1 ∷ []) ++ drop 2 fs
 head_lead [] t l e = absurd (omega arith)
 head_lead (f ∷ []) t l e = absurd (omega arith)
 head_lead (f ∷ g ∷ fs) t l e =

@@ -1,15 +1,14 @@
 -- Laws of names and units: as text and as records.
 use Prim.Native.Nat.{ℕ, zero, suc, ◌+◌, ◌-◌, ◌<◌, ◌≤◌}
 use mathlib.Core.Path.{◌≡◌, refl, sym, ap, ◌∙◌}
-use mathlib.Core.Bool.{Bool, true, false, cond, ◌&&◌, ◌||◌, and-false}
+use mathlib.Core.Bool.{Bool, true, false, cond, ◌&&◌, ◌||◌}
 use mathlib.Core.List.{List, [], ◌∷◌, ◌++◌}
-use mathlib.Core.Option.{none, some}
+use Rattle.std.specs.Prelude.{None, Some}
 use native.Mathlib.Decide.{dec_lt}
-use native.Mathlib.Numerals.{add-one}
 use native.Mathlib.Omega.{arith}
 use lib.Dec.{leb, eqb}
-use lib.ListN.{length, take, drop, get_or, set, replicate, length-replicate, length-drop, drop_of_length-le, take-append-drop, get_or-append, get_or-eq_default}
-use lib.Seq.{drop-cons, take_at, take-suc, set_at, length-take-le, append_snoc, get_or-take, get_or-drop, get_or-append-add, ext_get_or}
+use lib.ListN.{length, drop, get_or, replicate, length-replicate, length-drop, take-append-drop, get_or-append, get_or-eq_default}
+use lib.Seq.{take_at, length-take-le, get_or-take, get_or-drop, get_or-append-add, ext_get_or}
 use borrow.Author.Tests.{le-leb, lt-leb, leb-true, lt-ltb, le-ltb, eqb-true, ne_eqb}
 use Rattle.numbers.specs.First.{every}
 use Rattle.numbers.proofs.FirstLaws.{every_at, all_every}
@@ -24,24 +23,7 @@ use Rattle.group.specs.declared.Unit as U
 use Rattle.group.specs.declared.Unit.TheVariants.{ArcSecond, Metre}
 use Rattle.line.specs.Names.{all_name_bytes, is_name, name_of, name_text, read_name, unit_text, read_unit}
 
--- ---- what a scan of a name meets
-
-pub bytes_bad : (s : List ℕ) (i : ℕ) → i < length s → name_byte (get_or s i 0) ≡ false → all_name_bytes (drop i s) ≡ false
-bytes_bad s i h e = rw (drop-cons s i 0 h, e)
-
-pub bytes_good : (s : List ℕ) (i : ℕ) → i < length s → name_byte (get_or s i 0) ≡ true → all_name_bytes (drop i s) ≡ all_name_bytes (drop (i + 1) s)
-bytes_good s i h e = rw (drop-cons s i 0 h, e, add-one)
-
-pub bytes_end : (s : List ℕ) (i : ℕ) → length s ≤ i → all_name_bytes (drop i s) ≡ true
-bytes_end s i h = rw (drop_of_length-le s h)
-
-pub name_empty : (s : List ℕ) → length s < 1 → is_name s ≡ false
-unfolding is_name
-name_empty s h = rw (lt-leb 1 (length s) h)
-
-pub name_long : (s : List ℕ) → name_most < length s → is_name s ≡ false
-unfolding is_name
-name_long s h = simp (lt-leb (length s) name_most h, and-false)
+-- ---- a name's length and its bytes
 
 pub name_bytes : (s : List ℕ) → 1 ≤ length s → length s ≤ name_most → is_name s ≡ all_name_bytes s
 unfolding is_name
@@ -66,24 +48,14 @@ name_of_name_text n h z =
     ap (λ (k : ℕ). name_text n ++ replicate (name_most - k) 0) l ∙ ap (λ (t : List ℕ). name_text n ++ t) (sym z) ∙ take-append-drop n.len n.bytes in
     λ i. record { bytes = b i; len = l i }
 
--- a step of the copy
-pub name_step : (s : List ℕ) (i : ℕ) → i < length s → length s ≤ name_most → set (take i s ++ replicate (name_most - i) 0) i (get_or s i 0) ≡ take (i + 1) s ++ replicate (name_most - (i + 1)) 0
-name_step s i h k =
-    let l = length-take-le i s (omega arith) in
-    let m : name_most - i ≡ suc (name_most - (i + 1)) = omega arith in
-    ap (λ (n : ℕ). set (take i s ++ replicate n 0) i (get_or s i 0)) m
-    ∙ set_at (take i s) 0 (replicate (name_most - (i + 1)) 0) (get_or s i 0) i l
-    ∙ sym (append_snoc (take i s) (get_or s i 0) (replicate (name_most - (i + 1)) 0))
-    ∙ ap (λ (t : List ℕ). t ++ replicate (name_most - (i + 1)) 0) (sym (take-suc s i 0 h) ∙ ap (λ (j : ℕ). take j s) (sym (add-one i)))
-
 -- ---- a name as text is a name as a record
 
-bytes_at : (f : List ℕ) (k : ℕ) → all_name_bytes f ≡ true → k < length f → name_byte (get_or f k 0) ≡ true
-bytes_at [] k e h = absurd (omega arith)
-bytes_at (x ∷ xs) zero e h = and_left (name_byte x) (all_name_bytes xs) e
-bytes_at (x ∷ xs) (suc k) e h = bytes_at xs k (and_right (name_byte x) (all_name_bytes xs) e) (omega arith)
+pub bytes_at : (f : List ℕ) (k d : ℕ) → all_name_bytes f ≡ true → k < length f → name_byte (get_or f k d) ≡ true
+bytes_at [] k d e h = absurd (omega arith)
+bytes_at (x ∷ xs) zero d e h = and_left (name_byte x) (all_name_bytes xs) e
+bytes_at (x ∷ xs) (suc k) d e h = bytes_at xs k d (and_right (name_byte x) (all_name_bytes xs) e) (omega arith)
 
-bytes_all : (f : List ℕ) → ((k : ℕ) → k < length f → name_byte (get_or f k 0) ≡ true) → all_name_bytes f ≡ true
+pub bytes_all : (f : List ℕ) → ((k : ℕ) → k < length f → name_byte (get_or f k 0) ≡ true) → all_name_bytes f ≡ true
 bytes_all [] h = refl
 bytes_all (x ∷ xs) h = rw (h 0 (omega arith)) (bytes_all xs (λ k l. h (suc k) (omega arith)))
 
@@ -113,7 +85,7 @@ is_name_fits f e =
     (all_every (byte_fits (name_of f)) name_most (λ k h. elim (dec_lt k (length f)) [ yes i ↦ inside b k i | no i ↦ behind k (omega arith) ]))
   where
     inside : all_name_bytes f ≡ true → (k : ℕ) → k < length f → byte_fits (name_of f) k ≡ true
-    inside b k i = byte_in (name_of f) k i ∙ ap name_byte (get_or-append f (replicate (name_most - length f) 0) 0 k i) ∙ bytes_at f k b i
+    inside b k i = byte_in (name_of f) k i ∙ ap name_byte (get_or-append f (replicate (name_most - length f) 0) 0 k i) ∙ bytes_at f k 0 b i
 
     behind : (k : ℕ) → length f ≤ k → byte_fits (name_of f) k ≡ true
     behind k i =
@@ -166,16 +138,23 @@ module _ (n : Name) (room : length n.bytes ≡ name_most) where
   pub fits_back : name_fits n ≡ true → name_of (name_text n) ≡ n
   fits_back e = let l = name_len n e in name_of_name_text n (omega arith) (zeros_behind l.1 (all_fit n e))
 
-  pub read_name_text : name_fits n ≡ true → read_name (name_text n) ≡ some n
-  read_name_text e = rw (fits_is_name n e) (ap some (fits_back e))
+  pub read_name_text : name_fits n ≡ true → read_name (name_text n) ≡ Some n
+  read_name_text e = rw (fits_is_name n e) (ap Some (fits_back e))
 
 -- a field that is a name, as text again
-pub name_read : (f : List ℕ) (n : Name) → read_name f ≡ some n → name_text n ≡ f
+pub name_read : (f : List ℕ) (n : Name) → read_name f ≡ Some n → name_text n ≡ f
 name_read f n e = go (is_name f) refl e
   where
-    go : (b : Bool) → is_name f ≡ b → cond b (some (name_of f)) none ≡ some n → name_text n ≡ f
+    go : (b : Bool) → is_name f ≡ b → cond b (Some (name_of f)) None ≡ Some n → name_text n ≡ f
     go true p q = let m : name_of f ≡ n = cc in ap name_text (sym m) ∙ name_text_name_of f
     go false p q = let x : ◌≡◌ {A = ℕ} 0 1 = cc in absurd (omega arith)
+
+pub read_name_fits : (f : List ℕ) (n : Name) → read_name f ≡ Some n → name_fits n ≡ true
+read_name_fits f n e = go (is_name f) refl e
+  where
+    go : (b : Bool) → is_name f ≡ b → cond b (Some (name_of f)) None ≡ Some n → name_fits n ≡ true
+    go true p q = let m : name_of f ≡ n = cc in ap name_fits (sym m) ∙ is_name_fits f p
+    go false p q = cc
 
 -- ---- the bytes of a name are no separators
 
@@ -194,14 +173,14 @@ name_free c s h e = let l = name_length s e in bytes_free c s h (sym (name_bytes
 
 -- ---- units
 
-pub read_unit_text : (u : U.Unit) → read_unit (unit_text u) ≡ some u
+pub read_unit_text : (u : U.Unit) → read_unit (unit_text u) ≡ Some u
 read_unit_text ArcSecond = refl
 read_unit_text Metre = refl
 
-pub unit_read : (f : List ℕ) (u : U.Unit) → read_unit f ≡ some u → unit_text u ≡ f
+pub unit_read : (f : List ℕ) (u : U.Unit) → read_unit f ≡ Some u → unit_text u ≡ f
 unit_read f u e = go (same f (unit_text ArcSecond)) (same f (unit_text Metre)) refl refl e
   where
-    go : (p q : Bool) → same f (unit_text ArcSecond) ≡ p → same f (unit_text Metre) ≡ q → cond p (some ArcSecond) (cond q (some Metre) none) ≡ some u → unit_text u ≡ f
+    go : (p q : Bool) → same f (unit_text ArcSecond) ≡ p → same f (unit_text Metre) ≡ q → cond p (Some ArcSecond) (cond q (Some Metre) None) ≡ Some u → unit_text u ≡ f
     go true q v w h = let m : ArcSecond ≡ u = cc in ap unit_text (sym m) ∙ sym (same_true f (unit_text ArcSecond) v)
     go false true v w h = let m : Metre ≡ u = cc in ap unit_text (sym m) ∙ sym (same_true f (unit_text Metre) w)
     go false false v w h = let x : ◌≡◌ {A = ℕ} 0 1 = cc in absurd (omega arith)

@@ -3,6 +3,7 @@ use Prim.Native.Nat.{ℕ, suc, ◌+◌, ◌<◌, ◌≤◌}
 use mathlib.Core.Path.{◌≡◌, refl, sym, ap, ◌∙◌}
 use mathlib.Core.Bool.{Bool, true, false, cond}
 use mathlib.Core.List.{List, [], ◌∷◌, map}
+use mathlib.Core.Option as M
 use mathlib.Core.Option.{none, some}
 use native.Mathlib.Omega.{arith}
 use lib.Dec.{eqb}
@@ -17,7 +18,7 @@ use Rattle.text.specs.Number.{clamp, number_of}
 use Rattle.text.specs.Fields.{read_ints}
 use Rattle.std.specs.Prelude as R
 use Rattle.text.proofs.FieldLaws.{Numbers, numbers_read, ints_bad, length_ints, malformed}
-use Rattle.line.specs.Numbers.{read_count, NumbersRead}
+use Rattle.line.specs.Numbers.{read_count, numbers_of, NumbersRead}
 
 -- ---- n fields from `first` on
 
@@ -65,6 +66,10 @@ module _ (ps : List (List ℕ)) (first n : ℕ) (h : first + n ≤ length ps) wh
   pub numbers_read_bad : (ys : List ℤ) (k : ℕ) → k < n → number_of (read_int (get_or ps (first + k) [])) ≡ R.None → NumbersRead (read_ints taken) false ys
   numbers_read_bad ys k l f = record { good = λ e. absurd (true_false e refl); bad = λ e. numbers_bad k l f }
 
+-- numbers that are read
+pub numbers_given : {read : M.Option (List ℤ)} {r : Bool} {ys : List ℤ} → NumbersRead read r ys → r ≡ true → R.Some ys ≡ numbers_of read
+numbers_given w e = let g = w.good e in sym (ap numbers_of g.1 ∙ ap R.Some g.2)
+
 -- one number more
 pub numbers_more : (ps : List (List ℕ)) (first k : ℕ) (ys : List ℤ) (y : ℤ) → k < length ys → NumbersTo ps first k ys
     → number_of (read_int (get_or ps (first + k) [])) ≡ R.Some y → NumbersTo ps first (k + 1) (set ys k y)
@@ -77,9 +82,8 @@ numbers_more ps first k ys y l f e j h =
 -- ---- all fields
 
 module _ (n : ℕ) (fs : List (List ℕ)) where
-  pub count_other : (ys : List ℤ) → (length fs ≡ n → ⊥) → NumbersRead (read_count n fs) false ys
-  count_other ys h =
-      record { good = λ e. absurd (true_false e refl); bad = λ e. ap (λ (t : Bool). cond t (read_ints fs) none) (ne_eqb (length fs) n h) }
+  pub count_other : (length fs ≡ n → ⊥) → R.None ≡ numbers_of (read_count n fs)
+  count_other h = sym (ap (λ (t : Bool). numbers_of (cond t (read_ints fs) none)) (ne_eqb (length fs) n h))
 
   pub count_same : length fs ≡ n → read_ints fs ≡ read_count n fs
   count_same e = sym (ap (λ (t : Bool). cond t (read_ints fs) none) (eq-eqb (length fs) n e))

@@ -1,52 +1,38 @@
 -- What the code meets on a line, in terms of what its callees answer.
-use Prim.Native.Nat.{ℕ, suc, ◌+◌}
+use Prim.Native.Nat.{ℕ, zero, suc, ◌+◌}
 use mathlib.Core.Path.{◌≡◌, refl, sym, ap, subst, ◌∙◌}
 use mathlib.Core.Bool.{Bool, true, false, cond, ◌&&◌}
-use mathlib.Core.List.{List, []}
-use mathlib.Core.Option.{Option, none, some}
+use mathlib.Core.List.{List, [], ◌∷◌, map}
+use mathlib.Core.Option as M
 use native.Mathlib.Omega.{arith}
 use mir.Syntax.{w64}
 use mir.Val.{to_z, of_z, SFits}
 use mir.Facts.{to_z-of_z}
 use lib.Dec.{eqb}
-use lib.ListN.{length, get_or, drop}
+use lib.ListN.{length, get_or, take, drop}
 use lib.Seq.{get_or-drop}
-use lib.IntN.{ℤ}
+use lib.IntN.{ℤ, pos, negsuc}
 use borrow.Author.Tests.{eqb-true, eq-eqb}
+use Rattle.std.specs.Prelude.{Option, Some, None, Result, Ok, Err}
 use Rattle.numbers.proofs.Bools.{and_left, and_right, true_false}
 use Rattle.text.specs.Parts.{split, field_of}
 use Rattle.text.specs.Fields.{same, read_ints}
-use Rattle.text.specs.Decimal.{read_int}
-use Rattle.text.specs.Number.{number_of}
-use Rattle.std.specs.Prelude as R
+use Rattle.text.specs.Number.{clamp}
 use Rattle.text.proofs.PartLaws.{field_split}
-use Rattle.text.proofs.FieldLaws.{answer}
 use Rattle.group.specs.Limits.{function_fits}
 use Rattle.group.specs.Refusals.{refusal}
 use Rattle.group.specs.declared.Name.{Name}
 use Rattle.group.specs.declared.Unit as U
 use Rattle.group.specs.declared.Shape.{Shape}
 use Rattle.group.specs.declared.Function.{Function}
-use Rattle.group.specs.declared.Grid.{Grid}
 use Rattle.group.specs.declared.Refusal.{Refusal}
-use Rattle.line.specs.declared.Head.{Head}
-use Rattle.line.specs.declared.HeadRead.{HeadRead}
-use Rattle.line.specs.declared.FunctionRead.{FunctionRead}
-use Rattle.line.specs.declared.GridRead.{GridRead}
-use Rattle.line.specs.Line.{Line, bad, good}
-use Rattle.line.specs.declared.Form.{Form}
-use Rattle.line.specs.declared.Form.TheVariants.{Malformed, Named}
-use Rattle.line.specs.declared.UnitRead.{UnitRead}
-use Rattle.line.specs.declared.UnitRead.TheVariants.{Unknown, Known}
-use Rattle.line.specs.Names.{is_name, name_of, read_name, read_unit}
+use Rattle.line.specs.Names.{read_name, read_unit}
 use Rattle.line.specs.Lines.{formed, fields, line_of, head_texts, no_texts, of_shape, shape_fit, shape_fields, grid_texts, paired}
-use Rattle.line.specs.Numbers.{read_count, NumbersRead}
-use Rattle.line.specs.Answers.{form_of, unit_answer, head_answer, function_answer, grid_answer}
-use Rattle.line.proofs.LineLaws.{Small, keyed_miss, keyed_hit, clamped, fields_count, limited}
+use Rattle.line.specs.Numbers.{read_count, numbers_of}
+use Rattle.line.proofs.LineLaws.{Small, keyed_miss, keyed_hit, clamped, fields_count, fields_text, fields_unread, fields_read, limited, numbers_none, numbers_some}
 use Rattle.line.proofs.LimitLaws.{shape_small}
 use Rattle.line.proofs.NumberLaws.{count_length}
 use Rattle.line.proofs.KindLaws.{ShapeKind}
-use Rattle.std.specs.Prelude.{Ok, Err}
 
 -- the test of a line's keyword, alone and with the count of its fields
 pub keyword_told : (word line f : List ℕ) (r : Bool) → r ≡ same f word → f ≡ field_of line 0 → same (get_or (split 9 line) 0 []) word ≡ r
@@ -62,47 +48,43 @@ module _ {B A E : Type 0} (texts numbers : ℕ) (read : List (List ℕ) → Opti
   pub kind_hit : (r : Bool) → r ≡ (same (field_of line 0) word && eqb (length (split 9 line)) (suc (texts + numbers))) → r ≡ true
       → line_of texts numbers read fits make form limit word line ≡ fields texts numbers read fits make form limit (drop 1 (split 9 line))
   kind_hit r e t =
-      keyed_hit word (fields texts numbers read fits make form limit) (λ fs. bad form) line
+      keyed_hit word (fields texts numbers read fits make form limit) (λ fs. Err form) line
       (keyword ∙ and_left (same (field_of line 0) word) (eqb (length (split 9 line)) (suc (texts + numbers))) (sym e ∙ t))
 
   pub kind_miss : (r : Bool) → r ≡ (same (field_of line 0) word && eqb (length (split 9 line)) (suc (texts + numbers))) → r ≡ false
-      → line_of texts numbers read fits make form limit word line ≡ bad form
+      → line_of texts numbers read fits make form limit word line ≡ Err form
   kind_miss r e f = go (same (field_of line 0) word) refl (sym e ∙ f)
     where
       go : (b : Bool) → same (field_of line 0) word ≡ b → (b && eqb (length (split 9 line)) (suc (texts + numbers))) ≡ false
-          → line_of texts numbers read fits make form limit word line ≡ bad form
-      go false k q = keyed_miss word (fields texts numbers read fits make form limit) (λ fs. bad form) (split 9 line) (keyword ∙ k)
+          → line_of texts numbers read fits make form limit word line ≡ Err form
+      go false k q = keyed_miss word (fields texts numbers read fits make form limit) (λ fs. Err form) (split 9 line) (keyword ∙ k)
       go true k q =
-          keyed_hit word (fields texts numbers read fits make form limit) (λ fs. bad form) line (keyword ∙ k)
+          keyed_hit word (fields texts numbers read fits make form limit) (λ fs. Err form) line (keyword ∙ k)
           ∙ fields_count texts numbers read fits make form limit line (λ n. true_false (eq-eqb (length (split 9 line)) (suc (texts + numbers)) n) q)
 
-pub form_bad : (f g : List ℕ) (q : Form) → f ≡ g → q ≡ form_of (is_name f) → q ≡ Malformed → is_name g ≡ false
-form_bad f g q e p t = ap is_name (sym e) ∙ go (is_name f) (sym p ∙ t)
-  where
-    go : (b : Bool) → form_of b ≡ Malformed → b ≡ false
-    go true h = let z : ◌≡◌ {A = ℕ} 0 1 = cc in absurd (omega arith)
-    go false h = refl
+-- ---- a line of a kind, by what the reading of its texts and of its numbers tells
 
-pub form_good : (f g : List ℕ) (q : Form) → f ≡ g → q ≡ form_of (is_name f) → q ≡ Named → is_name g ≡ true
-form_good f g q e p t = ap is_name (sym e) ∙ go (is_name f) (sym p ∙ t)
-  where
-    go : (b : Bool) → form_of b ≡ Named → b ≡ true
-    go true h = refl
-    go false h = let z : ◌≡◌ {A = ℕ} 0 1 = cc in absurd (omega arith)
+module _ {B A E : Type 0} (texts numbers : ℕ) (read : List (List ℕ) → Option B) (fits : List ℤ → Bool) (make : B → List ℤ → A) (form limit : E) (word line : List ℕ)
+    (r : Bool) (e : r ≡ (same (field_of line 0) word && eqb (length (split 9 line)) (suc (texts + numbers)))) (t : r ≡ true) where
+  abbrev whole : Result A E
+  whole = line_of texts numbers read fits make form limit word line
 
-pub unit_bad : (f g : List ℕ) (q : UnitRead) → f ≡ g → q ≡ unit_answer (read_unit f) → q ≡ Unknown → read_unit g ≡ none
-unit_bad f g q e p t = ap read_unit (sym e) ∙ go (read_unit f) (sym p ∙ t)
-  where
-    go : (o : Option U.Unit) → unit_answer o ≡ Unknown → o ≡ none
-    go none h = refl
-    go (some u) h = let z : ◌≡◌ {A = ℕ} 0 1 = cc in absurd (omega arith)
+  opened : whole ≡ fields texts numbers read fits make form limit (drop 1 (split 9 line))
+  opened = kind_hit texts numbers read fits make form limit word line r e t
 
-pub unit_good : (f g : List ℕ) (q : UnitRead) (u : U.Unit) → f ≡ g → q ≡ unit_answer (read_unit f) → q ≡ Known u → read_unit g ≡ some u
-unit_good f g q u e p t = ap read_unit (sym e) ∙ go (read_unit f) (sym p ∙ t)
-  where
-    go : (o : Option U.Unit) → unit_answer o ≡ Known u → o ≡ some u
-    go none h = let z : ◌≡◌ {A = ℕ} 0 1 = cc in absurd (omega arith)
-    go (some v) h = let z : v ≡ u = cc in ap some z
+  counted : length (split 9 line) ≡ suc (texts + numbers)
+  counted = kind_counted word line (suc (texts + numbers)) r e t
+
+  pub kind_textless : read (drop 1 (split 9 line)) ≡ None → Err form ≡ whole
+  kind_textless q = sym (opened ∙ fields_text texts numbers read fits make form limit (split 9 line) counted q)
+
+  module _ (o : Option (List ℤ)) (told : o ≡ numbers_of (read_ints (take numbers (drop (suc texts) (split 9 line))))) where
+    pub kind_unread : o ≡ None → Err form ≡ whole
+    kind_unread q = sym (opened ∙ fields_unread texts numbers read fits make form limit (split 9 line) counted o told q)
+
+    pub kind_read : ((zs : List ℤ) → length zs ≡ numbers → fits zs ≡ true → Small zs) → (b : B) → read (drop 1 (split 9 line)) ≡ Some b → (ys : List ℤ) → o ≡ Some ys
+        → cond (fits ys) (Ok (make b ys)) (Err limit) ≡ whole
+    kind_read small b q ys w = sym (opened ∙ fields_read texts numbers read fits make form limit (split 9 line) counted o told small b ys q w)
 
 -- ---- the texts of a line
 
@@ -113,97 +95,70 @@ module _ (line : List ℕ) where
   text_1 : get_or (drop 1 (split 9 line)) 1 [] ≡ field_of line 2
   text_1 = get_or-drop 1 (split 9 line) 1 [] ∙ sym (field_split line 2)
 
-  name_is : (b : Bool) → is_name (field_of line 1) ≡ b → read_name (get_or (drop 1 (split 9 line)) 0 []) ≡ cond b (some (name_of (field_of line 1))) none
-  name_is b e = ap read_name text_0 ∙ ap (λ (t : Bool). cond t (some (name_of (field_of line 1))) none) e
+  pub grid_texts_lem : grid_texts (drop 1 (split 9 line)) ≡ read_name (field_of line 1)
+  grid_texts_lem = ap read_name text_0
 
-  unit_is : (o : Option U.Unit) → read_unit (field_of line 2) ≡ o → read_unit (get_or (drop 1 (split 9 line)) 1 []) ≡ o
-  unit_is o e = ap read_unit text_1 ∙ e
+  head_texts_lem : head_texts (drop 1 (split 9 line)) ≡ paired (read_name (field_of line 1)) (read_unit (field_of line 2))
+  head_texts_lem = λ i. paired (read_name (text_0 i)) (read_unit (text_1 i))
 
-  pub grid_unnamed : is_name (field_of line 1) ≡ false → grid_texts (drop 1 (split 9 line)) ≡ none
-  grid_unnamed e = name_is false e
+  pub head_unnamed : read_name (field_of line 1) ≡ None → head_texts (drop 1 (split 9 line)) ≡ None
+  head_unnamed e = head_texts_lem ∙ ap (λ (o : Option Name). paired o (read_unit (field_of line 2))) e
 
-  pub grid_named : is_name (field_of line 1) ≡ true → grid_texts (drop 1 (split 9 line)) ≡ some (name_of (field_of line 1))
-  grid_named e = name_is true e
-
-  pub head_unnamed : is_name (field_of line 1) ≡ false → head_texts (drop 1 (split 9 line)) ≡ none
-  head_unnamed e = ap (λ (o : Option Name). paired o (read_unit (get_or (drop 1 (split 9 line)) 1 []))) (name_is false e)
-
-  pub head_unitless : read_unit (field_of line 2) ≡ none → head_texts (drop 1 (split 9 line)) ≡ none
-  head_unitless e = ap (paired (read_name (get_or (drop 1 (split 9 line)) 0 []))) (unit_is none e) ∙ go (read_name (get_or (drop 1 (split 9 line)) 0 []))
+  pub head_unitless : read_unit (field_of line 2) ≡ None → head_texts (drop 1 (split 9 line)) ≡ None
+  head_unitless e = head_texts_lem ∙ ap (paired (read_name (field_of line 1))) e ∙ go (read_name (field_of line 1))
     where
-      go : (o : Option Name) → paired o none ≡ none
-      go none = refl
-      go (some m) = refl
+      go : (o : Option Name) → paired o None ≡ None
+      go None = refl
+      go (Some m) = refl
 
-  pub head_named : (u : U.Unit) → is_name (field_of line 1) ≡ true → read_unit (field_of line 2) ≡ some u → head_texts (drop 1 (split 9 line)) ≡ some (name_of (field_of line 1), u)
-  head_named u e f = λ i. paired (name_is true e i) (unit_is (some u) f i)
+  pub head_named : (n : Name) (u : U.Unit) → read_name (field_of line 1) ≡ Some n → read_unit (field_of line 2) ≡ Some u → head_texts (drop 1 (split 9 line)) ≡ Some (n, u)
+  head_named n u e f = head_texts_lem ∙ (λ i. paired (e i) (f i))
 
--- ---- what the reading of field k tells: no number, or one that comes by way of its bits
+-- ---- a number comes by way of its bits
 
 abbrev pub bits : ℤ → ℤ
 bits z = to_z w64 (of_z w64 z)
 
-module _ (line : List ℕ) (k : ℕ) (f : List ℕ) (r : R.Option ℤ) (e : r ≡ number_of (read_int f)) (g : f ≡ field_of line k) where
-  pub field_bad : r ≡ R.None → number_of (read_int (get_or (split 9 line) k [])) ≡ R.None
-  field_bad h = answer line k f r e g ∙ h
+clamp_fits : (z : ℤ) → SFits w64 (clamp z)
+clamp_fits (pos n) = record { sfits = omega arith }
+clamp_fits (negsuc n) = record { sfits = omega arith }
 
-  pub field_number : (z : ℤ) → r ≡ R.Some z → SFits w64 z → number_of (read_int (get_or (split 9 line) k [])) ≡ R.Some (bits z)
-  field_number z h s = answer line k f r e g ∙ h ∙ ap R.Some (sym (to_z-of_z s))
+number_told : (zs : List ℤ) (k : ℕ) → bits (get_or (map clamp zs) k (pos 0)) ≡ get_or (map clamp zs) k (pos 0)
+number_told [] k = refl
+number_told (z ∷ zs) zero = to_z-of_z {w = w64} (clamp_fits z)
+number_told (z ∷ zs) (suc k) = number_told zs k
+
+-- and those of a line come as they are
+pub numbers_told : (read : M.Option (List ℤ)) (ys : List ℤ) → numbers_of read ≡ Some ys → (k : ℕ) → bits (get_or ys k (pos 0)) ≡ get_or ys k (pos 0)
+numbers_told read ys e k = let g = numbers_some read ys e in subst (λ (zs : List ℤ). bits (get_or zs k (pos 0)) ≡ get_or zs k (pos 0)) g.2 (number_told g.0 k)
 
 -- ---- a function line, by what the reading of its numbers tells
 
 module _ {word : List ℕ} {numbers : ℕ} {make : List ℤ → Shape} (k : ShapeKind word numbers make)
-    (n : ℕ) (fs : List (List ℕ)) (r : Bool) (ys : List ℤ) (w : NumbersRead (read_count numbers fs) r ys) where
-  abbrev made : Option (List ℤ) → Line Refusal Function
-  made = formed 0 numbers no_texts (shape_fit make) (of_shape make) (refusal 1 n) (refusal 2 n) (some tt)
+    (n : ℕ) (fs : List (List ℕ)) (o : Option (List ℤ)) (told : o ≡ numbers_of (read_count numbers fs)) where
+  abbrev made : M.Option (List ℤ) → Result Function Refusal
+  made = formed 0 numbers no_texts (shape_fit make) (of_shape make) (refusal 1 n) (refusal 2 n) (Some tt)
 
-  counted : shape_fields numbers make n fs ≡ made (read_count numbers fs)
-  counted = ap (λ (m : ℕ). cond (eqb (length fs) m) (made (read_ints fs)) (bad (refusal 1 n))) none_more ∙ go (eqb (length fs) numbers)
+  behind : shape_fields numbers make n fs ≡ made (read_count numbers fs)
+  behind = ap (λ (m : ℕ). cond (eqb (length fs) m) (made (read_ints fs)) (Err (refusal 1 n))) none_more ∙ go (eqb (length fs) numbers)
     where
       none_more : 0 + numbers ≡ numbers
       none_more = omega arith
 
-      go : (t : Bool) → cond t (made (read_ints fs)) (bad (refusal 1 n)) ≡ made (cond t (read_ints fs) none)
+      go : (t : Bool) → cond t (made (read_ints fs)) (Err (refusal 1 n)) ≡ made (cond t (read_ints fs) M.none)
       go true = refl
       go false = refl
 
   small : (zs : List ℤ) → length zs ≡ numbers → shape_fit make zs ≡ true → Small zs
   small zs l e = subst Small (k.ints zs l) (shape_small (make zs) e)
 
-  pub shape_unread : r ≡ false → function_answer (bad (refusal 1 n)) ≡ function_answer (shape_fields numbers make n fs)
-  shape_unread e = sym (ap function_answer (counted ∙ ap made (w.bad e)))
+  pub shape_unread : o ≡ None → Err (refusal 1 n) ≡ shape_fields numbers make n fs
+  shape_unread e = sym (behind ∙ ap made (numbers_none _ (sym told ∙ e)))
 
-  pub shape_read : r ≡ true → (s : Shape) → s ≡ make ys → function_answer (limited function_fits (refusal 2) n (record { shape = s })) ≡ function_answer (shape_fields numbers make n fs)
-  shape_read e s q =
-      let z = w.good e in
-      ap (λ (t : Shape). function_answer (limited function_fits (refusal 2) n (record { shape = t }))) q
-      ∙ sym (ap function_answer
-      (counted ∙ ap made z.1
+  pub shape_read : (ys : List ℤ) → o ≡ Some ys → (s : Shape) → s ≡ make ys → limited function_fits (refusal 2) n (record { shape = s }) ≡ shape_fields numbers make n fs
+  shape_read ys e s q =
+      let z = numbers_some _ ys (sym told ∙ e) in
+      ap (λ (t : Shape). limited function_fits (refusal 2) n (record { shape = t })) q
+      ∙ sym (behind ∙ ap made z.1
       ∙ sym (clamped 0 numbers no_texts (shape_fit make) (of_shape make) (refusal 1 n) (refusal 2 n) small tt z.0 (count_length numbers fs z.0 z.1))
-      ∙ ap (λ (xs : List ℤ). made (some xs)) z.2))
-
--- ---- the answer of a line, by its verdict
-
-pub head_refused : (q : HeadRead) (l : Line Refusal Head) (r : Refusal) → q ≡ head_answer l → q.verdict ≡ Err r → l ≡ bad r
-head_refused q (bad s) r e v = let x : Err s ≡ Err r = sym (ap (λ (a : HeadRead). a.verdict) e) ∙ v in let y : s ≡ r = cc in ap bad y
-head_refused q (good a) r e v = let x : Ok tt ≡ Err r = sym (ap (λ (b : HeadRead). b.verdict) e) ∙ v in absurd (let y : ◌≡◌ {A = ℕ} 0 1 = cc in omega arith)
-
-pub head_accepted : (q : HeadRead) (l : Line Refusal Head) → q ≡ head_answer l → q.verdict ≡ Ok tt → l ≡ good q.head
-head_accepted q (bad s) e v = let x : Err s ≡ Ok tt = sym (ap (λ (a : HeadRead). a.verdict) e) ∙ v in absurd (let y : ◌≡◌ {A = ℕ} 0 1 = cc in omega arith)
-head_accepted q (good a) e v = ap good (sym (ap (λ (b : HeadRead). b.head) e))
-
-pub function_refused : (q : FunctionRead) (l : Line Refusal Function) (r : Refusal) → q ≡ function_answer l → q.verdict ≡ Err r → l ≡ bad r
-function_refused q (bad s) r e v = let x : Err s ≡ Err r = sym (ap (λ (a : FunctionRead). a.verdict) e) ∙ v in let y : s ≡ r = cc in ap bad y
-function_refused q (good a) r e v = let x : Ok tt ≡ Err r = sym (ap (λ (b : FunctionRead). b.verdict) e) ∙ v in absurd (let y : ◌≡◌ {A = ℕ} 0 1 = cc in omega arith)
-
-pub function_accepted : (q : FunctionRead) (l : Line Refusal Function) → q ≡ function_answer l → q.verdict ≡ Ok tt → l ≡ good q.function
-function_accepted q (bad s) e v = let x : Err s ≡ Ok tt = sym (ap (λ (a : FunctionRead). a.verdict) e) ∙ v in absurd (let y : ◌≡◌ {A = ℕ} 0 1 = cc in omega arith)
-function_accepted q (good a) e v = ap good (sym (ap (λ (b : FunctionRead). b.function) e))
-
-pub grid_refused : (q : GridRead) (l : Line Refusal Grid) (r : Refusal) → q ≡ grid_answer l → q.verdict ≡ Err r → l ≡ bad r
-grid_refused q (bad s) r e v = let x : Err s ≡ Err r = sym (ap (λ (a : GridRead). a.verdict) e) ∙ v in let y : s ≡ r = cc in ap bad y
-grid_refused q (good a) r e v = let x : Ok tt ≡ Err r = sym (ap (λ (b : GridRead). b.verdict) e) ∙ v in absurd (let y : ◌≡◌ {A = ℕ} 0 1 = cc in omega arith)
-
-pub grid_accepted : (q : GridRead) (l : Line Refusal Grid) → q ≡ grid_answer l → q.verdict ≡ Ok tt → l ≡ good q.grid
-grid_accepted q (bad s) e v = let x : Err s ≡ Ok tt = sym (ap (λ (a : GridRead). a.verdict) e) ∙ v in absurd (let y : ◌≡◌ {A = ℕ} 0 1 = cc in omega arith)
-grid_accepted q (good a) e v = ap good (sym (ap (λ (b : GridRead). b.grid) e))
+      ∙ ap (λ (xs : List ℤ). made (M.some xs)) z.2)

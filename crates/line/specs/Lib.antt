@@ -1,8 +1,5 @@
 -- The definitions of the lines of a header.
 pub mod Names
-pub mod Line
 pub mod Lines
 pub mod Numbers
 pub mod Counted
-pub mod Blank
-pub mod Answers

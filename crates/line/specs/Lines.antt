@@ -1,6 +1,6 @@
 -- The lines of a header: a keyword, some texts, and numbers.
-use Rattle.std.specs.Prelude.{ℕ, ◌+◌, Bool, cond, ◌&&◌, List, [], ◌∷◌, map, eqb, length, get_or, drop, ℤ, pos, nat_abs}
-use Rattle.std.proofs.Math.Option.{Option, none, some}
+use Rattle.std.specs.Prelude.{ℕ, ◌+◌, Bool, cond, ◌&&◌, List, [], ◌∷◌, map, eqb, length, get_or, drop, ℤ, pos, nat_abs, Option, Some, None, Result, Ok, Err}
+use Rattle.std.proofs.Math.Option as M
 use Rattle.text.specs.Parts.{split, join}
 use Rattle.text.specs.Decimal.{int_text}
 use Rattle.text.specs.Fields.{same, read_ints}
@@ -16,31 +16,30 @@ use Rattle.group.specs.declared.Grid.{Grid}
 use Rattle.line.specs.declared.Head.{Head}
 use Rattle.line.specs.Names.{read_name, name_text, read_unit, unit_text}
 use Rattle.group.specs.Refusals.{refusal}
-use Rattle.line.specs.Line.{Line, bad, good}
 
 -- fields with a keyword in front of them: those of this kind, or else of the others
 module _ {E A : Type 0} where
-  abbrev pub keyed : List ℕ → (List (List ℕ) → Line E A) → (List (List ℕ) → Line E A) → List (List ℕ) → Line E A
+  abbrev pub keyed : List ℕ → (List (List ℕ) → Result A E) → (List (List ℕ) → Result A E) → List (List ℕ) → Result A E
   keyed word these others [] = others []
   keyed word these others (k ∷ fs) = cond (same k word) (these fs) (others (k ∷ fs))
 
 -- the fields behind a keyword: how many texts and numbers they are, how the texts are read, the limits of the numbers, the record
 -- that is made of them, and the faults: fields that aren't of this form, then a number outside its limit
 module _ {B A E : Type 0} (texts numbers : ℕ) (read : List (List ℕ) → Option B) (fits : List ℤ → Bool) (make : B → List ℤ → A) (form limit : E) where
-  abbrev pub with_limits : B → List ℤ → Line E A
-  with_limits b zs = cond (fits zs) (good (make b zs)) (bad limit)
+  abbrev pub with_limits : B → List ℤ → Result A E
+  with_limits b zs = cond (fits zs) (Ok (make b zs)) (Err limit)
 
-  abbrev pub formed : Option B → Option (List ℤ) → Line E A
-  formed none zs = bad form
-  formed (some b) none = bad form
-  formed (some b) (some zs) = with_limits b zs
+  abbrev pub formed : Option B → M.Option (List ℤ) → Result A E
+  formed None zs = Err form
+  formed (Some b) M.none = Err form
+  formed (Some b) (M.some zs) = with_limits b zs
 
-  abbrev pub fields : List (List ℕ) → Line E A
-  fields fs = cond (eqb (length fs) (texts + numbers)) (formed (read fs) (read_ints (drop texts fs))) (bad form)
+  abbrev pub fields : List (List ℕ) → Result A E
+  fields fs = cond (eqb (length fs) (texts + numbers)) (formed (read fs) (read_ints (drop texts fs))) (Err form)
 
   -- a line of one kind
-  abbrev pub line_of : List ℕ → List ℕ → Line E A
-  line_of word line = keyed word fields (λ fs. bad form) (split 9 line)
+  abbrev pub line_of : List ℕ → List ℕ → Result A E
+  line_of word line = keyed word fields (λ fs. Err form) (split 9 line)
 
 -- ---- `group` NAME UNIT Q NP functions grids
 
@@ -48,9 +47,9 @@ abbrev pub group_keyword : List ℕ
 group_keyword = 103 ∷ 114 ∷ 111 ∷ 117 ∷ 112 ∷ []
 
 abbrev pub paired : Option Name → Option U.Unit → Option (Name × U.Unit)
-paired none u = none
-paired (some n) none = none
-paired (some n) (some u) = some (n, u)
+paired None u = None
+paired (Some n) None = None
+paired (Some n) (Some u) = Some (n, u)
 
 abbrev pub head_texts : List (List ℕ) → Option (Name × U.Unit)
 head_texts fs = paired (read_name (get_or fs 0 [])) (read_unit (get_or fs 1 []))
@@ -69,7 +68,7 @@ head_of t zs =
       grids = nat_abs (int_at zs 3);
     }
 
-abbrev pub head_line : ℕ → List ℕ → Line Refusal Head
+abbrev pub head_line : ℕ → List ℕ → Result Head Refusal
 head_line n = line_of 2 4 head_texts head_fit head_of (refusal 1 n) (refusal 2 n) group_keyword
 
 abbrev pub head_ints : Head → List ℤ
@@ -91,7 +90,7 @@ abbrev pub ramp2_keyword : List ℕ
 ramp2_keyword = 114 ∷ 97 ∷ 109 ∷ 112 ∷ 50 ∷ []
 
 abbrev pub no_texts : List (List ℕ) → Option (Unit {0})
-no_texts fs = some tt
+no_texts fs = Some tt
 
 abbrev pub of_shape : (List ℤ → Shape) → Unit {0} → List ℤ → Function
 of_shape shape t zs = record { shape = shape zs }
@@ -100,18 +99,18 @@ abbrev pub shape_fit : (List ℤ → Shape) → List ℤ → Bool
 shape_fit shape zs = shape_fits (shape zs)
 
 -- the fields behind the keyword of one kind: so many numbers, and the shape that they make
-abbrev pub shape_fields : ℕ → (List ℤ → Shape) → ℕ → List (List ℕ) → Line Refusal Function
+abbrev pub shape_fields : ℕ → (List ℤ → Shape) → ℕ → List (List ℕ) → Result Function Refusal
 shape_fields numbers shape n = fields 0 numbers no_texts (shape_fit shape) (of_shape shape) (refusal 1 n) (refusal 2 n)
 
 -- a line's first word decides its kind
-abbrev pub function_fields : ℕ → List (List ℕ) → Line Refusal Function
+abbrev pub function_fields : ℕ → List (List ℕ) → Result Function Refusal
 function_fields n =
     keyed ramp_keyword (shape_fields 4 ramp_of n)
     (keyed step_keyword (shape_fields 3 step_of n)
     (keyed ramp2_keyword (shape_fields 4 ramp2_of n)
-    (λ fs. bad (refusal 1 n))))
+    (λ fs. Err (refusal 1 n))))
 
-abbrev pub function_line : ℕ → List ℕ → Line Refusal Function
+abbrev pub function_line : ℕ → List ℕ → Result Function Refusal
 function_line n line = function_fields n (split 9 line)
 
 abbrev pub shape_keyword : Shape → List ℕ
@@ -148,7 +147,7 @@ grid_of n zs =
       start = nat_abs (int_at zs 7);
     }
 
-abbrev pub grid_line : ℕ → List ℕ → Line Refusal Grid
+abbrev pub grid_line : ℕ → List ℕ → Result Grid Refusal
 grid_line n = line_of 1 8 grid_texts grid_fit grid_of (refusal 1 n) (refusal 2 n) grid_keyword
 
 abbrev pub grid_ints : Grid → List ℤ

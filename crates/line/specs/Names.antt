@@ -1,6 +1,5 @@
 -- Names and units as text.
-use Rattle.std.specs.Prelude.{ℕ, ◌-◌, Bool, true, cond, ◌&&◌, List, [], ◌∷◌, ◌++◌, leb, length, take, replicate}
-use Rattle.std.proofs.Math.Option.{Option, none, some}
+use Rattle.std.specs.Prelude.{ℕ, ◌-◌, Bool, true, cond, ◌&&◌, List, [], ◌∷◌, ◌++◌, leb, length, take, replicate, Option, Some, None}
 use Rattle.text.specs.Fields.{same}
 use Rattle.group.specs.Numbers.{name_most}
 use Rattle.group.specs.Limits.{name_byte}
@@ -25,7 +24,7 @@ name_text n = take n.len n.bytes
 
 -- a field as a name
 abbrev pub read_name : List ℕ → Option Name
-read_name f = cond (is_name f) (some (name_of f)) none
+read_name f = cond (is_name f) (Some (name_of f)) None
 
 -- `arc-second` and `metre`
 abbrev pub unit_text : U.Unit → List ℕ
@@ -34,4 +33,4 @@ unit_text Metre = 109 ∷ 101 ∷ 116 ∷ 114 ∷ 101 ∷ []
 
 -- a field as a unit
 abbrev pub read_unit : List ℕ → Option U.Unit
-read_unit f = cond (same f (unit_text ArcSecond)) (some ArcSecond) (cond (same f (unit_text Metre)) (some Metre) none)
+read_unit f = cond (same f (unit_text ArcSecond)) (Some ArcSecond) (cond (same f (unit_text Metre)) (Some Metre) None)

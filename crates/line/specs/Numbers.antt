@@ -1,4 +1,5 @@
 -- Fields as numbers: what the inner functions that read them answer.
+use Rattle.std.specs.Prelude as R
 use Rattle.std.specs.Prelude.{ℕ, ◌≡◌, Bool, true, false, cond, List, map, eqb, ℤ, length}
 use Rattle.std.proofs.Math.Option.{Option, none, some}
 use Rattle.text.specs.Number.{clamp}
@@ -7,6 +8,11 @@ use Rattle.text.specs.Fields.{read_ints}
 -- so many fields, each a number
 abbrev pub read_count : ℕ → List (List ℕ) → Option (List ℤ)
 read_count n fs = cond (eqb (length fs) n) (read_ints fs) none
+
+-- the numbers as the code tells them apart
+abbrev pub numbers_of : Option (List ℤ) → R.Option (List ℤ)
+numbers_of none = R.None
+numbers_of (some zs) = R.Some (map clamp zs)
 
 -- whether numbers are read, and then the numbers as the code tells them apart
 pub record NumbersRead (read : Option (List ℤ)) (r : Bool) (numbers : List ℤ) : Type 0 where

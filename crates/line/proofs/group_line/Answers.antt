@@ -1,183 +1,92 @@
 -- `line::group_line` meets its contract.
-use Rattle.std.specs.Prelude.{Some, None}
-use Prim.Native.Nat.{ℕ, ◌<◌, ◌≤◌}
+use Prim.Native.Nat.{ℕ}
 use mathlib.Core.Path.{◌≡◌, refl, sym, ap, ◌∙◌}
 use mathlib.Core.Bool.{Bool, true, false, cond, ◌&&◌}
-use mathlib.Core.List.{List, [], ◌∷◌}
-use mathlib.Core.Option.{none, some}
-use native.Mathlib.Omega.{arith}
+use mathlib.Core.List.{List}
 use borrow.Author.Rules.{rules}
 use lib.Dec.{eqb}
 use lib.IntN.{ℤ, pos}
-use lib.ListN.{length, get_or, drop}
+use lib.ListN.{length, take, drop}
+use Rattle.std.specs.Prelude.{Option, Some, None, Result, Ok, Err}
 use Rattle.text.specs.Parts.{split, field_of}
-use Rattle.text.specs.Cuts.{fields_most, Cut, Cuts}
-use Rattle.text.specs.Decimal.{read_int}
-use Rattle.text.specs.Fields.{same}
-use Rattle.text.specs.Number.{number_of}
+use Rattle.text.specs.Fields.{same, read_ints}
 use Rattle.group.specs.Limits.{head_numbers_fit}
+use Rattle.group.specs.Refusals.{refusal}
+use Rattle.group.specs.Shapes.{int_at}
+use Rattle.group.specs.declared.Refusal.{Refusal}
 use Rattle.group.specs.declared.Name.{Name}
 use Rattle.group.specs.declared.Unit as U
 use Rattle.line.specs.declared.Head.{Head}
-use Rattle.line.specs.Names.{is_name, name_of, read_unit}
-use Rattle.group.specs.Refusals.{refusal}
-use Rattle.line.specs.Line.{bad, good}
-use Rattle.line.specs.Lines.{fields, group_keyword, head_texts, head_fit, head_of, head_line}
+use Rattle.line.specs.Names.{read_name, read_unit}
+use Rattle.line.specs.Lines.{group_keyword, head_texts, head_fit, head_of, head_line}
 use Rattle.line.specs.Counted.{counted_head}
-use Rattle.line.specs.Answers.{head_answer}
-use Rattle.line.proofs.NameLaws.{name_length}
-use Rattle.line.proofs.LineLaws.{fields_text, fields_bad, fields_numbers}
+use Rattle.line.specs.Numbers.{numbers_of}
 use Rattle.line.proofs.LimitLaws.{head_small, head_counted, head_made}
-use Rattle.line.proofs.ReadLaws.{kind_counted, kind_hit, kind_miss, form_bad, form_good, unit_bad, unit_good, head_unnamed, head_unitless, head_named, bits, field_bad, field_number}
+use Rattle.line.proofs.ReadLaws.{kind_miss, kind_textless, kind_unread, kind_read, head_unnamed, head_unitless, head_named, numbers_told}
 use Rattle.line.proofs.group_line.Goals as goal
 
--- field k of the line is the number z
-abbrev Is : List ℕ → ℕ → ℤ → Type 0
-Is line k z = number_of (read_int (get_or (split 9 line) k [])) ≡ Some (bits z)
+module _ (line : List ℕ) (r : Bool) (e : r ≡ (same (field_of line 0) group_keyword && eqb (length (split 9 line)) 7)) where
+  of_other : r ≡ false → Err (refusal 1 1) ≡ head_line 1 line
+  of_other f = sym (kind_miss 2 4 head_texts head_fit head_of (refusal 1 1) (refusal 2 1) group_keyword line r e f)
 
--- behind the test of the line's kind: its fields, and how many they are
-module _ (line : List ℕ) (r : Bool) (e : r ≡ (same (field_of line 0) group_keyword && eqb (length (split 9 line)) 7)) (t : r ≡ true) where
-  opened : head_line 1 line ≡ fields 2 4 head_texts head_fit head_of (refusal 1 1) (refusal 2 1) (drop 1 (split 9 line))
-  opened = kind_hit 2 4 head_texts head_fit head_of (refusal 1 1) (refusal 2 1) group_keyword line r e t
+  module _ (t : r ≡ true) where
+    textless : head_texts (drop 1 (split 9 line)) ≡ None → Err (refusal 1 1) ≡ head_line 1 line
+    textless = kind_textless 2 4 head_texts head_fit head_of (refusal 1 1) (refusal 2 1) group_keyword line r e t
 
-  counted : length (split 9 line) ≡ 7
-  counted = kind_counted group_keyword line 7 r e t
+    module _ (o : Option (List ℤ)) (told : o ≡ numbers_of (read_ints (take 4 (drop 3 (split 9 line))))) where
+      unread : o ≡ None → Err (refusal 1 1) ≡ head_line 1 line
+      unread = kind_unread 2 4 head_texts head_fit head_of (refusal 1 1) (refusal 2 1) group_keyword line r e t o told
 
-  cut : (k : ℕ) → k < 7 → (cuts : List ℕ) → Cuts line cuts → (k < fields_most) × Cut line cuts k
-  cut k h cuts w = let m = counted in (omega arith, w k (omega arith) (omega arith))
+      -- where each field is read, the record that is made of them and the test of its numbers
+      module _ (n : Name) (u : U.Unit) (p : read_name (field_of line 1) ≡ Some n) (q : read_unit (field_of line 2) ≡ Some u) (zs : List ℤ) (w : o ≡ Some zs)
+          (h : Head) (made : h ≡ counted_head n u (int_at zs 0) (int_at zs 1) (int_at zs 2) (int_at zs 3))
+          (b : Bool) (tested : b ≡ head_numbers_fit (pos h.quantum) (pos h.parameters) (pos h.functions) (pos h.grids)) where
+        fits : b ≡ head_fit zs
+        fits =
+            tested
+            ∙ ap (λ (h : Head). head_numbers_fit (pos h.quantum) (pos h.parameters) (pos h.functions) (pos h.grids)) made
+            ∙ head_counted (int_at zs 0) (int_at zs 1) (int_at zs 2) (int_at zs 3)
 
-  textless : head_texts (drop 1 (split 9 line)) ≡ none → head_answer (bad (refusal 1 1)) ≡ head_answer (head_line 1 line)
-  textless q = sym (ap head_answer (opened ∙ fields_text 2 4 head_texts head_fit head_of (refusal 1 1) (refusal 2 1) (split 9 line) counted q))
+        judged : cond (head_fit zs) (Ok (head_of (n, u) zs)) (Err (refusal 2 1)) ≡ head_line 1 line
+        judged = kind_read 2 4 head_texts head_fit head_of (refusal 1 1) (refusal 2 1) group_keyword line r e t o told head_small (n, u) (head_named line n u p q) zs w
 
-  unread : (k : ℕ) → 3 ≤ k → k ≤ 6 → number_of (read_int (get_or (split 9 line) k [])) ≡ None → head_answer (bad (refusal 1 1)) ≡ head_answer (head_line 1 line)
-  unread k l u m = sym (ap head_answer (opened ∙ fields_bad 2 4 head_texts head_fit head_of (refusal 1 1) (refusal 2 1) (split 9 line) counted k l u m))
-
-  -- where each field is read
-  module _ (u : U.Unit) (m : is_name (field_of line 1) ≡ true) (q : read_unit (field_of line 2) ≡ some u) (z₁ z₂ z₃ z₄ : ℤ) where
-    judged : Is line 3 z₁ → Is line 4 z₂ → Is line 5 z₃ → Is line 6 z₄
-        → head_line 1 line ≡ cond (head_fit (bits z₁ ∷ bits z₂ ∷ bits z₃ ∷ bits z₄ ∷ [])) (good (head_of (name_of (field_of line 1), u) (bits z₁ ∷ bits z₂ ∷ bits z₃ ∷ bits z₄ ∷ []))) (bad (refusal 2 1))
-    judged n₁ n₂ n₃ n₄ =
-        opened
-        ∙ fields_numbers 2 4 head_texts head_fit head_of (refusal 1 1) (refusal 2 1) (split 9 line) counted head_small (name_of (field_of line 1), u) (bits z₁ ∷ bits z₂ ∷ bits z₃ ∷ bits z₄ ∷ []) refl (head_named line u m q)
-        (n₁, (n₂, (n₃, (n₄, tt))))
-
-    -- the record that is made, and the test of its numbers
-    module _ (h : Head) (b : Bool) (made : h ≡ counted_head (name_of (field_of line 1)) u (bits z₁) (bits z₂) (bits z₃) (bits z₄))
-        (told : b ≡ head_numbers_fit (pos h.quantum) (pos h.parameters) (pos h.functions) (pos h.grids)) where
-      fits : head_fit (bits z₁ ∷ bits z₂ ∷ bits z₃ ∷ bits z₄ ∷ []) ≡ b
-      fits =
-          sym (told
-          ∙ ap (λ (h : Head). head_numbers_fit (pos h.quantum) (pos h.parameters) (pos h.functions) (pos h.grids)) made
-          ∙ head_counted (bits z₁) (bits z₂) (bits z₃) (bits z₄))
-
-      head_out : b ≡ false → Is line 3 z₁ → Is line 4 z₂ → Is line 5 z₃ → Is line 6 z₄
-          → head_answer (bad (refusal 2 1)) ≡ head_answer (head_line 1 line)
-      head_out f n₁ n₂ n₃ n₄ =
-          sym (ap head_answer (judged n₁ n₂ n₃ n₄
-          ∙ ap (λ (t : Bool). cond t (good (head_of (name_of (field_of line 1), u) (bits z₁ ∷ bits z₂ ∷ bits z₃ ∷ bits z₄ ∷ []))) (bad (refusal 2 1))) (fits ∙ f)))
-
-      head_in : b ≡ true → Is line 3 z₁ → Is line 4 z₂ → Is line 5 z₃ → Is line 6 z₄
-          → head_answer (good h) ≡ head_answer (head_line 1 line)
-      head_in f n₁ n₂ n₃ n₄ =
-          sym (ap head_answer (judged n₁ n₂ n₃ n₄
-          ∙ ap (λ (t : Bool). cond t (good (head_of (name_of (field_of line 1), u) (bits z₁ ∷ bits z₂ ∷ bits z₃ ∷ bits z₄ ∷ []))) (bad (refusal 2 1))) (fits ∙ f)
-          ∙ ap good (sym (head_made (bits z₁) (bits z₂) (bits z₃) (bits z₄) (name_of (field_of line 1)) u (fits ∙ f)) ∙ sym made)))
+        read : cond b (Ok h) (Err (refusal 2 1)) ≡ head_line 1 line
+        read = ap (λ (t : Bool). cond t (Ok h) (Err (refusal 2 1))) fits ∙ go (head_fit zs) refl ∙ judged
+          where
+            go : (t : Bool) → head_fit zs ≡ t → ◌≡◌ {A = Result Head Refusal} (cond t (Ok h) (Err (refusal 2 1))) (cond t (Ok (head_of (n, u) zs)) (Err (refusal 2 1)))
+            go true f = ap Ok (made ∙ head_made (int_at zs 0) (int_at zs 1) (int_at zs 2) (int_at zs 3) n u f)
+            go false f = refl
 
 pub returns-then-not-cut_as : goal.returns-then-not-cut_as
-returns-then-not-cut_as c =
-    c.refused_head.ensures
-    ∙ sym (ap head_answer (kind_miss 2 4 head_texts head_fit head_of (refusal 1 1) (refusal 2 1) group_keyword c.args.line.now _ c.cut_as.ensures.value c.if-not-cut_as.true))
+returns-then-not-cut_as c = of_other c.args.line.now _ c.cut_as.ensures.value c.if-not-cut_as.true
 
-pub cut_field-requires : goal.cut_field-requires
-cut_field-requires c = cut c.args.line.now _ c.cut_as.ensures.value c.if-not-cut_as.false 1 (omega arith) _ c.cut_as.ensures.cuts
+pub returns-in_err-name : goal.returns-in_err-name
+returns-in_err-name c =
+    let line = c.args.line.now in
+    let name = c.read_name.ensures ∙ ap read_name c.cut_field.ensures in
+    let refused : c.from_residual.result ≡ Err (refusal 1 1) = search rules in
+    refused ∙ textless line _ c.cut_as.ensures.value c.if-not-cut_as.false (head_unnamed line (sym name ∙ c.in_err-name.ensures.ok_part))
 
-pub returns-in_default : goal.returns-in_default
-returns-in_default c =
-    c.refused_head-in_default.ensures
-    ∙ textless c.args.line.now _ c.cut_as.ensures.value c.if-not-cut_as.false
-    (head_unnamed c.args.line.now (form_bad _ _ _ c.cut_field.ensures c.name_form.ensures c.in_default.is))
+pub returns-in_err-unit : goal.returns-in_err-unit
+returns-in_err-unit c =
+    let line = c.args.line.now in
+    let unit = c.read_unit.ensures ∙ ap read_unit c.cut_field-2.ensures in
+    let refused : c.from_residual-in_err-unit.result ≡ Err (refusal 1 1) = search rules in
+    refused ∙ textless line _ c.cut_as.ensures.value c.if-not-cut_as.false (head_unitless line (sym unit ∙ c.in_err-unit.ensures.ok_part))
 
-pub cut_field-requires-2 : goal.cut_field-requires-2
-cut_field-requires-2 c = cut c.args.line.now _ c.cut_as.ensures.value c.if-not-cut_as.false 2 (omega arith) _ c.cut_as.ensures.cuts
-
-pub returns-in_default-read_unit : goal.returns-in_default-read_unit
-returns-in_default-read_unit c =
-    c.refused_head-in_default-read_unit.ensures
-    ∙ textless c.args.line.now _ c.cut_as.ensures.value c.if-not-cut_as.false
-    (head_unitless c.args.line.now (unit_bad _ _ _ c.cut_field-2.ensures c.read_unit.ensures c.in_default-read_unit.is))
-
-pub cut_field-requires-3 : goal.cut_field-requires-3
-cut_field-requires-3 c = cut c.args.line.now _ c.cut_as.ensures.value c.if-not-cut_as.false 3 (omega arith) _ c.cut_as.ensures.cuts
-
-pub returns-in_default-read_number : goal.returns-in_default-read_number
-returns-in_default-read_number c =
-    c.refused_head-in_default-read_number.ensures
-    ∙ unread c.args.line.now _ c.cut_as.ensures.value c.if-not-cut_as.false 3 (omega arith) (omega arith)
-    (field_bad c.args.line.now 3 _ _ c.read_number.ensures c.cut_field-3.ensures c.in_default-read_number.is)
-
-pub cut_field-requires-4 : goal.cut_field-requires-4
-cut_field-requires-4 c = cut c.args.line.now _ c.cut_as.ensures.value c.if-not-cut_as.false 4 (omega arith) _ c.cut_as.ensures.cuts
-
-pub returns-in_default-read_number-2 : goal.returns-in_default-read_number-2
-returns-in_default-read_number-2 c =
-    c.refused_head-in_default-read_number-2.ensures
-    ∙ unread c.args.line.now _ c.cut_as.ensures.value c.if-not-cut_as.false 4 (omega arith) (omega arith)
-    (field_bad c.args.line.now 4 _ _ c.read_number-2.ensures c.cut_field-4.ensures c.in_default-read_number-2.is)
-
-pub cut_field-requires-5 : goal.cut_field-requires-5
-cut_field-requires-5 c = cut c.args.line.now _ c.cut_as.ensures.value c.if-not-cut_as.false 5 (omega arith) _ c.cut_as.ensures.cuts
-
-pub returns-in_default-read_number-3 : goal.returns-in_default-read_number-3
-returns-in_default-read_number-3 c =
-    c.refused_head-in_default-read_number-3.ensures
-    ∙ unread c.args.line.now _ c.cut_as.ensures.value c.if-not-cut_as.false 5 (omega arith) (omega arith)
-    (field_bad c.args.line.now 5 _ _ c.read_number-3.ensures c.cut_field-5.ensures c.in_default-read_number-3.is)
-
-pub cut_field-requires-6 : goal.cut_field-requires-6
-cut_field-requires-6 c = cut c.args.line.now _ c.cut_as.ensures.value c.if-not-cut_as.false 6 (omega arith) _ c.cut_as.ensures.cuts
-
-pub returns-in_default-read_number-4 : goal.returns-in_default-read_number-4
-returns-in_default-read_number-4 c =
-    c.refused_head-in_default-read_number-4.ensures
-    ∙ unread c.args.line.now _ c.cut_as.ensures.value c.if-not-cut_as.false 6 (omega arith) (omega arith)
-    (field_bad c.args.line.now 6 _ _ c.read_number-4.ensures c.cut_field-6.ensures c.in_default-read_number-4.is)
-
-pub cut_field-requires-7 : goal.cut_field-requires-7
-cut_field-requires-7 c = cut c.args.line.now _ c.cut_as.ensures.value c.if-not-cut_as.false 1 (omega arith) _ c.cut_as.ensures.cuts
-
-pub read_name-name-requires : goal.read_name-name-requires
-read_name-name-requires c =
-    let m = name_length (field_of c.args.line.now 1) (form_good _ _ _ c.cut_field.ensures c.name_form.ensures c.in-Named.is) in
-    let q = ap length c.cut_field-7.ensures in
-    omega (arith, m.1)
-
-pub returns-then-not-head_numbers_fit : goal.returns-then-not-head_numbers_fit
-returns-then-not-head_numbers_fit c =
-    c.refused_head-then-not-head_numbers_fit.ensures
-    ∙ head_out c.args.line.now _ c.cut_as.ensures.value c.if-not-cut_as.false c.in-Known.unit
-    (form_good _ _ _ c.cut_field.ensures c.name_form.ensures c.in-Named.is)
-    (unit_good _ _ _ _ c.cut_field-2.ensures c.read_unit.ensures c.in-Known.is)
-    c.in-Some.q c.in-Some-read_number.np c.in-Some-read_number-2.functions c.in-Some-read_number-3.grids
-    _ _ (c.head_made-head.ensures
-    ∙ ap (λ (m : Name). counted_head m c.in-Known.unit (bits c.in-Some.q) (bits c.in-Some-read_number.np) (bits c.in-Some-read_number-2.functions) (bits c.in-Some-read_number-3.grids))
-    (c.read_name-name.ensures ∙ ap name_of c.cut_field-7.ensures))
-    c.head_numbers_fit.ensures c.if-not-head_numbers_fit.true
-    (field_number c.args.line.now 3 _ _ c.read_number.ensures c.cut_field-3.ensures _ c.in-Some.is (search rules))
-    (field_number c.args.line.now 4 _ _ c.read_number-2.ensures c.cut_field-4.ensures _ c.in-Some-read_number.is (search rules))
-    (field_number c.args.line.now 5 _ _ c.read_number-3.ensures c.cut_field-5.ensures _ c.in-Some-read_number-2.is (search rules))
-    (field_number c.args.line.now 6 _ _ c.read_number-4.ensures c.cut_field-6.ensures _ c.in-Some-read_number-3.is (search rules))
+pub returns-in_err-q : goal.returns-in_err-q
+returns-in_err-q c =
+    let refused : c.from_residual-in_err-q.result ≡ Err (refusal 1 1) = search rules in
+    refused ∙ unread c.args.line.now _ c.cut_as.ensures.value c.if-not-cut_as.false _ c.numbers_from.ensures c.in_err-q.ensures.ok_part
 
 pub returns : goal.returns
 returns c =
-    head_in c.args.line.now _ c.cut_as.ensures.value c.if-not-cut_as.false c.in-Known.unit
-    (form_good _ _ _ c.cut_field.ensures c.name_form.ensures c.in-Named.is)
-    (unit_good _ _ _ _ c.cut_field-2.ensures c.read_unit.ensures c.in-Known.is)
-    c.in-Some.q c.in-Some-read_number.np c.in-Some-read_number-2.functions c.in-Some-read_number-3.grids
-    _ _ (c.head_made-head.ensures
-    ∙ ap (λ (m : Name). counted_head m c.in-Known.unit (bits c.in-Some.q) (bits c.in-Some-read_number.np) (bits c.in-Some-read_number-2.functions) (bits c.in-Some-read_number-3.grids))
-    (c.read_name-name.ensures ∙ ap name_of c.cut_field-7.ensures))
-    c.head_numbers_fit.ensures c.if-not-head_numbers_fit.false
-    (field_number c.args.line.now 3 _ _ c.read_number.ensures c.cut_field-3.ensures _ c.in-Some.is (search rules))
-    (field_number c.args.line.now 4 _ _ c.read_number-2.ensures c.cut_field-4.ensures _ c.in-Some-read_number.is (search rules))
-    (field_number c.args.line.now 5 _ _ c.read_number-3.ensures c.cut_field-5.ensures _ c.in-Some-read_number-2.is (search rules))
-    (field_number c.args.line.now 6 _ _ c.read_number-4.ensures c.cut_field-6.ensures _ c.in-Some-read_number-3.is (search rules))
+    let name = c.read_name.ensures ∙ ap read_name c.cut_field.ensures in
+    let unit = c.read_unit.ensures ∙ ap read_unit c.cut_field-2.ensures in
+    let zs = c.in_ok-q.field-0 in let e = c.in_ok-q.ensures.ok_part in
+    let told = numbers_told _ zs (sym c.numbers_from.ensures ∙ e) in
+    c.limited.ensures
+    ∙ read c.args.line.now _ c.cut_as.ensures.value c.if-not-cut_as.false _ c.numbers_from.ensures
+    c.in_ok-name.name c.in_ok-unit.unit (sym name ∙ c.in_ok-name.ensures.ok_part) (sym unit ∙ c.in_ok-unit.ensures.ok_part) zs e
+    _ (c.head_made-head.ensures ∙ (λ i. counted_head c.in_ok-name.name c.in_ok-unit.unit (told 0 i) (told 1 i) (told 2 i) (told 3 i)))
+    _ c.head_numbers_fit-fits.ensures
