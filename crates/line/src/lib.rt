@@ -13,7 +13,6 @@ ghost use Rattle.line.specs.Names.{is_name, name_of, name_text, read_name, read_
 ghost use Rattle.group.specs.Refusals.{refusal};
 ghost use Rattle.line.specs.Lines.{head_line, head_text, function_line, function_text, grid_line, grid_text};
 ghost use Rattle.line.specs.Numbers.{read_count, numbers_of, NumbersRead};
-ghost use Rattle.line.specs.Counted.{counted_head, counted_grid};
 
 use group::{Function, Grid, Latitude, Longitude, Name, Ramp, Ramp2, Refusal, Shape, Step, Unit};
 
@@ -130,37 +129,6 @@ fn numbers_behind<const N: usize>(
     numbers_from(line, cuts, 1)
 }
 
-// The group line of a name, a unit and four numbers.
-fn head_made(name: Name, unit: Unit, a: i64, b: i64, c: i64, d: i64) -> Head
-    ensures { result ≡ counted_head name unit a b c d }
-{
-    Head {
-        name,
-        unit,
-        quantum: numbers::count_of(a),
-        parameters: numbers::count_of(b),
-        functions: numbers::count_of(c),
-        grids: numbers::count_of(d),
-    }
-}
-
-// The grid of a name and eight numbers.
-fn grid_made(name: Name, a: i64, b: i64, c: i64, d: i64, e: i64, f: i64, g: i64, h: i64) -> Grid
-    ensures { result ≡ counted_grid name a b c d e f g h }
-{
-    Grid {
-        name,
-        lon: Longitude(a),
-        lat: Latitude(b),
-        dlon: c,
-        dlat: d,
-        ni: numbers::count_of(e),
-        nj: numbers::count_of(f),
-        rank: numbers::count_of(g),
-        start: numbers::count_of(h),
-    }
-}
-
 // What was read from line n, or refusal 2 where a number is outside its limit.
 fn limited<T: Copy>(read: T, fits: bool, n: u64) -> Result<T, Refusal>
     ensures { result ≡ cond fits (Ok read) (Err (refusal 2 n)) }
@@ -190,7 +158,14 @@ pub fn group_line(line: &[u8]) -> Result<Head, Refusal>
     let name = read_name(text::cut_field(line, &cuts, 1)).ok_or(malformed)?;
     let unit = read_unit(text::cut_field(line, &cuts, 2)).ok_or(malformed)?;
     let [q, np, functions, grids] = numbers_from::<4>(line, &cuts, 3).ok_or(malformed)?;
-    let head = head_made(name, unit, q, np, functions, grids);
+    let head = Head {
+        name,
+        unit,
+        quantum: numbers::count_of(q),
+        parameters: numbers::count_of(np),
+        functions: numbers::count_of(functions),
+        grids: numbers::count_of(grids),
+    };
     let fits = group::head_numbers_fit(head.quantum, head.parameters, head.functions, head.grids);
     limited(head, fits, 1)
 }
@@ -255,10 +230,19 @@ pub fn grid_line(line: &[u8], n: u64) -> Result<Grid, Refusal>
         return Err(malformed);
     }
     let name = read_name(text::cut_field(line, &cuts, 1)).ok_or(malformed)?;
-    let [lon, lat, dlon, dlat, ni, nj, rank, start] = numbers_from::<8>(line, &cuts, 2).ok_or(
-        malformed,
-    )?;
-    let grid = grid_made(name, lon, lat, dlon, dlat, ni, nj, rank, start);
+    let numbers = numbers_from::<8>(line, &cuts, 2).ok_or(malformed)?;
+    let [lon, lat, dlon, dlat, ni, nj, rank, start] = numbers;
+    let grid = Grid {
+        name,
+        lon: Longitude(lon),
+        lat: Latitude(lat),
+        dlon,
+        dlat,
+        ni: numbers::count_of(ni),
+        nj: numbers::count_of(nj),
+        rank: numbers::count_of(rank),
+        start: numbers::count_of(start),
+    };
     limited(grid, group::grid_fits(grid), n)
 }
 

@@ -21,7 +21,6 @@ use abi::GROUP_WORDS;
 use exercise::{Scale, Tables};
 use fix::Fix;
 use group::{Group, Latitude, Longitude, Point, Position, Refusal};
-use line::Form;
 use text::CUTS;
 
 // The first bad line of a log, from 1, and its kind: 1 form, 2 lookup refused, 3 other grid, 4 other shift; 0 and 0 if the log passes.
@@ -76,9 +75,9 @@ fn read_entry(
     if !line::cut_as(line, cuts, b"fix", SHIFT_FIELD + np) {
         return false;
     }
-    let Form::Named = line::name_form(text::cut_field(line, cuts, GRID_FIELD)) else {
+    if !line::is_name(text::cut_field(line, cuts, GRID_FIELD)) {
         return false;
-    };
+    }
     if !line::read_numbers(line, cuts, PLACE_FIELD, place) {
         return false;
     }

@@ -8,6 +8,7 @@ use lib.Dec.{eqb}
 use lib.IntN.{ℤ}
 use lib.ListN.{length, take, drop}
 use Rattle.std.specs.Prelude.{Option, Some, None, Result, Ok, Err}
+use Rattle.numbers.specs.Order.{count_of}
 use Rattle.text.specs.Parts.{split, field_of}
 use Rattle.text.specs.Fields.{same, read_ints}
 use Rattle.group.specs.Limits.{grid_fits}
@@ -45,8 +46,8 @@ module _ (line : List ℕ) (n : ℕ) (r : Bool) (e : r ≡ (same (field_of line 
         judged : cond (grid_fit zs) (Ok (grid_of m zs)) (Err (refusal 2 n)) ≡ grid_line n line
         judged = kind_read 1 8 grid_texts grid_fit grid_of (refusal 1 n) (refusal 2 n) grid_keyword line r e t o told grid_small m (grid_texts_lem line ∙ p) zs w
 
-        read : cond (grid_fits made) (Ok made) (Err (refusal 2 n)) ≡ grid_line n line
-        read =
+        made_read : cond (grid_fits made) (Ok made) (Err (refusal 2 n)) ≡ grid_line n line
+        made_read =
             ap (λ (t : Bool). cond t (Ok made) (Err (refusal 2 n)))
             (grid_judged m (int_at zs 0) (int_at zs 1) (int_at zs 2) (int_at zs 3) (int_at zs 4) (int_at zs 5) (int_at zs 6) (int_at zs 7) (read_name_fits (field_of line 1) m p))
             ∙ go (grid_fit zs) refl ∙ judged
@@ -54,6 +55,9 @@ module _ (line : List ℕ) (n : ℕ) (r : Bool) (e : r ≡ (same (field_of line 
             go : (t : Bool) → grid_fit zs ≡ t → ◌≡◌ {A = Result Grid Refusal} (cond t (Ok made) (Err (refusal 2 n))) (cond t (Ok (grid_of m zs)) (Err (refusal 2 n)))
             go true f = ap Ok (grid_made m (int_at zs 0) (int_at zs 1) (int_at zs 2) (int_at zs 3) (int_at zs 4) (int_at zs 5) (int_at zs 6) (int_at zs 7) f)
             go false f = refl
+
+        read : (g : Grid) → g ≡ made → (b : Bool) → b ≡ grid_fits g → cond b (Ok g) (Err (refusal 2 n)) ≡ grid_line n line
+        read g d b f = ap (λ (t : Bool). cond t (Ok g) (Err (refusal 2 n))) f ∙ ap (λ (x : Grid). cond (grid_fits x) (Ok x) (Err (refusal 2 n))) d ∙ made_read
 
 pub returns-then-not-cut_as : goal.returns-then-not-cut_as
 returns-then-not-cut_as c = of_other c.args.line.now c.args.n _ c.cut_as.ensures.value c.if-not-cut_as.true
@@ -64,19 +68,28 @@ returns-in_err-name c =
     let refused : c.from_residual.result ≡ Err (refusal 1 c.args.n) = search rules in
     refused ∙ unnamed c.args.line.now c.args.n _ c.cut_as.ensures.value c.if-not-cut_as.false (sym name ∙ c.in_err-name.ensures.ok_part)
 
-pub returns-in_err-lon : goal.returns-in_err-lon
-returns-in_err-lon c =
-    let refused : c.from_residual-in_err-lon.result ≡ Err (refusal 1 c.args.n) = search rules in
-    refused ∙ unread c.args.line.now c.args.n _ c.cut_as.ensures.value c.if-not-cut_as.false _ c.numbers_from.ensures c.in_err-lon.ensures.ok_part
+pub returns-in_err-numbers : goal.returns-in_err-numbers
+returns-in_err-numbers c =
+    let refused : c.from_residual-in_err-numbers.result ≡ Err (refusal 1 c.args.n) = search rules in
+    refused ∙ unread c.args.line.now c.args.n _ c.cut_as.ensures.value c.if-not-cut_as.false _ c.numbers_from.ensures c.in_err-numbers.ensures.ok_part
 
 pub returns : goal.returns
 returns c =
     let name = c.read_name.ensures ∙ ap read_name c.cut_field.ensures in
-    let zs = c.in_ok-lon.field-0 in let e = c.in_ok-lon.ensures.ok_part in
+    let zs = c.in_ok-numbers.numbers in let e = c.in_ok-numbers.ensures.ok_part in
     let told = numbers_told _ zs (sym c.numbers_from.ensures ∙ e) in
     c.limited.ensures
-    ∙ ap (λ (t : Bool). cond t (Ok c.grid_made-grid.result) (Err (refusal 2 c.args.n))) c.grid_fits.ensures
-    ∙ ap (λ (g : Grid). cond (grid_fits g) (Ok g) (Err (refusal 2 c.args.n)))
-    (c.grid_made-grid.ensures ∙ (λ i. counted_grid c.in_ok-name.name (told 0 i) (told 1 i) (told 2 i) (told 3 i) (told 4 i) (told 5 i) (told 6 i) (told 7 i)))
     ∙ read c.args.line.now c.args.n _ c.cut_as.ensures.value c.if-not-cut_as.false _ c.numbers_from.ensures
     c.in_ok-name.name (sym name ∙ c.in_ok-name.ensures.ok_part) zs e
+    _ (λ i. record {
+      name = c.in_ok-name.name;
+      lon = record { 0 = told 0 i };
+      lat = record { 0 = told 1 i };
+      dlon = told 2 i;
+      dlat = told 3 i;
+      ni = (c.count_of.ensures ∙ ap count_of (told 4)) i;
+      nj = (c.count_of-2.ensures ∙ ap count_of (told 5)) i;
+      rank = (c.count_of-3.ensures ∙ ap count_of (told 6)) i;
+      start = (c.count_of-4.ensures ∙ ap count_of (told 7)) i;
+    })
+    _ c.grid_fits.ensures

@@ -8,6 +8,7 @@ use lib.Dec.{eqb}
 use lib.IntN.{ℤ, pos}
 use lib.ListN.{length, take, drop}
 use Rattle.std.specs.Prelude.{Option, Some, None, Result, Ok, Err}
+use Rattle.numbers.specs.Order.{count_of}
 use Rattle.text.specs.Parts.{split, field_of}
 use Rattle.text.specs.Fields.{same, read_ints}
 use Rattle.group.specs.Limits.{head_numbers_fit}
@@ -88,5 +89,12 @@ returns c =
     c.limited.ensures
     ∙ read c.args.line.now _ c.cut_as.ensures.value c.if-not-cut_as.false _ c.numbers_from.ensures
     c.in_ok-name.name c.in_ok-unit.unit (sym name ∙ c.in_ok-name.ensures.ok_part) (sym unit ∙ c.in_ok-unit.ensures.ok_part) zs e
-    _ (c.head_made-head.ensures ∙ (λ i. counted_head c.in_ok-name.name c.in_ok-unit.unit (told 0 i) (told 1 i) (told 2 i) (told 3 i)))
+    _ (λ i. record {
+      name = c.in_ok-name.name;
+      unit = c.in_ok-unit.unit;
+      quantum = (c.count_of.ensures ∙ ap count_of (told 0)) i;
+      parameters = (c.count_of-2.ensures ∙ ap count_of (told 1)) i;
+      functions = (c.count_of-3.ensures ∙ ap count_of (told 2)) i;
+      grids = (c.count_of-4.ensures ∙ ap count_of (told 3)) i;
+    })
     _ c.head_numbers_fit-fits.ensures

@@ -1,6 +1,6 @@
 -- `read_entry` meets its contract.
 use Prim.Native.Nat.{ℕ, ◌+◌}
-use mathlib.Core.Path.{◌≡◌, sym, subst}
+use mathlib.Core.Path.{◌≡◌, sym, ap, subst, ◌∙◌}
 use mathlib.Core.Bool.{true}
 use mathlib.Core.List.{List}
 use native.Mathlib.Omega.{arith}
@@ -9,7 +9,6 @@ use lib.Seq.{length-take-le, take_at}
 use Rattle.text.specs.Parts.{split, field_of}
 use Rattle.text.specs.Fields.{read_ints}
 use Rattle.line.specs.Names.{is_name}
-use Rattle.line.proofs.ReadLaws.{form_bad, form_good}
 use Rattle.line.specs.Numbers.{NumbersRead}
 use Rattle.logs.proofs.EntryLaws.{entry_bad, entry_miss, entry_count, entry_unnamed, entry_placed, entry_valued}
 use Rattle.logs.proofs.read_entry.Goals as goal
@@ -25,12 +24,12 @@ cut_field-requires c =
     let counted : length (split 9 line) ≡ 5 + c.args.np = entry_count c.args.np line _ c.cut_as.ensures.value hit in
     let n = counted in (omega arith, c.cut_as.ensures.cuts 4 (omega arith) (omega arith))
 
-pub returns-in_default : goal.returns-in_default
-returns-in_default c =
+pub returns-then-not-is_name : goal.returns-then-not-is_name
+returns-then-not-is_name c =
     let line : List ℕ = c.args.line.now in
     let hit : c.cut_as.result ≡ true = c.if-not-cut_as.false in
     entry_bad (entry_unnamed c.args.np line _ c.cut_as.ensures.value hit
-    (form_bad _ (field_of line 4) _ c.cut_field.ensures c.name_form.ensures c.in_default.is))
+    (ap is_name (sym c.cut_field.ensures) ∙ sym c.is_name.ensures ∙ c.if-not-is_name.true))
 
 pub read_numbers-requires : goal.read_numbers-requires
 read_numbers-requires c =
@@ -42,7 +41,7 @@ pub returns-then-not-read_numbers : goal.returns-then-not-read_numbers
 returns-then-not-read_numbers c =
     let line : List ℕ = c.args.line.now in
     let hit : c.cut_as.result ≡ true = c.if-not-cut_as.false in
-    let named : is_name (field_of line 4) ≡ true = form_good _ (field_of line 4) _ c.cut_field.ensures c.name_form.ensures c.in-Named.is in
+    let named : is_name (field_of line 4) ≡ true = ap is_name (sym c.cut_field.ensures) ∙ sym c.is_name.ensures ∙ c.if-not-is_name.false in
     let place : NumbersRead (read_ints (take 3 (drop 1 (split 9 line)))) c.read_numbers.result c.read_numbers.new.numbers =
     subst (λ (n : ℕ). NumbersRead (read_ints (take n (drop 1 (split 9 line)))) c.read_numbers.result c.read_numbers.new.numbers)
     c.requires.2 c.read_numbers.ensures in
@@ -66,7 +65,7 @@ returns c =
     let line : List ℕ = c.args.line.now in
     let hit : c.cut_as.result ≡ true = c.if-not-cut_as.false in
     let counted : length (split 9 line) ≡ 5 + c.args.np = entry_count c.args.np line _ c.cut_as.ensures.value hit in
-    let named : is_name (field_of line 4) ≡ true = form_good _ (field_of line 4) _ c.cut_field.ensures c.name_form.ensures c.in-Named.is in
+    let named : is_name (field_of line 4) ≡ true = ap is_name (sym c.cut_field.ensures) ∙ sym c.is_name.ensures ∙ c.if-not-is_name.false in
     let place : NumbersRead (read_ints (take 3 (drop 1 (split 9 line)))) c.read_numbers.result c.read_numbers.new.numbers =
     subst (λ (n : ℕ). NumbersRead (read_ints (take n (drop 1 (split 9 line)))) c.read_numbers.result c.read_numbers.new.numbers)
     c.requires.2 c.read_numbers.ensures in
