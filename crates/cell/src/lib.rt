@@ -177,7 +177,7 @@ pub fn weighted_sum(w: Weights, v: Corners) -> TwoParts
     parted(raised, w.total)
 }
 
-// Whether a corner lies so near 0 that the one-word way can take it.
+// Whether a corner lies so near 0 that the one-word way can take it: no branch, for speed.
 fn is_near(v: i32) -> bool
     ensures { result ≡ within near_most v }
 {

@@ -62,7 +62,7 @@ fn step_factor(s: Step, day: i64) -> i64
     mult * (step_parts(event, day) - step_parts(event, reference))
 }
 
-// The plain function of a ramp2 on a day, in parts of its length.
+// The plain function of a ramp2 on a day, in parts of its length. (No `clamp`, which requires that start is not above end.)
 fn ramp2_parts(start: i64, end: i64, day: i64) -> i64
     requires { (nat_abs start ≤ day_most) × (nat_abs end ≤ day_most) }
     ensures { result ≡ ramp2_parts start end day }

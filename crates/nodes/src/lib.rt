@@ -121,7 +121,7 @@ fn greatest(q: u32) -> f32
     f32::from_bits(GREATEST - q * FIRST_DIGIT)
 }
 
-// Whether the floats from a to e are all no farther from 0 than hi, and none has the flag's value.
+// Whether the floats from a to e are all no farther from 0 than hi, and none has the flag's value: no branch in the loop, for speed.
 fn all_plain(floats: &[f32], a: usize, e: usize, flag: f32, hi: f32) -> bool
     requires { (a ≤ e) × (e ≤ length floats.now) }
     ensures { result ≡ true → AllPlain hi flag floats.now a e }
@@ -166,7 +166,7 @@ fn first_refused(floats: &[f32], flag: f32, q: u32, hi: f32) -> usize
     floats.len()
 }
 
-// Writes the nodes of the floats from a to e.
+// Writes the nodes of the floats from a to e. `plain` is the same for all of them, so the compiler takes its test out of the loop.
 fn fill_block(floats: &[f32], a: usize, e: usize, flag: f32, q: u32, hi: f32, nodes: &mut [i32])
     requires limits { (q ≤ quantum_most) × (hi ≡ greatest q) × (a ≤ e) × (e ≤ length floats.now) }
     requires filled { Filled q flag floats.now a nodes.old × (first_refused q flag floats.now ≡ length floats.now) }
