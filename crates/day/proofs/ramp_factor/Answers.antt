@@ -97,6 +97,9 @@ module _ (c : Else-day-a) where
   whole_is : held c.args.r.b -ℤ held c.args.r.a ≡ c.args.r.b -ℤ c.args.r.a
   whole_is = gap_is c.args.r.b c.args.r.a (search rules) (search rules)
 
+pub overflow_sub-b : goal.overflow_sub-b
+overflow_sub-b c = let e = (goal.at.overflow_sub-b c).Else-day-a in subst (SFits w64) (sym (left_is e)) (facts e).left
+
 pub overflow_mul-s0 : goal.overflow_mul-s0
 overflow_mul-s0 c = let e = (goal.at.overflow_mul-s0 c).Else-day-a in subst (SFits w64) (sym (first_is e)) (facts e).first
 
