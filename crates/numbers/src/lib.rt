@@ -1,8 +1,7 @@
 // Rounding to the nearest whole number, ties to even; signed numbers as unsigned ones; a list of indices.
 #![tactic(auto)]
 
-ghost use Rattle.std.specs.Prelude.{◌≡◌, ◌+◌, ◌*◌, ◌≤◌, ◌<◌, ◌^◌, max, min, nat_abs, pos, ◌+ℤ◌, length};
-ghost use Rattle.std.specs.Int.Signed.{lt_z};
+ghost use Rattle.std.specs.Prelude.{◌≡◌, ◌+◌, ◌*◌, ◌≤◌, ◌<◌, ◌^◌, nat_abs, pos, ◌+ℤ◌, length};
 ghost use Rattle.numbers.specs.Round.{gain, nearest};
 ghost use Rattle.numbers.specs.Order.{raised, count_of};
 ghost use Rattle.numbers.specs.Lists.{Indices, Kept};
@@ -57,20 +56,6 @@ pub fn nearest_shifted_32(n: u64) -> u64
     (n + 2147483647 + (q - (h + h))) >> 32
 }
 
-// The size of x, without its sign.
-pub fn magnitude(x: i64) -> u64
-    ensures { result ≡ nat_abs x }
-{
-    x.unsigned_abs()
-}
-
-// Whether x is below zero.
-pub fn negative(x: i64) -> bool
-    ensures { result ≡ lt_z x (pos 0) }
-{
-    x < 0
-}
-
 // A number where numbers are unsigned; one below zero is BEYOND.
 pub fn count_of(x: i64) -> u64
     ensures { result ≡ count_of x }
@@ -112,20 +97,6 @@ pub fn wide(b: u8) -> u64
     ensures { (result ≡ b) × (result < 256) }
 {
     u64::from(b)
-}
-
-// The greater of two numbers.
-pub fn larger(a: u64, b: u64) -> u64
-    ensures { result ≡ max a b }
-{
-    a.max(b)
-}
-
-// The lesser of two numbers.
-pub fn smaller(a: u64, b: u64) -> u64
-    ensures { result ≡ min a b }
-{
-    a.min(b)
 }
 
 // Stores in each of the first n places its own index.

@@ -10,5 +10,5 @@ returns c =
     let s = c.args in
     let q = c.count_of-q.ensures ∙ ap count_of (to_z-of_z c.ranges.quantum) in
     let np = c.count_of-np.ensures ∙ ap count_of (to_z-of_z c.ranges.parameters) in
-    shifts_told s.quantum s.parameters s.number s.at s.fix.now _ _ _ q np c.lookup_of.ensures _ _ _ c.screen_answer-shown.ensures
-    c.screen_refusal-refusal.ensures c.shift_floats-floats.ensures
+    shifts_told s.quantum s.parameters s.number s.at s.fix.now _ _ _ q np c.lookup_of.ensures _ _ _ _ c.screen_answer-shown.ensures
+    c.told.ensures c.shift_floats.ensures
