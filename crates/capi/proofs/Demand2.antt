@@ -5,7 +5,7 @@ use mathlib.Core.List.{List}
 use lib.IntN.{ℤ}
 use lib.ListN.{length}
 use Rattle.group.specs.declared.Group.{Group}
-use Rattle.group.specs.Refusals.{verdict_refusal}
+use Rattle.group.specs.Refusals.{refusal_of}
 use Rattle.group.proofs.RefusalLaws.{lent_new}
 use Rattle.header.specs.Header.{read_header, written, bytes_after}
 use Rattle.header.proofs.Demand2.{text_read}
@@ -26,12 +26,12 @@ module _ (text : List ℕ) (group : List ℤ) (z : (read_answer text group).refu
   accepted : (read_header text).verdict ≡ Ok tt
   accepted = (reads text group).told.zero z
 
-  none : (verdict_refusal (read_header text).verdict).number ≡ 0
-  none = ap (λ (v : Result ⊤ Refusal). (verdict_refusal v).number) accepted
+  none : (refusal_of (read_header text).verdict).number ≡ 0
+  none = ap (λ (v : Result ⊤ Refusal). (refusal_of v).number) accepted
 
   filled : (read_answer text group).lent ≡ numbers_of g
   unfolding read_answer
-  filled = lent_new (verdict_refusal (read_header text).verdict) (numbers_of g) group none
+  filled = lent_new (refusal_of (read_header text).verdict) (numbers_of g) group none
 
   same_group : group_of_words (read_answer text group).lent ≡ g
   same_group =

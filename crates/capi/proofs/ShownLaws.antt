@@ -16,7 +16,7 @@ use Rattle.group.specs.declared.Refusal.{Refusal}
 use Rattle.judge.proofs.LimitLaws.{parameters_between}
 use Rattle.judge.proofs.Accepted.{accepted}
 use Rattle.fix.specs.declared.Fix.{Fix}
-use Rattle.fix.specs.Answers.{lookup_refusal, result_in, results_of}
+use Rattle.fix.specs.Answers.{result_in, results_of}
 use Rattle.lookup.specs.Lookup.{point_fits, looked}
 use Rattle.lookup.proofs.FoundLaws.{found}
 use Rattle.lookup.proofs.ResultLaws.{answered}
@@ -30,6 +30,7 @@ use Rattle.capi.specs.Answers.{fix_numbers, found_answer, point_of, lookup_answe
 use Rattle.capi.specs.Screen.{lookup_of, shown_of}
 use Rattle.capi.specs.Shown.{LookupShown, LeftShown}
 use Rattle.std.specs.Prelude.{Result, Ok}
+use Rattle.group.specs.Refusals.{refusal_of}
 
 -- ---- the library's calls
 
@@ -45,7 +46,7 @@ module _ (g : Group) (nodes : List ℤ) (p : Point) (t : ℤ) (q : ℕ) where
       let n = parameters_between g (accepted g (found g nodes p t f e).ready.accepted).head in
       shown_exactly f q g.parameters k n.0 n.1 (λ i l. le_trans (answered g nodes p t f e i l).small (lit≤ tt))
 
-  pub lookup_shown : (lookup_refusal (looked g nodes p t)).number ≡ 0 → q ≤ 20 → LookupShown g nodes p t q
+  pub lookup_shown : (refusal_of (looked g nodes p t)).number ≡ 0 → q ≤ 20 → LookupShown g nodes p t q
   lookup_shown z k =
       let u = (zero_fix g nodes p t).0 z in
       let r = subst (λ (a : Result Fix Refusal). ShowsResults (results_of a) q g.parameters (answer_of a q g.parameters)) (sym u.1) (fix_shown u.0 u.1 k) in

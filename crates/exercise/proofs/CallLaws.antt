@@ -12,7 +12,7 @@ use Rattle.numbers.specs.First.{some}
 use Rattle.group.specs.declared.Group.{Group}
 use Rattle.group.specs.declared.Position.{Position}
 use Rattle.group.specs.declared.Refusal.{Refusal}
-use Rattle.group.specs.Refusals.{no_refusal, verdict_refusal, refuse_first, Told, lent_after}
+use Rattle.group.specs.Refusals.{no_refusal, refuse_first, Told, lent_after, refusal_of}
 use Rattle.group.proofs.RefusalLaws.{no_acceptance, verdicts, told_accepted, told_if, told_verdict, passed_if, passed_verdict, lent_new, lent_kept}
 use Rattle.abi.specs.Abi.{group_of_words, numbers_of, MachineGroup}
 use Rattle.judge.specs.Judge.{judged}
@@ -30,7 +30,7 @@ use Rattle.std.specs.Prelude.{Result, Ok, Err, ⊤}
 
 module _ (g : Group) (nodes : ℕ) (agree : Bool) where
   -- its number is 0 exactly where it is accepted, else a number of the table
-  pub many_told : Told (many_verdict g nodes agree ≡ Ok tt) (verdict_refusal (many_verdict g nodes agree))
+  pub many_told : Told (many_verdict g nodes agree ≡ Ok tt) (refusal_of (many_verdict g nodes agree))
   unfolding many_verdict many_judged nodes_judged refuse_first
   many_told = told_verdict verdicts (judged g) (judged_told g) (told_if verdicts (not agree) 12 0 refl (told_if verdicts _ 13 _ refl (told_accepted refl)))
 
@@ -59,14 +59,14 @@ module _ (g : Group) (nodes : ℕ) (agree : Bool) where
 -- ---- what a call leaves: all points answered where it is accepted, and else the list as it was
 
 pub filled_lent : {A : Type 0} (new old : List A) (v : Result ⊤ Refusal) → v ≡ Ok tt → length new ≡ length old
-    → filled new old (length new) ≡ lent_after (verdict_refusal v) new old
+    → filled new old (length new) ≡ lent_after (refusal_of v) new old
 filled_lent new old v e l =
     (λ i. take-length new i ++ drop (l i) old) ∙ (λ i. new ++ drop-length old i) ∙ append-nil new
-    ∙ sym (ap (λ (w : Result ⊤ Refusal). lent_after (verdict_refusal w) new old) e ∙ lent_new no_refusal new old refl)
+    ∙ sym (ap (λ (w : Result ⊤ Refusal). lent_after (refusal_of w) new old) e ∙ lent_new no_refusal new old refl)
 
-pub refused_lent : {A : Type 0} (new old : List A) (v : Result ⊤ Refusal) (r : Refusal) → v ≡ Err r → Told (v ≡ Ok tt) (verdict_refusal v)
-    → old ≡ lent_after (verdict_refusal v) new old
-refused_lent new old v r e t = sym (lent_kept (verdict_refusal v) new old (λ z. no_acceptance r (sym e ∙ t.zero z)))
+pub refused_lent : {A : Type 0} (new old : List A) (v : Result ⊤ Refusal) (r : Refusal) → v ≡ Err r → Told (v ≡ Ok tt) (refusal_of v)
+    → old ≡ lent_after (refusal_of v) new old
+refused_lent new old v r e t = sym (lent_kept (refusal_of v) new old (λ z. no_acceptance r (sym e ∙ t.zero z)))
 
 module _ (g : Group) (nodes : List ℤ) (points : List Position) (results : List Answer) where
   abbrev agree : Bool
@@ -93,20 +93,20 @@ module _ (g : Group) (h : MachineGroup g) where
 
   -- so is what is left of every list
   lent_stored : {A : Type 0} (new : Group → List A) (old : List A) (nodes : ℕ) (agree : Bool)
-      → lent_after (verdict_refusal (many_verdict (group_of_words (numbers_of g)) nodes agree)) (new (group_of_words (numbers_of g))) old
-      ≡ lent_after (verdict_refusal (many_verdict g nodes agree)) (new g) old
+      → lent_after (refusal_of (many_verdict (group_of_words (numbers_of g)) nodes agree)) (new (group_of_words (numbers_of g))) old
+      ≡ lent_after (refusal_of (many_verdict g nodes agree)) (new g) old
   lent_stored {A} new old nodes agree = go (judged g) refl
     where
       go : (v : Result ⊤ Refusal) → judged g ≡ v
-          → lent_after (verdict_refusal (many_verdict (group_of_words (numbers_of g)) nodes agree)) (new (group_of_words (numbers_of g))) old
-          ≡ lent_after (verdict_refusal (many_verdict g nodes agree)) (new g) old
-      go (Ok tt) e = ap (λ (x : Group). lent_after (verdict_refusal (many_verdict x nodes agree)) (new x) old) (stored_back g h e)
+          → lent_after (refusal_of (many_verdict (group_of_words (numbers_of g)) nodes agree)) (new (group_of_words (numbers_of g))) old
+          ≡ lent_after (refusal_of (many_verdict g nodes agree)) (new g) old
+      go (Ok tt) e = ap (λ (x : Group). lent_after (refusal_of (many_verdict x nodes agree)) (new x) old) (stored_back g h e)
       go (Err r) e =
           kept (group_of_words (numbers_of g)) r (stored_judged g h ∙ e) ∙ sym (kept g r e)
         where
-          kept : (x : Group) (r : Refusal) → judged x ≡ Err r → lent_after (verdict_refusal (many_verdict x nodes agree)) (new x) old ≡ old
+          kept : (x : Group) (r : Refusal) → judged x ≡ Err r → lent_after (refusal_of (many_verdict x nodes agree)) (new x) old ≡ old
           kept x r e =
-              lent_kept (verdict_refusal (many_verdict x nodes agree)) (new x) old
+              lent_kept (refusal_of (many_verdict x nodes agree)) (new x) old
               (λ z. no_acceptance r (sym (many_group x nodes agree r e) ∙ (many_told x nodes agree).zero z))
 
   pub results_stored : (nodes : List ℤ) (points : List Position) (results : List Answer)

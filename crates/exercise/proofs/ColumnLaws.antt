@@ -10,7 +10,7 @@ use lib.ListN.{length}
 use lib.Seq.{sets}
 use Rattle.numbers.proofs.Bools.{and_parts}
 use Rattle.group.specs.declared.Group.{Group}
-use Rattle.group.specs.Refusals.{no_refusal, verdict_refusal, lent_after}
+use Rattle.group.specs.Refusals.{no_refusal, lent_after, refusal_of}
 use Rattle.group.proofs.RefusalLaws.{lent_new}
 use Rattle.abi.specs.Abi.{joined}
 use Rattle.abi.proofs.ListLaws.{length_joined, sets_whole}
@@ -38,7 +38,7 @@ module _ (g : Group) (nodes lons lats days results : List ℤ) where
   columns_all e =
       let l = (columns_lengths (length lons) (length lats) (length days) (length results) (call_agree g (length nodes) agree e)).2 in
       sets_whole results (joined numbers_at (length lons)) (l ∙ sym (length_joined numbers_at answer_words (length lons) (λ k b. refl)))
-      ∙ sym (ap (λ (w : Result ⊤ Refusal). lent_after (verdict_refusal w) (joined numbers_at (length lons)) results) e ∙ lent_new no_refusal (joined numbers_at (length lons)) results refl)
+      ∙ sym (ap (λ (w : Result ⊤ Refusal). lent_after (refusal_of w) (joined numbers_at (length lons)) results) e ∙ lent_new no_refusal (joined numbers_at (length lons)) results refl)
 
   pub columns_kept : (r : Refusal) → many_verdict g (length nodes) agree ≡ Err r → results ≡ columns_after g nodes lons lats days results
   unfolding columns_after

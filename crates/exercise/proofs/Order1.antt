@@ -16,11 +16,10 @@ use Rattle.group.specs.declared.Point.{Point}
 use Rattle.group.specs.declared.Position.{Position}
 use Rattle.group.specs.declared.Refusal.{Refusal}
 use Rattle.group.specs.Numbers.{value_most, mark}
-use Rattle.group.specs.Refusals.{no_refusal, verdict_refusal, lent_after}
+use Rattle.group.specs.Refusals.{no_refusal, lent_after, refusal_of}
 use Rattle.group.proofs.RefusalLaws.{no_acceptance, first_past, lent_new, lent_kept}
 use Rattle.abi.proofs.ListLaws.{get_or_joined, length_joined, length_list_of}
 use Rattle.judge.specs.Judge.{judged}
-use Rattle.fix.specs.Answers.{lookup_refusal}
 use Rattle.lookup.specs.declared.Answer.{Answer}
 use Rattle.lookup.specs.Answer.{answer_record}
 use Rattle.lookup.specs.Lookup.{ends_early, nodes_judged, looked}
@@ -64,30 +63,30 @@ module _ (g : Group) (nodes : List ℤ) (agree : Bool) (Other : Type 0) (yea : a
   abbrev From13 : Refusal → Type 0
   From13 = ShortList g nodes then NothingRefused
 
-  stands : RefusesMany g nodes Other (verdict_refusal (many_verdict g (length nodes) agree))
+  stands : RefusesMany g nodes Other (refusal_of (many_verdict g (length nodes) agree))
   unfolding RefusesMany many_verdict many_judged nodes_judged
   stands =
-      judge_stage Err verdict_refusal (λ r. refl) (TableRow 12 Other then From13) g (many_judged g (length nodes) agree)
+      judge_stage Err refusal_of (λ r. refl) (TableRow 12 Other then From13) g (many_judged g (length nodes) agree)
       (λ a.
-      row_stage Err verdict_refusal (λ r. refl) Other From13 (not agree) 12 (nodes_judged g (length nodes)) (λ e. yea (not-true agree e)) (λ e. nay (not-false agree e))
-      (λ b. short_stage Err verdict_refusal (λ r. refl) NothingRefused g nodes (Ok tt) (λ c. refl)))
+      row_stage Err refusal_of (λ r. refl) Other From13 (not agree) 12 (nodes_judged g (length nodes)) (λ e. yea (not-true agree e)) (λ e. nay (not-false agree e))
+      (λ b. short_stage Err refusal_of (λ r. refl) NothingRefused g nodes (Ok tt) (λ c. refl)))
 
   in_one_way : Single (RefusesMany g nodes Other)
   unfolding RefusesMany
   in_one_way = single_then _ _ (single_judged g) (single_then _ _ (single_row 12 Other) (single_then _ _ (single_short g nodes) single_none))
 
-  many_exactly : (r : Refusal) → (verdict_refusal (many_verdict g (length nodes) agree) ≡ r) ↔ RefusesMany g nodes Other r
+  many_exactly : (r : Refusal) → (refusal_of (many_verdict g (length nodes) agree) ≡ r) ↔ RefusesMany g nodes Other r
   many_exactly r = (λ e. subst (RefusesMany g nodes Other) e stands, λ h. in_one_way _ r stands h)
 
 -- what it leaves
 module _ (g : Group) (nodes : List ℤ) (agree : Bool) where
   lent_as_it_was : {A : Type 0} (new old : List A) → (many_verdict g (length nodes) agree ≡ Ok tt → ⊥)
-      → lent_after (verdict_refusal (many_verdict g (length nodes) agree)) new old ≡ old
-  lent_as_it_was new old n = lent_kept (verdict_refusal (many_verdict g (length nodes) agree)) new old (λ z. n ((many_told g (length nodes) agree).zero z))
+      → lent_after (refusal_of (many_verdict g (length nodes) agree)) new old ≡ old
+  lent_as_it_was new old n = lent_kept (refusal_of (many_verdict g (length nodes) agree)) new old (λ z. n ((many_told g (length nodes) agree).zero z))
 
   lent_anew : {A : Type 0} (new old : List A) → many_verdict g (length nodes) agree ≡ Ok tt
-      → lent_after (verdict_refusal (many_verdict g (length nodes) agree)) new old ≡ new
-  lent_anew new old e = lent_new (verdict_refusal (many_verdict g (length nodes) agree)) new old (ap (λ (v : Result ⊤ Refusal). (verdict_refusal v).number) e)
+      → lent_after (refusal_of (many_verdict g (length nodes) agree)) new old ≡ new
+  lent_anew new old e = lent_new (refusal_of (many_verdict g (length nodes) agree)) new old (ap (λ (v : Result ⊤ Refusal). (refusal_of v).number) e)
 
 -- ---- a point of an accepted call: the group and the node list refuse none
 
@@ -117,7 +116,7 @@ module _ (g : Group) (nodes : List ℤ) (e : judged g ≡ Ok tt) (ends : some (e
       (then_same Row9 With13 From7 (then_drop (ShortList g nodes) From7 (none_ends g nodes ends))) r in
       (λ h. b.0 (a.0 h), λ h. a.1 (b.1 h))
 
-  point_exactly : (r : Refusal) → (lookup_refusal (looked g nodes p t) ≡ r) ↔ RefusesPoint g nodes p t r
+  point_exactly : (r : Refusal) → (refusal_of (looked g nodes p t) ≡ r) ↔ RefusesPoint g nodes p t r
   point_exactly r =
       let a = refused_exactly g nodes p t r in let b = point_rows r in
       (λ h. b.0 (a.0 h), λ h. a.1 (b.1 h))

@@ -4,7 +4,7 @@ use Rattle.std.specs.Prelude.{ℕ, ◌*◌, Bool, not, ◌&&◌, List, [], ◌�
 use Rattle.group.specs.declared.Group.{Group}
 use Rattle.group.specs.declared.Point.{Point}
 use Rattle.group.specs.declared.Position.{Position}
-use Rattle.group.specs.Refusals.{verdict_refusal, refuse_if, unless_refused, lent_after}
+use Rattle.group.specs.Refusals.{refuse_if, unless_refused, lent_after, refusal_of}
 use Rattle.abi.specs.Abi.{number_at, joined}
 use Rattle.judge.specs.Judge.{judged}
 use Rattle.lookup.specs.declared.Answer.{Answer}
@@ -30,7 +30,7 @@ answer_at g nodes p = answer_record (looked g nodes (point_at p) p.day)
 -- the lent results afterwards: each point's answer, or all as they were
 unfoldable pub results_after : Group → List ℤ → List Position → List Answer → List Answer
 results_after g nodes points results =
-    lent_after (verdict_refusal (many_verdict g (length nodes) (eqb (length points) (length results)))) (map (answer_at g nodes) points) results
+    lent_after (refusal_of (many_verdict g (length nodes) (eqb (length points) (length results)))) (map (answer_at g nodes) points) results
 
 -- ---- columns of plain numbers
 
@@ -57,6 +57,6 @@ column_numbers g nodes lons lats days = joined (λ k. answer_numbers (answer_at 
 unfoldable pub columns_after : Group → (nodes lons lats days results : List ℤ) → List ℤ
 columns_after g nodes lons lats days results =
     lent_after
-    (verdict_refusal (many_verdict g (length nodes) (columns_agree (length lons) (length lats) (length days) (length results))))
+    (refusal_of (many_verdict g (length nodes) (columns_agree (length lons) (length lats) (length days) (length results))))
     (column_numbers g nodes lons lats days)
     results

@@ -6,7 +6,7 @@ use Rattle.group.specs.declared.Point.{Point}
 use Rattle.group.specs.declared.Position.{Position}
 use Rattle.group.specs.declared.Refusal.{Refusal}
 use Rattle.group.specs.Numbers.{value_most, mark}
-use Rattle.group.specs.Refusals.{refusal, no_refusal, verdict_refusal}
+use Rattle.group.specs.Refusals.{refusal, no_refusal, refusal_of}
 use Rattle.abi.specs.Abi.{number_at, list_of}
 use Rattle.judge.specs.Judge.{judged}
 use Rattle.lookup.specs.declared.Answer.{Answer}
@@ -48,7 +48,7 @@ SameLength points results = length points ≡ length results
 
 pub record ManyPoints (g : Group) (nodes : List ℤ) (points : List Position) (results : List Answer) : Type 0 where
   -- the whole call is refused exactly by these rows, in their order
-  pub refused : (r : Refusal) → (verdict_refusal (records_verdict g nodes points results) ≡ r) ↔ RefusesMany g nodes (SameLength points results → ⊥) r
+  pub refused : (r : Refusal) → (refusal_of (records_verdict g nodes points results) ≡ r) ↔ RefusesMany g nodes (SameLength points results → ⊥) r
   -- 'and writes nothing'
   pub kept : (records_verdict g nodes points results ≡ Ok tt → ⊥) → results_after g nodes points results ≡ results
   -- 'each result equals the single lookup's, refusals included', and there are no others
@@ -94,7 +94,7 @@ SameColumns lons lats days results = (length lats ≡ length lons) × (length da
 
 -- the same call over columns of plain numbers
 pub record ManyColumns (g : Group) (nodes lons lats days results : List ℤ) : Type 0 where
-  pub refused : (r : Refusal) → (verdict_refusal (columns_verdict g nodes lons lats days results) ≡ r)
+  pub refused : (r : Refusal) → (refusal_of (columns_verdict g nodes lons lats days results) ≡ r)
       ↔ RefusesMany g nodes (SameColumns lons lats days results → ⊥) r
   pub kept : (columns_verdict g nodes lons lats days results ≡ Ok tt → ⊥) → columns_after g nodes lons lats days results ≡ results
   -- six numbers for each point; number j of answer k is that of the single lookup at position k

@@ -4,10 +4,6 @@ use Rattle.group.specs.declared.Refusal.{Refusal}
 use Rattle.group.specs.Refusals.{no_refusal}
 use Rattle.fix.specs.declared.Fix.{Fix}
 
-abbrev pub lookup_refusal : Result Fix Refusal → Refusal
-lookup_refusal (Ok f) = no_refusal
-lookup_refusal (Err r) = r
-
 abbrev pub lookup_grid : Result Fix Refusal → ℕ
 lookup_grid (Ok f) = f.grid
 lookup_grid (Err r) = 0

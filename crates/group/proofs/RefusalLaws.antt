@@ -8,7 +8,7 @@ use Rattle.numbers.specs.First.{first, some}
 use Rattle.numbers.proofs.Bools.{true_false}
 use Rattle.numbers.proofs.FirstLaws.{first_same, some_same}
 use Rattle.group.specs.declared.Refusal.{Refusal}
-use Rattle.group.specs.Refusals.{refusal, no_refusal, in_table, verdict_refusal, refusal_of, refuse_if, refuse_first, unless_refused, Told, lent_after}
+use Rattle.group.specs.Refusals.{refusal, no_refusal, in_table, refusal_of, refuse_if, refuse_first, unless_refused, Told, lent_after}
 use Rattle.std.specs.Prelude.{Result, Ok, Err, ⊤}
 
 -- ---- a stage that refuses, and one that is passed
@@ -127,7 +127,7 @@ pub record Answers {A : Type 0} (Accepts : A → Type 0) (refusalOf : A → Refu
   pub back : (r : Refusal) → refusalOf (refused r) ≡ r
   pub never : (r : Refusal) → Accepts (refused r) → ⊥
 
-pub verdicts : Answers (λ (v : Result ⊤ Refusal). v ≡ Ok tt) verdict_refusal Err
+pub verdicts : Answers (λ (v : Result ⊤ Refusal). v ≡ Ok tt) refusal_of Err
 verdicts = record { back = λ r. refl; never = no_acceptance }
 
 -- so of any answer that is a result
@@ -149,7 +149,7 @@ module _ {A : Type 0} {Accepts : A → Type 0} {refusalOf : A → Refusal} {refu
       → Told (Accepts (refuse_if refused t number place next)) (refusalOf (refuse_if refused t number place next))
   told_if t number place {next} h after = chain_if refused (λ x. Told (Accepts x) (refusalOf x)) t number place next (told_by (refusal number place) h) after
 
-  pub told_verdict : (v : Result ⊤ Refusal) {next : A} → Told (v ≡ Ok tt) (verdict_refusal v) → Told (Accepts next) (refusalOf next)
+  pub told_verdict : (v : Result ⊤ Refusal) {next : A} → Told (v ≡ Ok tt) (refusal_of v) → Told (Accepts next) (refusalOf next)
       → Told (Accepts (unless_refused refused v next)) (refusalOf (unless_refused refused v next))
   told_verdict (Ok tt) h after = after
   told_verdict (Err r) h after = told_by r (h.refused (no_acceptance r))

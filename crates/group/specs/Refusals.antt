@@ -15,10 +15,6 @@ no_refusal = refusal 0 0
 abbrev pub in_table : ℕ → Bool
 in_table number = leb 1 number && leb number 13
 
-abbrev pub verdict_refusal : Result ⊤ Refusal → Refusal
-verdict_refusal (Ok tt) = no_refusal
-verdict_refusal (Err r) = r
-
 -- what an answer refuses
 abbrev pub refusal_of : {A : Type 0} → Result A Refusal → Refusal
 refusal_of (Ok x) = no_refusal

@@ -13,12 +13,12 @@ use Rattle.group.specs.declared.Function.{Function}
 use Rattle.group.specs.declared.Grid.{Grid}
 use Rattle.group.specs.declared.Group.{Group}
 use Rattle.group.specs.declared.Refusal.{Refusal}
-use Rattle.group.specs.Refusals.{verdict_refusal}
+use Rattle.group.specs.Refusals.{refusal_of}
 use Rattle.group.proofs.RefusalLaws.{no_acceptance, passed_if, passed_verdict, not_zero, lent_kept}
 use Rattle.judge.specs.Judge.{judged}
 use Rattle.header.specs.declared.Reading.{Reading}
 use Rattle.header.specs.Whole.{Header, stopped, header, read_lines, group_of_lines, accepted_reading, header_text}
-use Rattle.header.specs.Header.{verdict_reading, judged_reading, read_header, written, written_refusal, written_count, bytes_after}
+use Rattle.header.specs.Header.{verdict_reading, judged_reading, read_header, written, written_count, bytes_after}
 use Rattle.header.specs.Demand2.{InFront, TextRead, TextWritten, Shaped, Formed, JudgedAsText}
 use Rattle.header.proofs.HeaderLaws.{count_answer}
 use Rattle.header.proofs.TableLaws.{no_count, read_told, written_told}
@@ -70,11 +70,11 @@ module _ (t : List ℕ) (e : (read_header t).verdict ≡ Ok tt) where
       let s = same_bytes t group whole in
       count_answer group out (judged_read t group whole) (length t) (put 0 t out) (ap length (sym s)) (subst (λ (x : List ℕ). length x ≤ length out) (sym s) l) (ap (λ (x : List ℕ). put 0 x out) (sym s))
 
-blank_beside : (t : List ℕ) → ((verdict_refusal (read_header t).verdict).number ≡ 0 → ⊥) → (read_header t).group ≡ blank_group
+blank_beside : (t : List ℕ) → ((refusal_of (read_header t).verdict).number ≡ 0 → ⊥) → (read_header t).group ≡ blank_group
 blank_beside t n = by_verdict (read_header t).verdict refl
   where
     by_verdict : (v : Result ⊤ Refusal) → (read_header t).verdict ≡ v → (read_header t).group ≡ blank_group
-    by_verdict (Ok tt) e = absurd (n (ap (λ (v : Result ⊤ Refusal). (verdict_refusal v).number) e))
+    by_verdict (Ok tt) e = absurd (n (ap (λ (v : Result ⊤ Refusal). (refusal_of v).number) e))
     by_verdict (Err q) e = blank_read t q e
 
 pub text_read : (t : List ℕ) → TextRead t (read_header t)
@@ -82,7 +82,7 @@ text_read t =
     let e = (read_told t).zero in
     record {
       accepted = λ z. judged_read t (group t (e z)) (whole t (e z));
-      told = λ z out l. ap written_refusal (sym (written_back t (e z) out l).0);
+      told = λ z out l. ap refusal_of (sym (written_back t (e z) out l).0);
       count = λ z out l. ap written_count (sym (written_back t (e z) out l).0);
       bytes = λ z out l. subst (InFront t out) (written_back t (e z) out l).1 (put_front t out);
       blank = blank_beside t;
@@ -104,7 +104,7 @@ module _ (g : Group) (out : List ℕ) where
   unchanged : (q : Refusal) → written g (length out) ≡ Err q → bytes_after g out ≡ out
   unfolding bytes_after
   unchanged q e =
-      lent_kept (written_refusal (written g (length out))) (put 0 (header_text g) out) out
+      lent_kept (refusal_of (written g (length out))) (put 0 (header_text g) out) out
       (not_zero _ ((written_told g (length out)).refused (λ c. no_count c.0 q (sym e ∙ c.1))))
 
   back : Shaped g → (n : ℕ) → written g (length out) ≡ Ok n → read_header (take n (bytes_after g out)) ≡ accepted_reading g
@@ -128,8 +128,8 @@ text_written g s out =
       unchanged = λ n. by_answer n (written g (length out)) refl;
     }
   where
-    by_answer : ((written_refusal (written g (length out))).number ≡ 0 → ⊥) → (w : Result ℕ Refusal) → written g (length out) ≡ w → bytes_after g out ≡ out
-    by_answer n (Ok k) e = absurd (n (ap (λ (w : Result ℕ Refusal). (written_refusal w).number) e))
+    by_answer : ((refusal_of (written g (length out))).number ≡ 0 → ⊥) → (w : Result ℕ Refusal) → written g (length out) ≡ w → bytes_after g out ≡ out
+    by_answer n (Ok k) e = absurd (n (ap (λ (w : Result ℕ Refusal). (refusal_of w).number) e))
     by_answer n (Err q) e = unchanged g out q e
 
 -- ---- a record and its text

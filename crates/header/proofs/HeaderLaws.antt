@@ -12,7 +12,7 @@ use Rattle.text.specs.Wrote.{Wrote}
 use Rattle.group.specs.declared.Function.{Function}
 use Rattle.group.specs.declared.Grid.{Grid}
 use Rattle.group.specs.declared.Group.{Group}
-use Rattle.group.specs.Refusals.{refusal, no_refusal, refuse_if, lent_after}
+use Rattle.group.specs.Refusals.{refusal, no_refusal, refuse_if, lent_after, refusal_of}
 use Rattle.group.proofs.RefusalLaws.{if_here, if_past, not_zero, lent_new, lent_kept, no_acceptance}
 use Rattle.header.specs.Items.{closed}
 use Rattle.line.specs.Lines.{head_text, function_text, grid_text}
@@ -21,7 +21,7 @@ use Rattle.judge.specs.Judge.{judged}
 use Rattle.judge.proofs.TableLaws.{judged_table}
 use Rattle.header.specs.declared.Reading.{Reading}
 use Rattle.header.specs.Whole.{Header, stopped, header, read_lines, group_of_lines, refused_reading, lines_reading, head_of_group, header_text}
-use Rattle.header.specs.Header.{verdict_reading, judged_reading, read_header, written, written_refusal, bytes_after}
+use Rattle.header.specs.Header.{verdict_reading, judged_reading, read_header, written, bytes_after}
 use Rattle.std.specs.Prelude.{Result, Ok, Err, ⊤}
 
 module _ (t : List ℕ) (q : Reading) (e : q ≡ lines_reading (read_lines t)) where
@@ -88,9 +88,9 @@ front_le t out n after w =
 
 module _ (g : Group) (out : List ℕ) where
   -- what is left, by the answer
-  left : (w : Result ℕ Refusal) → w ≡ written g (length out) → lent_after (written_refusal w) (put 0 (header_text g) out) out ≡ bytes_after g out
+  left : (w : Result ℕ Refusal) → w ≡ written g (length out) → lent_after (refusal_of w) (put 0 (header_text g) out) out ≡ bytes_after g out
   unfolding bytes_after
-  left w e = ap (λ (x : Result ℕ Refusal). lent_after (written_refusal x) (put 0 (header_text g) out) out) e
+  left w e = ap (λ (x : Result ℕ Refusal). lent_after (refusal_of x) (put 0 (header_text g) out) out) e
 
   pub refused_answer : (r : Refusal) → judged g ≡ Err r → (Err r ≡ written g (length out)) × (out ≡ bytes_after g out)
   unfolding written

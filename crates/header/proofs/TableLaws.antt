@@ -10,7 +10,7 @@ use lib.ListN.{length, drop}
 use lib.IntN.{ℤ}
 use Rattle.text.specs.Parts.{split}
 use Rattle.text.specs.Fields.{same, read_ints}
-use Rattle.group.specs.Refusals.{refusal, in_table, verdict_refusal, Told}
+use Rattle.group.specs.Refusals.{refusal, in_table, Told, refusal_of}
 use Rattle.group.specs.Shapes.{ramp_of, step_of, ramp2_of}
 use Rattle.group.proofs.RefusalLaws.{Answers, no_acceptance, told_accepted, told_by, told_if, told_verdict}
 use Rattle.group.specs.declared.Refusal.{Refusal}
@@ -27,7 +27,7 @@ use Rattle.line.specs.Lines.{ramp_keyword, step_keyword, ramp2_keyword, no_texts
 use Rattle.header.specs.declared.Reading.{Reading}
 use Rattle.header.specs.Items.{Items, refused, items, on_line, read_items}
 use Rattle.header.specs.Whole.{Header, stopped, header, ending, after_grids, after_functions_of, after_head_of, read_lines_of, grid_lines, read_lines, group_of_lines, refused_reading}
-use Rattle.header.specs.Header.{judged_reading, read_header, written, written_refusal}
+use Rattle.header.specs.Header.{judged_reading, read_header, written}
 use Rattle.std.specs.Prelude.{Result, Ok, Err}
 
 abbrev InTable : Refusal → Type 0
@@ -129,16 +129,16 @@ module _ {R D : Type 0} (function : ℕ → List ℕ → Line Refusal R) (grid :
 
 -- ---- reading and writing
 
-readings : Answers (λ (x : Reading). x.verdict ≡ Ok tt) (λ (x : Reading). verdict_refusal x.verdict) refused_reading
+readings : Answers (λ (x : Reading). x.verdict ≡ Ok tt) (λ (x : Reading). refusal_of x.verdict) refused_reading
 readings = record { back = λ r. refl; never = no_acceptance }
 
-pub read_told : (t : List ℕ) → Told ((read_header t).verdict ≡ Ok tt) (verdict_refusal (read_header t).verdict)
+pub read_told : (t : List ℕ) → Told ((read_header t).verdict ≡ Ok tt) (refusal_of (read_header t).verdict)
 unfolding read_header
 read_told t =
     in_lines (read_lines t)
     (lines_in function_line grid_lines kinds_in (λ h ls. line_in 1 8 grid_texts grid_fit grid_of grid_keyword) t)
   where
-    in_lines : (x : Header Function Grid) → HeaderIn x → Told ((judged_reading x).verdict ≡ Ok tt) (verdict_refusal (judged_reading x).verdict)
+    in_lines : (x : Header Function Grid) → HeaderIn x → Told ((judged_reading x).verdict ≡ Ok tt) (refusal_of (judged_reading x).verdict)
     in_lines (stopped r) p = told_by readings r p
     in_lines (header h rs ds) p = told_verdict readings (judged (group_of_lines h rs ds)) (judged_told (group_of_lines h rs ds)) (told_accepted refl)
 
@@ -146,9 +146,9 @@ read_told t =
 pub no_count : (n : ℕ) (r : Refusal) → Err r ≡ Ok n → ⊥
 no_count n r e = let z : ◌≡◌ {A = ℕ} 0 1 = cc in omega arith
 
-pub writings : Answers (λ (w : Result ℕ Refusal). (n : ℕ) × (w ≡ Ok n)) written_refusal Err
+pub writings : Answers (λ (w : Result ℕ Refusal). (n : ℕ) × (w ≡ Ok n)) refusal_of Err
 writings = record { back = λ r. refl; never = λ r e. no_count e.0 r e.1 }
 
-pub written_told : (g : Group) (room : ℕ) → Told ((n : ℕ) × (written g room ≡ Ok n)) (written_refusal (written g room))
+pub written_told : (g : Group) (room : ℕ) → Told ((n : ℕ) × (written g room ≡ Ok n)) (refusal_of (written g room))
 unfolding written
 written_told g room = told_verdict writings (judged g) (judged_told g) (told_if writings _ 12 0 refl (told_accepted (_, refl)))

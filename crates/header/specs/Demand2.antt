@@ -8,8 +8,8 @@ use Rattle.group.specs.declared.Group.{Group}
 use Rattle.judge.specs.Judge.{judged}
 use Rattle.header.specs.declared.Reading.{Reading}
 use Rattle.header.specs.Whole.{accepted_reading, header_text}
-use Rattle.group.specs.Refusals.{no_refusal, verdict_refusal}
-use Rattle.header.specs.Header.{read_header, written, written_refusal, written_count, bytes_after}
+use Rattle.group.specs.Refusals.{no_refusal, refusal_of}
+use Rattle.header.specs.Header.{read_header, written, written_count, bytes_after}
 use Rattle.group.specs.declared.Refusal.{Refusal}
 
 -- the text stands in front, and every byte behind it is as it was
@@ -20,23 +20,23 @@ pub record InFront (text before after : List ℕ) : Type 0 where
 -- r answers the reading of t
 pub record TextRead (t : List ℕ) (r : Reading) : Type 0 where
   -- the group of an accepted text is accepted by the judge
-  pub accepted : (verdict_refusal r.verdict).number ≡ 0 → judged r.group ≡ Ok tt
+  pub accepted : (refusal_of r.verdict).number ≡ 0 → judged r.group ≡ Ok tt
   -- and written back as the same bytes into any output that is long enough: the text's length is answered, and the rest stays
-  pub told : (verdict_refusal r.verdict).number ≡ 0 → (out : List ℕ) → length t ≤ length out
-      → written_refusal (written r.group (length out)) ≡ no_refusal
-  pub count : (verdict_refusal r.verdict).number ≡ 0 → (out : List ℕ) → length t ≤ length out
+  pub told : (refusal_of r.verdict).number ≡ 0 → (out : List ℕ) → length t ≤ length out
+      → refusal_of (written r.group (length out)) ≡ no_refusal
+  pub count : (refusal_of r.verdict).number ≡ 0 → (out : List ℕ) → length t ≤ length out
       → written_count (written r.group (length out)) ≡ length t
-  pub bytes : (verdict_refusal r.verdict).number ≡ 0 → (out : List ℕ) → length t ≤ length out → InFront t out (bytes_after r.group out)
+  pub bytes : (refusal_of r.verdict).number ≡ 0 → (out : List ℕ) → length t ≤ length out → InFront t out (bytes_after r.group out)
   -- beside a refusal all numbers are 0, names empty, the unit arc-second
-  pub blank : ((verdict_refusal r.verdict).number ≡ 0 → ⊥) → r.group ≡ blank_group
+  pub blank : ((refusal_of r.verdict).number ≡ 0 → ⊥) → r.group ≡ blank_group
 
 -- w answers the writing of g into `out`, which is `after` then
 pub record TextWritten (g : Group) (out : List ℕ) (w : Result ℕ Refusal) (after : List ℕ) : Type 0 where
   -- the bytes written, as many as the count, read back as that group; all behind them stays
-  pub back : (written_refusal w).number ≡ 0 → read_header (take (written_count w) after) ≡ accepted_reading g
-  pub behind : (written_refusal w).number ≡ 0 → drop (written_count w) after ≡ drop (written_count w) out
+  pub back : (refusal_of w).number ≡ 0 → read_header (take (written_count w) after) ≡ accepted_reading g
+  pub behind : (refusal_of w).number ≡ 0 → drop (written_count w) after ≡ drop (written_count w) out
   -- after a refusal the output is unchanged
-  pub unchanged : ((written_refusal w).number ≡ 0 → ⊥) → after ≡ out
+  pub unchanged : ((refusal_of w).number ≡ 0 → ⊥) → after ≡ out
 
 -- the arrays have their lengths, as in every record of the code
 pub record Shaped (g : Group) : Type 0 where

@@ -7,7 +7,7 @@ use Rattle.group.specs.declared.Group.{Group}
 use Rattle.judge.specs.Judge.{judged}
 use Rattle.header.specs.declared.Reading.{Reading}
 use Rattle.group.specs.declared.Refusal.{Refusal}
-use Rattle.group.specs.Refusals.{no_refusal, refuse_if, unless_refused, lent_after}
+use Rattle.group.specs.Refusals.{no_refusal, refuse_if, unless_refused, lent_after, refusal_of}
 use Rattle.header.specs.Whole.{Header, stopped, header, read_lines, group_of_lines, refused_reading, accepted_reading, header_text}
 
 -- a group that was read: its judge's refusal, else the group
@@ -30,15 +30,10 @@ written g room =
     (refuse_if Err (ltb room (length (header_text g))) 12 0
     (Ok (length (header_text g))))
 
--- what writing refuses, and the count that it hands back, 0 beside a refusal
-abbrev pub written_refusal : Result ℕ Refusal → Refusal
-written_refusal (Ok n) = no_refusal
-written_refusal (Err r) = r
-
 abbrev pub written_count : Result ℕ Refusal → ℕ
 written_count (Ok n) = n
 written_count (Err r) = 0
 
 -- what the lent bytes are then: the text from the first on, and all behind it as it was; after a refusal all is as it was
 unfoldable pub bytes_after : Group → List ℕ → List ℕ
-bytes_after g out = lent_after (written_refusal (written g (length out))) (put 0 (header_text g) out) out
+bytes_after g out = lent_after (refusal_of (written g (length out))) (put 0 (header_text g) out) out

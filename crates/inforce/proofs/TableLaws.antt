@@ -3,7 +3,7 @@ use mathlib.Core.Path.{◌≡◌, refl}
 use mathlib.Core.Bool.{not}
 use Rattle.group.specs.declared.Group.{Group}
 use Rattle.group.specs.declared.Point.{Point}
-use Rattle.group.specs.Refusals.{verdict_refusal, refusal_of, Told}
+use Rattle.group.specs.Refusals.{refusal_of, Told}
 use Rattle.group.proofs.RefusalLaws.{verdicts, results, told_accepted, told_if, told_verdict}
 use Rattle.judge.specs.Judge.{judged}
 use Rattle.judge.proofs.TableLaws.{judged_told}
@@ -14,7 +14,7 @@ use Rattle.inforce.specs.InForce.{in_force_of}
 use Rattle.inforce.specs.Hole.{hole_of}
 use Rattle.std.specs.Prelude.{Option, Ok}
 
-area_told : (g : Group) (a : Area) → Told (area_judged g a ≡ Ok tt) (verdict_refusal (area_judged g a))
+area_told : (g : Group) (a : Area) → Told (area_judged g a ≡ Ok tt) (refusal_of (area_judged g a))
 unfolding area_judged
 area_told g a = told_verdict verdicts (judged g) (judged_told g) (told_if verdicts (not (area_fits a)) 10 0 refl (told_accepted refl))
 

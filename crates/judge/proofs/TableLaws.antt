@@ -5,12 +5,12 @@ use mathlib.Core.Bool.{true}
 use native.Mathlib.Omega.{arith}
 use Rattle.group.specs.declared.Group.{Group}
 use Rattle.group.specs.declared.Refusal.{Refusal}
-use Rattle.group.specs.Refusals.{in_table, verdict_refusal, refuse_first, Told}
+use Rattle.group.specs.Refusals.{in_table, refuse_first, Told, refusal_of}
 use Rattle.group.proofs.RefusalLaws.{no_acceptance, chain_if, told_accepted, verdicts, told_if}
 use Rattle.judge.specs.Judge.{judged_lines, judged_limits, judged_grids, judged_ranks, judged}
 use Rattle.std.specs.Prelude.{Result, Ok, Err, ⊤}
 
-pub judged_told : (g : Group) → Told (judged g ≡ Ok tt) (verdict_refusal (judged g))
+pub judged_told : (g : Group) → Told (judged g ≡ Ok tt) (refusal_of (judged g))
 unfolding judged judged_limits judged_lines judged_grids judged_ranks refuse_first
 judged_told g =
     told_if verdicts _ 2 1 refl
@@ -24,11 +24,11 @@ judged_told g =
 
 pub judged_table : (g : Group) (r : Refusal) → judged g ≡ Err r → in_table r.number ≡ true
 judged_table g r e =
-    ap (λ (v : Result ⊤ Refusal). in_table (verdict_refusal v).number) (sym e) ∙ (judged_told g).refused (λ a. no_acceptance r (sym e ∙ a))
+    ap (λ (v : Result ⊤ Refusal). in_table (refusal_of v).number) (sym e) ∙ (judged_told g).refused (λ a. no_acceptance r (sym e ∙ a))
 
 -- it knows no number above 5
 abbrev Most : Result ⊤ Refusal → Type 0
-Most v = (verdict_refusal v).number ≤ 5
+Most v = (refusal_of v).number ≤ 5
 
 pub judged_most : (g : Group) → Most (judged g)
 unfolding judged judged_limits judged_lines judged_grids judged_ranks refuse_first

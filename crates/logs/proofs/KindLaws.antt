@@ -15,11 +15,11 @@ use Rattle.group.specs.declared.Group.{Group}
 use Rattle.group.specs.declared.Position.{Position}
 use Rattle.group.specs.declared.Refusal.{Refusal}
 use Rattle.group.specs.Record.{grid_at}
-use Rattle.group.specs.Refusals.{no_refusal}
+use Rattle.group.specs.Refusals.{no_refusal, refusal_of}
 use Rattle.group.specs.Shapes.{int_at}
 use Rattle.line.specs.Names.{name_text}
 use Rattle.fix.specs.declared.Fix.{Fix}
-use Rattle.fix.specs.Answers.{lookup_refusal, lookup_grid, result_in, results_of}
+use Rattle.fix.specs.Answers.{lookup_grid, result_in, results_of}
 use Rattle.lookup.specs.Lookup.{looked}
 use Rattle.lookup.proofs.Demand2.{demand_2}
 use Rattle.exercise.specs.Exercise.{point_at}
@@ -33,7 +33,7 @@ use Rattle.std.specs.Prelude.{Result, Ok, Err}
 
 module _ (g : Group) (nodes : List ℤ) (p : Position) where
   -- an accepted one is a fix in grid k, from 0
-  fixed : lookup_refusal (looked g nodes (point_at p) p.day) ≡ no_refusal
+  fixed : refusal_of (looked g nodes (point_at p) p.day) ≡ no_refusal
       → (f : Fix) × (k : ℕ) × (looked g nodes (point_at p) p.day ≡ Ok f) × (f.grid ≡ suc k)
   fixed a =
       let d = demand_2 g nodes (point_at p) p.day in
@@ -44,13 +44,13 @@ module _ (g : Group) (nodes : List ℤ) (p : Position) where
   -- a refused one refuses something
   pub refused_some : (r : Refusal) → looked g nodes (point_at p) p.day ≡ Err r → r ≡ no_refusal → ⊥
   refused_some r h a =
-      let u = fixed (ap lookup_refusal h ∙ a) in let f = u.0 in
+      let u = fixed (ap refusal_of h ∙ a) in let f = u.0 in
       let w = sym u.2 ∙ h in let z : ◌≡◌ {A = ℕ} 0 1 = cc in omega arith
 
 module _ (g : Group) (nodes : List ℤ) (e : Entry) where
   module _ (f : Fix) (h : found_for g nodes e ≡ Ok f) where
     accepts : Accepts g nodes e
-    accepts = ap lookup_refusal h
+    accepts = ap refusal_of h
 
     pub the_grid : (k : ℕ) → lookup_grid (found_for g nodes e) ≡ suc k → grid_name g f.grid ≡ name_text (grid_at g k).name
     the_grid k n =
@@ -84,7 +84,7 @@ module _ (g : Group) (nodes : List ℤ) (line : List ℕ) where
 
   found_is : (e : Entry) → Says np line e → (l : Result Fix Refusal) → found_for g nodes e ≡ l → Is (found_kind g e.name e.shifts l)
   unfolding found_kind
-  found_is e s (Err r) h = (e, s, λ a. refused_some g nodes e.position r h (sym (ap lookup_refusal h) ∙ a))
+  found_is e s (Err r) h = (e, s, λ a. refused_some g nodes e.position r h (sym (ap refusal_of h) ∙ a))
   found_is e s (Ok f) h = by_name (same e.name (grid_name g f.grid)) refl
     where
       by_shifts : NamesChosen g nodes e → (b : Bool) → same_shifts np e.shifts (result_in f) ≡ b → Is (cond b 0 shift_fault)
@@ -124,7 +124,7 @@ module _ (g : Group) (nodes : List ℤ) (line : List ℕ) where
       where
         go : (l : Result Fix Refusal) → found_for g nodes e ≡ l → found_kind g e.name e.shifts l ≡ 2
         go (Err r) h = refl
-        go (Ok f) h = absurd (n (ap lookup_refusal h))
+        go (Ok f) h = absurd (n (ap refusal_of h))
 
   kind_formless : ((e : Entry) → Says np line e → ⊥) → line_kind g nodes line ≡ 1
   unfolding line_kind

@@ -12,7 +12,7 @@ use Rattle.text.proofs.PartLaws.{lacks_free, free_lacks}
 use Rattle.group.specs.declared.Group.{Group}
 use Rattle.group.specs.declared.Position.{Position}
 use Rattle.group.specs.declared.Refusal.{Refusal}
-use Rattle.group.specs.Refusals.{no_refusal, verdict_refusal, refuse_first, unless_refused}
+use Rattle.group.specs.Refusals.{no_refusal, refuse_first, unless_refused, refusal_of}
 use Rattle.group.proofs.RefusalLaws.{verdicts, told_accepted, told_if, told_verdict, no_acceptance, first_past}
 use Rattle.abi.specs.Abi.{joined}
 use Rattle.judge.specs.Judge.{judged}
@@ -25,7 +25,7 @@ use Rattle.lookup.proofs.FoundLaws.{found}
 use Rattle.exercise.specs.Exercise.{point_at}
 use Rattle.logs.specs.declared.Fault.{Fault}
 use Rattle.logs.specs.Line.{entry_text, line_kind}
-use Rattle.logs.specs.Log.{fault, no_fault, log_fault, log_judged, judgement_refusal, judgement_fault}
+use Rattle.logs.specs.Log.{fault, no_fault, log_fault, log_judged, judgement_fault}
 use Rattle.logs.specs.Order4.{LineIs, LineJudged, AllPass, LogPasses, FirstBad, RefusesLog, LogJudged, OneLine, Ended, later, line_count, InParts, OwnLine, LineWritten, OwnLines}
 use Rattle.logs.proofs.KindLaws.{line_exactly, pass_free}
 use Rattle.logs.proofs.FaultLaws.{found_in, Pass, Bad, one_closed, passed_lines, lines_pass, failed_line, line_fails, parts_good, parts_bad}
@@ -41,7 +41,7 @@ line_judged = line_exactly
 abbrev called : Result ⊤ Refusal → Result ⊤ Refusal → Fault → Result Fault Refusal
 called v w f = unless_refused Err v (unless_refused Err w (Ok f))
 
-called_refusal : (v w : Result ⊤ Refusal) (f : Fault) → judgement_refusal (called v w f) ≡ verdict_refusal (unless_refused Err v w)
+called_refusal : (v w : Result ⊤ Refusal) (f : Fault) → refusal_of (called v w f) ≡ refusal_of (unless_refused Err v w)
 called_refusal (Err r) w f = refl
 called_refusal (Ok _) (Err r) f = refl
 called_refusal (Ok _) (Ok _) f = refl
@@ -51,7 +51,7 @@ called_fault (Err r) w f h = absurd (no_acceptance r h)
 called_fault (Ok _) (Err r) f h = absurd (no_acceptance r h)
 called_fault (Ok _) (Ok _) f h = refl
 
-called_zeros : (v w : Result ⊤ Refusal) (f : Fault) → (judgement_refusal (called v w f) ≡ no_refusal → ⊥) → judgement_fault (called v w f) ≡ no_fault
+called_zeros : (v w : Result ⊤ Refusal) (f : Fault) → (refusal_of (called v w f) ≡ no_refusal → ⊥) → judgement_fault (called v w f) ≡ no_fault
 called_zeros (Err r) w f h = refl
 called_zeros (Ok _) (Err r) f h = refl
 called_zeros (Ok _) (Ok _) f h = absurd (h refl)
@@ -60,33 +60,33 @@ module _ (g : Group) (nodes : List ℤ) where
   abbrev verdict : Result ⊤ Refusal
   verdict = unless_refused Err (judged g) (nodes_judged g (length nodes))
 
-  stands : RefusesLog g nodes (verdict_refusal verdict)
+  stands : RefusesLog g nodes (refusal_of verdict)
   unfolding RefusesLog nodes_judged
   stands =
-      judge_stage Err verdict_refusal (λ r. refl) (ShortList g nodes then NothingRefused) g (nodes_judged g (length nodes))
-      (λ a. short_stage Err verdict_refusal (λ r. refl) NothingRefused g nodes (Ok tt) (λ b. refl))
+      judge_stage Err refusal_of (λ r. refl) (ShortList g nodes then NothingRefused) g (nodes_judged g (length nodes))
+      (λ a. short_stage Err refusal_of (λ r. refl) NothingRefused g nodes (Ok tt) (λ b. refl))
 
   in_one_way : Single (RefusesLog g nodes)
   unfolding RefusesLog
   in_one_way = single_then _ _ (single_judged g) (single_then _ _ (single_short g nodes) single_none)
 
-  accepted : verdict_refusal verdict ≡ no_refusal → verdict ≡ Ok tt
+  accepted : refusal_of verdict ≡ no_refusal → verdict ≡ Ok tt
   unfolding nodes_judged refuse_first
   accepted h = (told_verdict verdicts (judged g) (judged_told g) (told_if verdicts _ 13 _ refl (told_accepted refl))).zero (ap (λ (r : Refusal). r.number) h)
 
   module _ (log : List ℕ) where
-    refusal_is : judgement_refusal (log_judged g nodes log) ≡ verdict_refusal verdict
+    refusal_is : refusal_of (log_judged g nodes log) ≡ refusal_of verdict
     unfolding log_judged
     refusal_is = called_refusal (judged g) (nodes_judged g (length nodes)) (log_fault g nodes log)
 
-    fault_is : judgement_refusal (log_judged g nodes log) ≡ no_refusal → judgement_fault (log_judged g nodes log) ≡ log_fault g nodes log
+    fault_is : refusal_of (log_judged g nodes log) ≡ no_refusal → judgement_fault (log_judged g nodes log) ≡ log_fault g nodes log
     unfolding log_judged
     fault_is h = called_fault (judged g) (nodes_judged g (length nodes)) (log_fault g nodes log) (accepted (sym refusal_is ∙ h))
 
-    log_refused : (r : Refusal) → (judgement_refusal (log_judged g nodes log) ≡ r) ↔ RefusesLog g nodes r
+    log_refused : (r : Refusal) → (refusal_of (log_judged g nodes log) ≡ r) ↔ RefusesLog g nodes r
     log_refused r = (λ e. subst (RefusesLog g nodes) (sym refusal_is ∙ e) stands, λ h. refusal_is ∙ in_one_way _ r stands h)
 
-    log_zeros : (judgement_refusal (log_judged g nodes log) ≡ no_refusal → ⊥) → judgement_fault (log_judged g nodes log) ≡ no_fault
+    log_zeros : (refusal_of (log_judged g nodes log) ≡ no_refusal → ⊥) → judgement_fault (log_judged g nodes log) ≡ no_fault
     unfolding log_judged
     log_zeros = called_zeros (judged g) (nodes_judged g (length nodes)) (log_fault g nodes log)
 
@@ -243,5 +243,5 @@ own_lines g nodes =
           (all_own g nodes text n (λ k b. let w = h k b in (w.0, subst (OwnLine g nodes w.0) (sym w.3) (written_own g nodes w.0 w.1 w.2)))).1;
       accepted = λ p out log z.
           let w = written_fix g nodes p out z in
-          refusal_is g nodes log ∙ ap verdict_refusal (found_verdict g nodes p w.0 w.1);
+          refusal_is g nodes log ∙ ap refusal_of (found_verdict g nodes p w.0 w.1);
     }

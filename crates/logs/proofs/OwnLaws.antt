@@ -13,7 +13,7 @@ use Rattle.group.specs.declared.Group.{Group}
 use Rattle.group.specs.declared.Position.{Position}
 use Rattle.group.specs.declared.Refusal.{Refusal}
 use Rattle.group.specs.Record.{grid_at}
-use Rattle.group.specs.Refusals.{refusal, no_refusal}
+use Rattle.group.specs.Refusals.{refusal, no_refusal, refusal_of}
 use Rattle.judge.proofs.Accepted.{accepted}
 use Rattle.line.specs.Names.{is_name}
 use Rattle.line.proofs.NameLaws.{fits_is_name}
@@ -21,13 +21,13 @@ use Rattle.line.proofs.KindLaws.{grid_name_lem}
 use Rattle.abi.specs.Abi.{list_of}
 use Rattle.abi.proofs.ListLaws.{length_list_of, get_or_list_of, list_of_is}
 use Rattle.fix.specs.declared.Fix.{Fix}
-use Rattle.fix.specs.Answers.{lookup_refusal, lookup_grid, result_in, results_of}
+use Rattle.fix.specs.Answers.{lookup_grid, result_in, results_of}
 use Rattle.lookup.specs.Lookup.{looked}
 use Rattle.lookup.specs.Demand2.{TableRow, NothingRefused, ◌then◌}
 use Rattle.lookup.proofs.RowLaws.{Single, single_then, single_row, single_none}
 use Rattle.lookup.proofs.RefusedLaws.{refused_exactly}
 use Rattle.exercise.specs.Exercise.{point_at}
-use Rattle.header.specs.Header.{written_refusal, written_count}
+use Rattle.header.specs.Header.{written_count}
 use Rattle.header.proofs.Demand2.{put_front}
 use Rattle.logs.specs.Line.{entry_text, grid_name}
 use Rattle.logs.specs.Writing.{line_most, entry_found, line_text, found_written, found_after, line_written, line_after}
@@ -57,7 +57,7 @@ module _ (g : Group) (nodes : List ℤ) (p : Position) (f : Fix) (h : looked g n
         at = refl;
         bytes_are = refl;
         says = record { text = refl; name = name_good; values = length_list_of (result_in f) g.parameters };
-        accepted = ap lookup_refusal h;
+        accepted = ap refusal_of h;
         named = (f.grid - 1, ap lookup_grid h ∙ k, refl);
         equal = λ q l. get_or_list_of (result_in f) g.parameters q (pos 0) l ∙ ap (λ (r : Result Fix Refusal). results_of r q) (sym h);
       }
@@ -110,15 +110,15 @@ module _ (g : Group) (nodes : List ℤ) (p : Position) (out : List ℕ) where
 
   -- an accepted lookup refuses nothing
   none_refused : (f : Fix) → looked g nodes (point_at p) p.day ≡ Ok f → (r : Refusal) → LookupRefuses g nodes p r → ⊥
-  none_refused f h r w = w.1 (sym ((refused_exactly g nodes (point_at p) p.day r).1 w.0) ∙ ap lookup_refusal h)
+  none_refused f h r w = w.1 (sym ((refused_exactly g nodes (point_at p) p.day r).1 w.0) ∙ ap refusal_of h)
 
-  stands : Outcome g nodes p out → RefusesLine (written_refusal (line_written g nodes p (length out)))
+  stands : Outcome g nodes p out → RefusesLine (refusal_of (line_written g nodes p (length out)))
   stands (refusing r h w a) =
-      subst RefusesLine (sym (ap written_refusal w)) (inl ((refused_exactly g nodes (point_at p) p.day r).0 (ap lookup_refusal h), refused_some g nodes p r h))
+      subst RefusesLine (sym (ap refusal_of w)) (inl ((refused_exactly g nodes (point_at p) p.day r).0 (ap refusal_of h), refused_some g nodes p r h))
   stands (short f h l w a) =
-      subst RefusesLine (sym (ap written_refusal w)) (inr (none_refused f h, inl (refl, (line_text g p f, own_line g nodes p f h, l))))
+      subst RefusesLine (sym (ap refusal_of w)) (inr (none_refused f h, inl (refl, (line_text g p f, own_line g nodes p f h, l))))
   stands (whole f h l w a) =
-      subst RefusesLine (sym (ap written_refusal w)) (inr (none_refused f h, inr (λ r t. long_enough t.1, refl)))
+      subst RefusesLine (sym (ap refusal_of w)) (inr (none_refused f h, inr (λ r t. long_enough t.1, refl)))
     where
       long_enough : TooShort → ⊥
       long_enough t = let q = ap length (only_line g nodes p f h t.0 t.1) in let b = t.2 in omega arith
@@ -128,25 +128,25 @@ module _ (g : Group) (nodes : List ℤ) (p : Position) (out : List ℕ) where
       single_then _ _ (λ r s v w. sym ((refused_exactly g nodes (point_at p) p.day r).1 v.0) ∙ (refused_exactly g nodes (point_at p) p.day s).1 w.0)
       (single_then _ _ (single_row 12 TooShort) single_none)
 
-  line_refused : (r : Refusal) → (written_refusal (line_written g nodes p (length out)) ≡ r) ↔ RefusesLine r
+  line_refused : (r : Refusal) → (refusal_of (line_written g nodes p (length out)) ≡ r) ↔ RefusesLine r
   line_refused r = (λ e. subst RefusesLine e (stands (outcome g nodes p out)), λ h. in_one_way _ r (stands (outcome g nodes p out)) h)
 
   -- ---- what it leaves
 
   -- an accepted writing
-  wrote : Outcome g nodes p out → written_refusal (line_written g nodes p (length out)) ≡ no_refusal
+  wrote : Outcome g nodes p out → refusal_of (line_written g nodes p (length out)) ≡ no_refusal
       → (f : Fix) × (looked g nodes (point_at p) p.day ≡ Ok f) × (line_written g nodes p (length out) ≡ Ok (length (line_text g p f)))
       × (line_after g nodes p out ≡ put 0 (line_text g p f) out)
-  wrote (refusing r h w a) z = absurd (refused_some g nodes p r h (sym (ap written_refusal w) ∙ z))
-  wrote (short f h l w a) z = absurd (let q = ap (λ (r : Refusal). r.number) (sym (ap written_refusal w) ∙ z) in omega arith)
+  wrote (refusing r h w a) z = absurd (refused_some g nodes p r h (sym (ap refusal_of w) ∙ z))
+  wrote (short f h l w a) z = absurd (let q = ap (λ (r : Refusal). r.number) (sym (ap refusal_of w) ∙ z) in omega arith)
   wrote (whole f h l w a) z = (f, h, w, a)
 
-  kept : Outcome g nodes p out → (written_refusal (line_written g nodes p (length out)) ≡ no_refusal → ⊥) → line_after g nodes p out ≡ out
+  kept : Outcome g nodes p out → (refusal_of (line_written g nodes p (length out)) ≡ no_refusal → ⊥) → line_after g nodes p out ≡ out
   kept (refusing r h w a) n = a
   kept (short f h l w a) n = a
-  kept (whole f h l w a) n = absurd (n (ap written_refusal w))
+  kept (whole f h l w a) n = absurd (n (ap refusal_of w))
 
-  module _ (z : written_refusal (line_written g nodes p (length out)) ≡ no_refusal) where
+  module _ (z : refusal_of (line_written g nodes p (length out)) ≡ no_refusal) where
     abbrev text : List ℕ
     text = line_text g p (wrote (outcome g nodes p out) z).0
 
@@ -180,10 +180,10 @@ module _ (g : Group) (nodes : List ℤ) (p : Position) (out : List ℕ) where
   most (whole f h l w a) = let q = ap written_count w in let m = text_most g p f (fix_found g nodes p f h) in omega arith
 
   enough : Outcome g nodes p out → line_most ≤ length out
-      → written_refusal (line_written g nodes p (length out)) ≡ lookup_refusal (looked g nodes (point_at p) p.day)
-  enough (refusing r h w a) b = ap written_refusal w ∙ sym (ap lookup_refusal h)
+      → refusal_of (line_written g nodes p (length out)) ≡ refusal_of (looked g nodes (point_at p) p.day)
+  enough (refusing r h w a) b = ap refusal_of w ∙ sym (ap refusal_of h)
   enough (short f h l w a) b = let m = text_most g p f (fix_found g nodes p f h) in absurd (omega arith)
-  enough (whole f h l w a) b = ap written_refusal w ∙ sym (ap lookup_refusal h)
+  enough (whole f h l w a) b = ap refusal_of w ∙ sym (ap refusal_of h)
 
   pub own_writing : LineWritten g nodes p out
   own_writing =

@@ -8,44 +8,42 @@ use lib.ListN.{length}
 use Rattle.text.specs.Put.{put}
 use Rattle.group.specs.declared.Group.{Group}
 use Rattle.group.specs.declared.Position.{Position}
-use Rattle.group.specs.Refusals.{refuse_first, Told}
+use Rattle.group.specs.Refusals.{refuse_first, Told, refusal_of}
 use Rattle.group.proofs.RefusalLaws.{Answers, verdicts, told_accepted, told_by, told_if, told_verdict, lent_kept}
 use Rattle.judge.specs.Judge.{judged}
 use Rattle.judge.proofs.TableLaws.{judged_told}
 use Rattle.fix.specs.declared.Fix.{Fix}
-use Rattle.fix.specs.Answers.{lookup_refusal}
 use Rattle.lookup.specs.Lookup.{nodes_judged, looked}
 use Rattle.lookup.proofs.TableLaws.{looked_told}
 use Rattle.exercise.specs.Exercise.{point_at}
-use Rattle.header.specs.Header.{written_refusal}
 use Rattle.header.proofs.TableLaws.{writings}
 use Rattle.logs.specs.declared.Fault.{Fault}
-use Rattle.logs.specs.Log.{log_judged, judgement_refusal}
+use Rattle.logs.specs.Log.{log_judged}
 use Rattle.logs.specs.Writing.{found_text, found_written, line_written, line_after}
 use Rattle.std.specs.Prelude.{Result, Ok, Err}
 use Rattle.group.specs.declared.Refusal.{Refusal}
 
-judgements : Answers (λ (j : Result Fault Refusal). (f : Fault) × (j ≡ Ok f)) judgement_refusal Err
+judgements : Answers (λ (j : Result Fault Refusal). (f : Fault) × (j ≡ Ok f)) refusal_of Err
 judgements = record { back = λ r. refl; never = λ r e. let q = e.1 in let z : ◌≡◌ {A = ℕ} 0 1 = cc in omega arith }
 
-pub log_told : (g : Group) (nodes : List ℤ) (log : List ℕ) → Told ((f : Fault) × (log_judged g nodes log ≡ Ok f)) (judgement_refusal (log_judged g nodes log))
+pub log_told : (g : Group) (nodes : List ℤ) (log : List ℕ) → Told ((f : Fault) × (log_judged g nodes log ≡ Ok f)) (refusal_of (log_judged g nodes log))
 unfolding log_judged nodes_judged refuse_first
 log_told g nodes log =
     told_verdict judgements (judged g) (judged_told g)
     (told_verdict judgements (nodes_judged g (length nodes)) (told_if verdicts _ 13 _ refl (told_accepted refl)) (told_accepted (_, refl)))
 
 pub line_told : (g : Group) (nodes : List ℤ) (p : Position) (room : ℕ)
-    → Told ((n : ℕ) × (line_written g nodes p room ≡ Ok n)) (written_refusal (line_written g nodes p room))
+    → Told ((n : ℕ) × (line_written g nodes p room ≡ Ok n)) (refusal_of (line_written g nodes p room))
 unfolding line_written
 line_told g nodes p room = go (looked g nodes (point_at p) p.day) (looked_told g nodes (point_at p) p.day)
   where
-    go : (l : Result Fix Refusal) → Told ((f : Fix) × (l ≡ Ok f)) (lookup_refusal l) → Told ((n : ℕ) × (found_written g p room l ≡ Ok n)) (written_refusal (found_written g p room l))
+    go : (l : Result Fix Refusal) → Told ((f : Fix) × (l ≡ Ok f)) (refusal_of l) → Told ((n : ℕ) × (found_written g p room l ≡ Ok n)) (refusal_of (found_written g p room l))
     go (Ok f) t = told_if writings _ 12 0 refl (told_accepted (_, refl))
     go (Err r) t = told_by writings r (t.refused (λ e. let q = e.1 in let z : ◌≡◌ {A = ℕ} 0 1 = cc in omega arith))
 
 -- beside a refusal the output is as it was
-pub line_kept : (g : Group) (nodes : List ℤ) (p : Position) (out : List ℕ) → ((written_refusal (line_written g nodes p (length out))).number ≡ 0 → ⊥) → line_after g nodes p out ≡ out
+pub line_kept : (g : Group) (nodes : List ℤ) (p : Position) (out : List ℕ) → ((refusal_of (line_written g nodes p (length out))).number ≡ 0 → ⊥) → line_after g nodes p out ≡ out
 unfolding line_after line_written
 line_kept g nodes p out =
     let l = looked g nodes (point_at p) p.day in
-    lent_kept (written_refusal (found_written g p (length out) l)) (put 0 (found_text g p l) out) out
+    lent_kept (refusal_of (found_written g p (length out) l)) (put 0 (found_text g p l) out) out

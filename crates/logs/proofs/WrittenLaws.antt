@@ -11,18 +11,16 @@ use Rattle.text.specs.Put.{put}
 use Rattle.group.specs.declared.Group.{Group}
 use Rattle.group.specs.declared.Position.{Position}
 use Rattle.group.specs.declared.Refusal.{Refusal}
-use Rattle.group.specs.Refusals.{refusal, no_refusal, lent_after}
+use Rattle.group.specs.Refusals.{refusal, no_refusal, lent_after, refusal_of}
 use Rattle.group.proofs.RefusalLaws.{if_here, if_past, not_zero, lent_new, lent_kept}
 use Rattle.abi.specs.Abi.{group_of_words, numbers_of, MachineGroup}
 use Rattle.judge.specs.Judge.{judged}
 use Rattle.judge.proofs.StoredLaws.{stored_judged, stored_back}
 use Rattle.fix.specs.declared.Fix.{Fix}
-use Rattle.fix.specs.Answers.{lookup_refusal}
 use Rattle.lookup.specs.Lookup.{looked}
 use Rattle.lookup.proofs.StageLaws.{looked_group}
 use Rattle.lookup.proofs.Demand2.{demand_2}
 use Rattle.exercise.specs.Exercise.{point_at}
-use Rattle.header.specs.Header.{written_refusal}
 use Rattle.logs.specs.Writing.{line_text, found_written, found_after, line_written, line_after}
 use Rattle.std.specs.Prelude.{Result, Ok, Err, ⊤}
 
@@ -31,8 +29,8 @@ use Rattle.std.specs.Prelude.{Result, Ok, Err, ⊤}
 module _ (g : Group) (p : Position) (f : Fix) (out : List ℕ) where
   -- what is left, by the answer
   left : (w : Result ℕ Refusal) → w ≡ found_written g p (length out) (Ok f)
-      → lent_after (written_refusal w) (put 0 (line_text g p f) out) out ≡ found_after g p (Ok f) out
-  left w e = ap (λ (x : Result ℕ Refusal). lent_after (written_refusal x) (put 0 (line_text g p f) out) out) e
+      → lent_after (refusal_of w) (put 0 (line_text g p f) out) out ≡ found_after g p (Ok f) out
+  left w e = ap (λ (x : Result ℕ Refusal). lent_after (refusal_of x) (put 0 (line_text g p f) out) out) e
 
   pub fix_short : length out < length (line_text g p f)
       → (Err (refusal 12 0) ≡ found_written g p (length out) (Ok f)) × (out ≡ found_after g p (Ok f) out)
@@ -52,7 +50,7 @@ module _ (g : Group) (nodes : List ℤ) (p : Position) (r : Refusal) (e : looked
   -- its number isn't 0
   refused_number : r.number ≡ 0 → ⊥
   refused_number z =
-      let w = (demand_2 g nodes (point_at p) p.day).zero.0 (ap (λ (l : Result Fix Refusal). (lookup_refusal l).number) e ∙ z) in
+      let w = (demand_2 g nodes (point_at p) p.day).zero.0 (ap (λ (l : Result Fix Refusal). (refusal_of l).number) e ∙ z) in
       no_fix w.0 (sym e ∙ w.1)
     where
       no_fix : (f : Fix) → Err r ≡ Ok f → ⊥

@@ -37,11 +37,6 @@ log_judged g nodes log =
     (unless_refused Err (nodes_judged g (length nodes))
     (Ok (log_fault g nodes log)))
 
--- its refusal, and the fault, which is 0 and 0 beside one
-abbrev pub judgement_refusal : Result Fault Refusal → Refusal
-judgement_refusal (Ok f) = no_refusal
-judgement_refusal (Err r) = r
-
 abbrev pub judgement_fault : Result Fault Refusal → Fault
 judgement_fault (Ok f) = f
 judgement_fault (Err r) = no_fault

@@ -6,19 +6,19 @@ use Rattle.group.specs.declared.Group.{Group}
 use Rattle.group.specs.declared.Position.{Position}
 use Rattle.group.specs.declared.Refusal.{Refusal}
 use Rattle.group.specs.Record.{grid_at}
-use Rattle.group.specs.Refusals.{no_refusal}
+use Rattle.group.specs.Refusals.{no_refusal, refusal_of}
 use Rattle.group.specs.Shapes.{int_at}
 use Rattle.line.specs.Names.{is_name, name_text}
 use Rattle.abi.specs.Abi.{joined}
-use Rattle.fix.specs.Answers.{lookup_refusal, lookup_grid, results_of}
+use Rattle.fix.specs.Answers.{lookup_grid, results_of}
 use Rattle.lookup.specs.Lookup.{looked}
 use Rattle.lookup.specs.Demand2.{Refuses, Judged, TableRow, ShortList, NothingRefused, ◌then◌}
 use Rattle.exercise.specs.Exercise.{point_at}
 use Rattle.header.specs.Items.{closed}
-use Rattle.header.specs.Header.{written_refusal, written_count}
+use Rattle.header.specs.Header.{written_count}
 use Rattle.logs.specs.declared.Fault.{Fault}
 use Rattle.logs.specs.Line.{Entry, entry_text, line_kind}
-use Rattle.logs.specs.Log.{fault, no_fault, log_judged, judgement_refusal, judgement_fault}
+use Rattle.logs.specs.Log.{fault, no_fault, log_judged, judgement_fault}
 use Rattle.logs.specs.Writing.{line_most, line_written, line_after}
 use Rattle.fix.specs.declared.Fix.{Fix}
 
@@ -37,7 +37,7 @@ found_for g nodes e = looked g nodes (point_at e.position) e.position.day
 
 -- 'the lookup is accepted'
 abbrev pub Accepts : Group → List ℤ → Entry → Type 0
-Accepts g nodes e = lookup_refusal (found_for g nodes e) ≡ no_refusal
+Accepts g nodes e = refusal_of (found_for g nodes e) ≡ no_refusal
 
 -- 'the named grid is the chosen one'
 abbrev pub NamesChosen : Group → List ℤ → Entry → Type 0
@@ -98,16 +98,16 @@ RefusesLog g nodes = Judged g then ShortList g nodes then NothingRefused
 
 pub record LogJudged (g : Group) (nodes : List ℤ) (log : List ℕ) : Type 0 where
   -- the call is refused exactly by these rows, in their order, whatever the log is; beside a refusal line and kind are 0
-  pub refused : (r : Refusal) → (judgement_refusal (log_judged g nodes log) ≡ r) ↔ RefusesLog g nodes r
-  pub zeros : (judgement_refusal (log_judged g nodes log) ≡ no_refusal → ⊥) → judgement_fault (log_judged g nodes log) ≡ no_fault
+  pub refused : (r : Refusal) → (refusal_of (log_judged g nodes log) ≡ r) ↔ RefusesLog g nodes r
+  pub zeros : (refusal_of (log_judged g nodes log) ≡ no_refusal → ⊥) → judgement_fault (log_judged g nodes log) ≡ no_fault
   -- else it passes exactly where every line does, and names line and kind exactly of the first bad one
-  pub passed : judgement_refusal (log_judged g nodes log) ≡ no_refusal → (judgement_fault (log_judged g nodes log) ≡ no_fault) ↔ LogPasses g nodes log
-  pub failed : judgement_refusal (log_judged g nodes log) ≡ no_refusal → (n kind : ℕ)
+  pub passed : refusal_of (log_judged g nodes log) ≡ no_refusal → (judgement_fault (log_judged g nodes log) ≡ no_fault) ↔ LogPasses g nodes log
+  pub failed : refusal_of (log_judged g nodes log) ≡ no_refusal → (n kind : ℕ)
       → (judgement_fault (log_judged g nodes log) ≡ fault (suc n) kind) ↔ FirstBad g nodes log (suc n) kind
 
 -- a line closed by its line feed is judged as a log of its own
 abbrev pub OneLine : Group → List ℤ → List ℕ → Type 0
-OneLine g nodes line = NoFeed line → judgement_refusal (log_judged g nodes (line ++ 10 ∷ [])) ≡ no_refusal
+OneLine g nodes line = NoFeed line → refusal_of (log_judged g nodes (line ++ 10 ∷ [])) ≡ no_refusal
     → judgement_fault (log_judged g nodes (line ++ 10 ∷ [])) ≡ cond (eqb (line_kind g nodes line) 0) no_fault (fault 1 (line_kind g nodes line))
 
 -- ---- a log in parts
@@ -126,7 +126,7 @@ later n f = cond (eqb f.line 0) f (fault (n + f.line) f.kind)
 
 -- one log behind another
 pub record InParts (g : Group) (nodes : List ℤ) (a b : List ℕ) : Type 0 where
-  pub verdict : judgement_refusal (log_judged g nodes (a ++ b)) ≡ judgement_refusal (log_judged g nodes b)
+  pub verdict : refusal_of (log_judged g nodes (a ++ b)) ≡ refusal_of (log_judged g nodes b)
   pub passed : Ended a → judgement_fault (log_judged g nodes a) ≡ no_fault
       → judgement_fault (log_judged g nodes (a ++ b)) ≡ later (line_count a) (judgement_fault (log_judged g nodes b))
   pub failed : Ended a → (judgement_fault (log_judged g nodes a) ≡ no_fault → ⊥)
@@ -154,27 +154,27 @@ pub record OwnLine (g : Group) (nodes : List ℤ) (p : Position) (bytes : List �
 
 pub record LineWritten (g : Group) (nodes : List ℤ) (p : Position) (out : List ℕ) : Type 0 where
   -- 'refusing as the lookup does, then 12': where the output is shorter than the line of the position
-  pub refused : (r : Refusal) → (written_refusal (line_written g nodes p (length out)) ≡ r)
+  pub refused : (r : Refusal) → (refusal_of (line_written g nodes p (length out)) ≡ r)
       ↔ (LookupRefuses g nodes p then TableRow 12 ((line : List ℕ) × OwnLine g nodes p line × (length out < length line)) then NothingRefused) r
   -- the bytes are its line, all behind them stays, and after a refusal all of it
-  pub line : written_refusal (line_written g nodes p (length out)) ≡ no_refusal → OwnLine g nodes p (written_bytes g nodes p out)
+  pub line : refusal_of (line_written g nodes p (length out)) ≡ no_refusal → OwnLine g nodes p (written_bytes g nodes p out)
   -- no other line of the position passes
-  pub only : written_refusal (line_written g nodes p (length out)) ≡ no_refusal → (bytes : List ℕ) → OwnLine g nodes p bytes → bytes ≡ written_bytes g nodes p out
-  pub count : written_refusal (line_written g nodes p (length out)) ≡ no_refusal
+  pub only : refusal_of (line_written g nodes p (length out)) ≡ no_refusal → (bytes : List ℕ) → OwnLine g nodes p bytes → bytes ≡ written_bytes g nodes p out
+  pub count : refusal_of (line_written g nodes p (length out)) ≡ no_refusal
       → length (written_bytes g nodes p out) ≡ written_count (line_written g nodes p (length out))
-  pub behind : written_refusal (line_written g nodes p (length out)) ≡ no_refusal
+  pub behind : refusal_of (line_written g nodes p (length out)) ≡ no_refusal
       → drop (written_count (line_written g nodes p (length out))) (line_after g nodes p out)
       ≡ drop (written_count (line_written g nodes p (length out))) out
-  pub unchanged : (written_refusal (line_written g nodes p (length out)) ≡ no_refusal → ⊥) → line_after g nodes p out ≡ out
+  pub unchanged : (refusal_of (line_written g nodes p (length out)) ≡ no_refusal → ⊥) → line_after g nodes p out ≡ out
   -- no line is longer than line_most, so that such an output is never too short
   pub most : written_count (line_written g nodes p (length out)) ≤ line_most
-  pub enough : line_most ≤ length out → written_refusal (line_written g nodes p (length out)) ≡ lookup_refusal (looked g nodes (point_at p) p.day)
+  pub enough : line_most ≤ length out → refusal_of (line_written g nodes p (length out)) ≡ refusal_of (looked g nodes (point_at p) p.day)
 
 -- 'under the same group and nodes its lines pass', in any number and order: n of them, one behind the other
 pub record OwnLines (g : Group) (nodes : List ℤ) : Type 0 where
   pub pass : (text : ℕ → List ℕ) (n : ℕ)
-      → ((k : ℕ) → k < n → (p : Position) × (out : List ℕ) × (written_refusal (line_written g nodes p (length out)) ≡ no_refusal)
+      → ((k : ℕ) → k < n → (p : Position) × (out : List ℕ) × (refusal_of (line_written g nodes p (length out)) ≡ no_refusal)
       × (text k ≡ written_bytes g nodes p out))
       → judgement_fault (log_judged g nodes (joined text n)) ≡ no_fault
-  pub accepted : (p : Position) (out log : List ℕ) → written_refusal (line_written g nodes p (length out)) ≡ no_refusal
-      → judgement_refusal (log_judged g nodes log) ≡ no_refusal
+  pub accepted : (p : Position) (out log : List ℕ) → refusal_of (line_written g nodes p (length out)) ≡ no_refusal
+      → refusal_of (log_judged g nodes log) ≡ no_refusal

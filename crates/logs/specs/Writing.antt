@@ -3,13 +3,12 @@ use Rattle.std.specs.Prelude.{ℕ, List, [], ◌∷◌, ◌++◌, ltb, ℤ, leng
 use Rattle.text.specs.Put.{put}
 use Rattle.group.specs.declared.Group.{Group}
 use Rattle.group.specs.declared.Position.{Position}
-use Rattle.group.specs.Refusals.{refuse_if, lent_after}
+use Rattle.group.specs.Refusals.{refuse_if, lent_after, refusal_of}
 use Rattle.abi.specs.Abi.{list_of}
 use Rattle.fix.specs.declared.Fix.{Fix}
 use Rattle.fix.specs.Answers.{result_in}
 use Rattle.lookup.specs.Lookup.{looked}
 use Rattle.exercise.specs.Exercise.{point_at}
-use Rattle.header.specs.Header.{written_refusal}
 use Rattle.logs.specs.Line.{Entry, entry_text, grid_name}
 use Rattle.group.specs.declared.Refusal.{Refusal}
 
@@ -37,7 +36,7 @@ found_written g p room (Ok f) = refuse_if Err (ltb room (length (line_text g p f
 
 -- what the lent bytes are then: the line from the first on, and all behind it as it was; after a refusal all is as it was
 abbrev pub found_after : Group → Position → Result Fix Refusal → List ℕ → List ℕ
-found_after g p found out = lent_after (written_refusal (found_written g p (length out) found)) (put 0 (found_text g p found) out) out
+found_after g p found out = lent_after (refusal_of (found_written g p (length out) found)) (put 0 (found_text g p found) out) out
 
 -- of the lookup of the position on its day
 unfoldable pub line_written : Group → List ℤ → Position → (room : ℕ) → Result ℕ Refusal

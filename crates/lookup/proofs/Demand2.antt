@@ -5,9 +5,8 @@ use lib.IntN.{ℤ}
 use Rattle.group.specs.declared.Group.{Group}
 use Rattle.group.specs.declared.Point.{Point}
 use Rattle.group.specs.declared.Refusal.{Refusal}
-use Rattle.group.specs.Refusals.{no_refusal}
+use Rattle.group.specs.Refusals.{no_refusal, refusal_of}
 use Rattle.fix.specs.declared.Fix.{Fix}
-use Rattle.fix.specs.Answers.{lookup_refusal}
 use Rattle.lookup.specs.Lookup.{looked}
 use Rattle.lookup.specs.Demand2.{LookedUp, Demand2}
 use Rattle.lookup.proofs.TableLaws.{zero_fix}
@@ -35,7 +34,7 @@ demand_2 g nodes p t =
       refused = refused_exactly g nodes p t;
       fixed = (
         λ h. (zero_fix g nodes p t).0 (ap (λ (r : Refusal). r.number) ((refused_exactly g nodes p t no_refusal).1 h)),
-        λ f. (refused_exactly g nodes p t no_refusal).0 (ap lookup_refusal f.1),
+        λ f. (refused_exactly g nodes p t no_refusal).0 (ap refusal_of f.1),
       );
       zero = zero_fix g nodes p t;
       accepted = λ z.

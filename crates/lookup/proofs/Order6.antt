@@ -12,13 +12,13 @@ use Rattle.group.specs.declared.Group.{Group}
 use Rattle.group.specs.declared.Point.{Point}
 use Rattle.group.specs.declared.Refusal.{Refusal}
 use Rattle.group.specs.Numbers.{value_most, result_most, mark, is_mark}
-use Rattle.group.specs.Refusals.{refusal, verdict_refusal}
+use Rattle.group.specs.Refusals.{refusal, refusal_of}
 use Rattle.judge.specs.Judge.{judged}
 use Rattle.judge.proofs.TableLaws.{judged_most}
 use Rattle.cell.specs.Cell.{is_beyond}
 use Rattle.cell.specs.Order6.{in_word}
 use Rattle.cell.proofs.ValueLaws.{is_mark_lem, is_beyond_lem, used_some_lem, some_used}
-use Rattle.fix.specs.Answers.{lookup_refusal, results_of}
+use Rattle.fix.specs.Answers.{results_of}
 use Rattle.fix.specs.Fix.{cell_of, corners_of}
 use Rattle.fix.proofs.FixLaws.{corner_words}
 use Rattle.lookup.specs.Lookup.{looked}
@@ -71,7 +71,7 @@ module _ (g : Group) (nodes : List ℤ) (p : Point) (t : ℤ) (h : WordNodes nod
   again r (inl a) = inl a
   again r (inr b) = inr (b.0, inr (λ s c. b.0 (refusal 8 0) (refl, only_mark c.1), b.1))
 
-  exactly : (r : Refusal) → (lookup_refusal (looked g nodes p t) ≡ r) ↔ RefusesBut11 g nodes p t r
+  exactly : (r : Refusal) → (refusal_of (looked g nodes p t) ≡ r) ↔ RefusesBut11 g nodes p t r
   unfolding Refuses RefusesBut11
   exactly r = (
     λ e. then_map (then_map (then_map (then_map (then_map without)))) r ((refused_exactly g nodes p t r).0 e),
@@ -85,7 +85,7 @@ all_but_eleven = exactly
 other_number : (g : Group) (nodes : List ℤ) (p : Point) (t : ℤ) (r : Refusal) → RefusesBut11 g nodes p t r → r.number ≡ 11 → ⊥
 unfolding RefusesBut11
 other_number g nodes p t r (inl a) e =
-    let m = judged_most g in let k : (verdict_refusal (judged g)).number ≡ r.number = ap (λ (v : Result ⊤ Refusal). (verdict_refusal v).number) a in omega arith
+    let m = judged_most g in let k : (refusal_of (judged g)).number ≡ r.number = ap (λ (v : Result ⊤ Refusal). (refusal_of v).number) a in omega arith
 other_number g nodes p t r (inr (_, inl a)) e = let k = ap (λ (s : Refusal). s.number) a.0 in omega arith
 other_number g nodes p t r (inr (_, inr (_, inl a))) e = let k = ap (λ (s : Refusal). s.number) a.0 in omega arith
 other_number g nodes p t r (inr (_, inr (_, inr (_, inl a)))) e = let k = ap (λ (s : Refusal). s.number) a.1 in omega arith
@@ -95,7 +95,7 @@ other_number g nodes p t r (inr (_, inr (_, inr (_, inr (_, inr (_, inr a)))))) 
 
 pub no_lookup_by_11 : (g : Group) (nodes : List ℤ) (p : Point) (t : ℤ) → NoLookupBy11 g nodes p t
 no_lookup_by_11 g nodes p t h e =
-    let r = lookup_refusal (looked g nodes p t) in other_number g nodes p t r ((all_but_eleven g nodes p t h r).0 refl) e
+    let r = refusal_of (looked g nodes p t) in other_number g nodes p t r ((all_but_eleven g nodes p t h r).0 refl) e
 
 -- ---- the size of a result
 

@@ -19,7 +19,6 @@ use Rattle.group.specs.Numbers.{lon_most, lat_most, lon_admitted, lat_admitted, 
 use Rattle.cell.specs.Cell.{is_beyond}
 use Rattle.cell.proofs.ValueLaws.{is_mark_lem, is_beyond_lem}
 use Rattle.day.specs.Day.{factor_of}
-use Rattle.fix.specs.Answers.{lookup_refusal}
 use Rattle.fix.specs.Fix.{corner_some, result_at, fix_in}
 use Rattle.fix.proofs.FixLaws.{corner_some_lem, some_corner}
 use Rattle.lookup.specs.Lookup.{point_fits, offset_of, fix_at, fix_of, looked_in, looked}
@@ -27,6 +26,7 @@ use Rattle.lookup.specs.Demand2.{seen_from, BestGrid, PointOutside, NoneHolds, U
 use Rattle.lookup.proofs.RowLaws.{Single, single_then, single_judged, single_row, single_short, single_none, row_stage, judge_stage, short_stage}
 use Rattle.lookup.proofs.BestLaws.{chosen_is_best, one_best}
 use Rattle.std.specs.Prelude.{Ok, Err}
+use Rattle.group.specs.Refusals.{refusal_of}
 
 -- ---- what each test says
 
@@ -81,14 +81,14 @@ module _ (g : Group) (nodes : List ℤ) (p : Point) (t : ℤ) where
   abbrev From9 : Refusal → Type 0
   From9 = TableRow 9 (DayOutside t) then From13
 
-  in_grid : (k : ℕ) (factor : ℤ) → BestGrid g p k → From8 (lookup_refusal (fix_in (seen_from g p k) nodes factor (suc k)))
+  in_grid : (k : ℕ) (factor : ℤ) → BestGrid g p k → From8 (refusal_of (fix_in (seen_from g p k) nodes factor (suc k)))
   unfolding fix_in
   in_grid k factor b =
-      row_stage Err lookup_refusal (λ r. refl) _ From11 (corner_some is_mark (seen_from g p k) nodes) 8 _
+      row_stage Err refusal_of (λ r. refl) _ From11 (corner_some is_mark (seen_from g p k) nodes) 8 _
       (corner_used g nodes p is_mark (λ v. v ≡ mark) is_mark_lem k b)
       (corner_unused g nodes p is_mark (λ v. v ≡ mark) is_mark_lem k b)
       (λ e.
-      row_stage Err lookup_refusal (λ r. refl) _ NothingRefused (corner_some is_beyond (seen_from g p k) nodes) 11
+      row_stage Err refusal_of (λ r. refl) _ NothingRefused (corner_some is_beyond (seen_from g p k) nodes) 11
       (Ok
       (record {
         grid = suc k;
@@ -101,21 +101,21 @@ module _ (g : Group) (nodes : List ℤ) (p : Point) (t : ℤ) where
       (λ f. refl))
 
   in_choice : judged g ≡ Ok tt → point_fits p ≡ true → (c : ℕ) → chosen_in g p.lon.0 p.lat.0 ≡ c → (factor : ℤ)
-      → From7 (lookup_refusal (fix_at c (seen_from g p) nodes factor))
+      → From7 (refusal_of (fix_at c (seen_from g p) nodes factor))
   unfolding fix_at
   in_choice a o zero e factor = inl (refl, none_holds g p.lon.0 p.lat.0 e)
   in_choice a o (suc k) e factor = let b = chosen_is_best g p a o k e in inr (λ r h. h.1 k b.among b.held, in_grid k factor b)
 
-  stands : Refuses g nodes p t (lookup_refusal (looked g nodes p t))
+  stands : Refuses g nodes p t (refusal_of (looked g nodes p t))
   unfolding Refuses looked looked_in
   stands =
-      judge_stage Err lookup_refusal (λ r. refl) (TableRow 6 (PointOutside p) then From9) g (looked_in g nodes p t)
+      judge_stage Err refusal_of (λ r. refl) (TableRow 6 (PointOutside p) then From9) g (looked_in g nodes p t)
       (λ a.
-      row_stage Err lookup_refusal (λ r. refl) _ From9 (not (point_fits p)) 6 _ (λ e. point_outside p (not-true _ e)) (λ e. point_inside p (not-false _ e))
+      row_stage Err refusal_of (λ r. refl) _ From9 (not (point_fits p)) 6 _ (λ e. point_outside p (not-true _ e)) (λ e. point_inside p (not-false _ e))
       (λ b.
-      row_stage Err lookup_refusal (λ r. refl) _ From13 (not (day_fits t)) 9 _ (λ e. outside day_most t (not-true _ e)) (λ e. inside day_most t (not-false _ e))
+      row_stage Err refusal_of (λ r. refl) _ From13 (not (day_fits t)) 9 _ (λ e. outside day_most t (not-true _ e)) (λ e. inside day_most t (not-false _ e))
       (λ c.
-      short_stage Err lookup_refusal (λ r. refl) From7 g nodes (fix_of g nodes p t)
+      short_stage Err refusal_of (λ r. refl) From7 g nodes (fix_of g nodes p t)
       (λ d. in_choice a (not-false _ b) (chosen_in g p.lon.0 p.lat.0) refl (factor_of g.function g.functions t)))))
 
   single : Single (Refuses g nodes p t)
@@ -129,5 +129,5 @@ module _ (g : Group) (nodes : List ℤ) (p : Point) (t : ℤ) where
       (single_then _ _ (single_row 8 _)
       (single_then _ _ (single_row 11 _) single_none))))))
 
-  pub refused_exactly : (r : Refusal) → (lookup_refusal (looked g nodes p t) ≡ r) ↔ Refuses g nodes p t r
+  pub refused_exactly : (r : Refusal) → (refusal_of (looked g nodes p t) ≡ r) ↔ Refuses g nodes p t r
   refused_exactly r = (λ e. subst (Refuses g nodes p t) e stands, λ h. single _ r stands h)

@@ -15,7 +15,7 @@ use Rattle.numbers.proofs.Bools.{true_false}
 use Rattle.numbers.proofs.FirstLaws.{first_before, first_hit, none_at}
 use Rattle.group.specs.declared.Group.{Group}
 use Rattle.group.specs.declared.Refusal.{Refusal}
-use Rattle.group.specs.Refusals.{refusal, verdict_refusal, refuse_if, refuse_first, unless_refused}
+use Rattle.group.specs.Refusals.{refusal, refuse_if, refuse_first, unless_refused, refusal_of}
 use Rattle.group.proofs.RefusalLaws.{no_acceptance}
 use Rattle.judge.specs.Judge.{judged}
 use Rattle.lookup.specs.Lookup.{ends_early}
@@ -37,7 +37,7 @@ pub single_row : (n : ℕ) (When : Type 0) → Single (TableRow n When)
 single_row n When r s h k = h.0 ∙ sym k.0
 
 pub single_judged : (g : Group) → Single (Judged g)
-single_judged g r s h k = ap verdict_refusal (sym h ∙ k)
+single_judged g r s h k = ap refusal_of (sym h ∙ k)
 
 pub single_none : Single NothingRefused
 single_none r s h k = h ∙ sym k

@@ -9,7 +9,7 @@ use Rattle.group.specs.declared.Group.{Group}
 use Rattle.group.specs.declared.Point.{Point}
 use Rattle.ingroup.specs.InGroup.{chosen_in}
 use Rattle.day.specs.Day.{factor_of}
-use Rattle.fix.specs.Answers.{lookup_refusal, lookup_grid}
+use Rattle.fix.specs.Answers.{lookup_grid}
 use Rattle.fix.specs.Fix.{fix_in}
 use Rattle.fix.proofs.FixLaws.{fix_same}
 use Rattle.lookup.specs.Lookup.{offset_of, looked, LookupReady}
@@ -18,8 +18,9 @@ use Rattle.lookup.proofs.StageLaws.{looked_accepted, looked_on}
 use Rattle.lookup.proofs.FixAtLaws.{fix_at_suc}
 use Rattle.lookup.proofs.FoundLaws.{found}
 use Rattle.lookup.proofs.TableLaws.{zero_fix}
+use Rattle.group.specs.Refusals.{refusal_of}
 
-module _ (g : Group) (nodes : List ℤ) (p : Point) (t : ℤ) (k : ℕ) (a : (lookup_refusal (looked g nodes p t)).number ≡ 0)
+module _ (g : Group) (nodes : List ℤ) (p : Point) (t : ℤ) (k : ℕ) (a : (refusal_of (looked g nodes p t)).number ≡ 0)
     (c : lookup_grid (looked g nodes p t) ≡ suc k) where
   -- an accepted lookup has passed every stage and chosen the grid that it names
   pub named_chosen : LookupReady g (length nodes) p t × (chosen_in g p.lon.0 p.lat.0 ≡ suc k)

@@ -14,7 +14,7 @@ use Rattle.group.specs.declared.Point.{Point}
 use Rattle.group.specs.declared.Refusal.{Refusal}
 use Rattle.judge.specs.Judge.{judged}
 use Rattle.group.specs.Numbers.{day_fits}
-use Rattle.group.specs.Refusals.{verdict_refusal, refuse_first}
+use Rattle.group.specs.Refusals.{refuse_first, refusal_of}
 use Rattle.group.proofs.RefusalLaws.{if_here, if_past, first_here, first_past, passed_first, no_acceptance}
 use Rattle.lookup.specs.Lookup.{point_fits, ends_early, nodes_judged, fix_of, looked_in, looked, LookupReady}
 use Rattle.std.specs.Prelude.{Result, Ok, Err, ⊤}
@@ -37,7 +37,7 @@ module _ (g : Group) (count : ℕ) where
       go : (b : Bool) → some (ends_early g count) g.grids ≡ b → refuse_first refused (ends_early g count) g.grids 13 1 next ≡ refused r
       go true h =
           first_here refused (ends_early g count) g.grids 13 1 next h
-          ∙ ap (λ (v : Result ⊤ Refusal). refused (verdict_refusal v)) (sym (first_here Err (ends_early g count) g.grids 13 1 (Ok tt) h) ∙ e)
+          ∙ ap (λ (v : Result ⊤ Refusal). refused (refusal_of v)) (sym (first_here Err (ends_early g count) g.grids 13 1 (Ok tt) h) ∙ e)
       go false h = absurd (no_acceptance r (sym e ∙ first_past Err (ends_early g count) g.grids 13 1 (Ok tt) h))
 
 module _ (g : Group) (nodes : List ℤ) (p : Point) (t : ℤ) where

@@ -6,7 +6,7 @@ use Rattle.group.specs.declared.Point.{Point}
 use Rattle.group.specs.declared.Refusal.{Refusal}
 use Rattle.group.specs.Numbers.{lon_most, lat_most, day_most, value_most, result_most, mark}
 use Rattle.group.specs.Record.{grid_at}
-use Rattle.group.specs.Refusals.{refusal, no_refusal}
+use Rattle.group.specs.Refusals.{refusal, no_refusal, refusal_of}
 use Rattle.extent.specs.Extent.{lon_span, holds, lon_used, node_end}
 use Rattle.judge.specs.Judge.{judged}
 use Rattle.cell.specs.Cell.{weighted_sum}
@@ -14,7 +14,7 @@ use Rattle.cell.specs.Used.{EachUsed, SomeUsed}
 use Rattle.day.specs.Day.{factor_of, result_of}
 use Rattle.fix.specs.declared.Offset.{Offset}
 use Rattle.fix.specs.declared.Fix.{Fix}
-use Rattle.fix.specs.Answers.{lookup_refusal, lookup_grid, results_of}
+use Rattle.fix.specs.Answers.{lookup_grid, results_of}
 use Rattle.fix.specs.Fix.{cell_of, node_at, corners_of, value_in, SameNodes}
 use Rattle.lookup.specs.Lookup.{offset_of, looked}
 
@@ -126,8 +126,8 @@ pub record LookedUp (g : Group) (nodes : List ℤ) (p : Point) (t : ℤ) (r : Re
 -- stays, and its grid, NP, the day's factor and what the used corners hold are the same
 pub record SameChoice (g other : Group) (nodes others : List ℤ) (p : Point) (t : ℤ) : Type 0 where
   pub k : ℕ
-  pub accepted : (lookup_refusal (looked g nodes p t)).number ≡ 0
-  pub accepted_too : (lookup_refusal (looked other others p t)).number ≡ 0
+  pub accepted : (refusal_of (looked g nodes p t)).number ≡ 0
+  pub accepted_too : (refusal_of (looked other others p t)).number ≡ 0
   pub choice : lookup_grid (looked g nodes p t) ≡ suc k
   pub stays : lookup_grid (looked other others p t) ≡ suc k
   pub grid : grid_at g k ≡ grid_at other k
@@ -139,11 +139,11 @@ pub record SameChoice (g other : Group) (nodes others : List ℤ) (p : Point) (t
 
 pub record Demand2 (g : Group) (nodes : List ℤ) (p : Point) (t : ℤ) : Type 0 where
   -- each refusal exactly when its row applies and none before it does
-  pub refused : (r : Refusal) → (lookup_refusal (looked g nodes p t) ≡ r) ↔ Refuses g nodes p t r
+  pub refused : (r : Refusal) → (refusal_of (looked g nodes p t) ≡ r) ↔ Refuses g nodes p t r
   -- where no row applies, and only there, there is a fix
   pub fixed : Refuses g nodes p t no_refusal ↔ ((f : Fix) × (looked g nodes p t ≡ Ok f))
   -- the number is 0 exactly for a fix, which then keeps these promises
-  pub zero : ((lookup_refusal (looked g nodes p t)).number ≡ 0) ↔ ((f : Fix) × (looked g nodes p t ≡ Ok f))
-  pub accepted : (lookup_refusal (looked g nodes p t)).number ≡ 0 → LookedUp g nodes p t (looked g nodes p t)
+  pub zero : ((refusal_of (looked g nodes p t)).number ≡ 0) ↔ ((f : Fix) × (looked g nodes p t ≡ Ok f))
+  pub accepted : (refusal_of (looked g nodes p t)).number ≡ 0 → LookedUp g nodes p t (looked g nodes p t)
   -- what is neither in a used corner of the chosen grid nor in its record changes nothing
   pub same : (other : Group) (others : List ℤ) → SameChoice g other nodes others p t → looked g nodes p t ≡ looked other others p t

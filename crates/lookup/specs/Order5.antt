@@ -10,10 +10,11 @@ use Rattle.extent.specs.Order5.{Lies, FirstUsed}
 use Rattle.judge.specs.Judge.{judged}
 use Rattle.ingroup.specs.Order5.{WrittenTurned}
 use Rattle.day.specs.Day.{factor_of}
-use Rattle.fix.specs.Answers.{lookup_refusal, lookup_grid}
+use Rattle.fix.specs.Answers.{lookup_grid}
 use Rattle.fix.specs.Fix.{fix_in}
 use Rattle.lookup.specs.Lookup.{point_fits, looked}
 use Rattle.lookup.specs.Demand2.{seen_from}
+use Rattle.group.specs.Refusals.{refusal_of}
 
 -- 'longitudes of points .. are now limited to ±648,000,000': the points that 6 lets pass, and only those
 abbrev pub PointLimits : Point → Type 0
@@ -36,7 +37,7 @@ pub record UsedInCell (g : Group) (nodes : List ℤ) (p : Point) (t : ℤ) (k : 
 
 -- for every accepted lookup
 abbrev pub UsesFirst : Group → List ℤ → Point → ℤ → Type 0
-UsesFirst g nodes p t = (lookup_refusal (looked g nodes p t)).number ≡ 0 → (k : ℕ) → lookup_grid (looked g nodes p t) ≡ suc k → UsedInCell g nodes p t k
+UsesFirst g nodes p t = (refusal_of (looked g nodes p t)).number ≡ 0 → (k : ℕ) → lookup_grid (looked g nodes p t) ≡ suc k → UsedInCell g nodes p t k
 
 -- turning is invisible in values: with a grid narrower than a turn written a whole turn farther east or west, where the limits allow it, every
 -- lookup in an accepted group answers the same, refusals included

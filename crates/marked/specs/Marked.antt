@@ -8,11 +8,11 @@ use Rattle.group.specs.declared.Grid.{Grid}
 use Rattle.group.specs.declared.Group.{Group}
 use Rattle.group.specs.declared.Point.{Point}
 use Rattle.group.specs.declared.Refusal.{Refusal}
-use Rattle.group.specs.Refusals.{refusal, no_refusal, verdict_refusal}
+use Rattle.group.specs.Refusals.{refusal, no_refusal, refusal_of}
 use Rattle.group.specs.Blank.{blank_function, blank_grid}
 use Rattle.group.specs.Numbers.{mark}
 use Rattle.day.specs.Day.{factor_of}
-use Rattle.fix.specs.Answers.{lookup_refusal, lookup_grid, results_of}
+use Rattle.fix.specs.Answers.{lookup_grid, results_of}
 use Rattle.lookup.specs.Lookup.{looked}
 use Rattle.inforce.specs.declared.Area.{Area}
 use Rattle.inforce.specs.declared.GridInForce.{GridInForce}
@@ -76,7 +76,7 @@ pub record CaseAnswer : Type 0 where
   pub results : List ℤ
 
 abbrev pub case_answer_of : Result Fix Refusal → CaseAnswer
-case_answer_of l = record { refused = lookup_refusal l; grid = lookup_grid l; results = results_of l 0 ∷ results_of l 1 ∷ results_of l 2 ∷ [] }
+case_answer_of l = record { refused = refusal_of l; grid = lookup_grid l; results = results_of l 0 ∷ results_of l 1 ∷ results_of l 2 ∷ [] }
 
 -- a result in grid 1; a refusal with no place
 abbrev pub result : ℤ → CaseAnswer
@@ -92,7 +92,7 @@ pub record CaseList : Type 0 where
   pub entries : List GridInForce
 
 abbrev pub case_list_of : InForce → CaseList
-case_list_of r = record { refused = verdict_refusal r.verdict; count = r.count; entries = r.entries }
+case_list_of r = record { refused = refusal_of r.verdict; count = r.count; entries = r.entries }
 
 abbrev pub entry : (grid lon lat : ℕ) → GridInForce
 entry k x y = record { grid = k; lon = record { 0 = pos x }; lat = record { 0 = pos y } }

@@ -14,7 +14,7 @@ use Rattle.numbers.proofs.FirstLaws.{none_at}
 use Rattle.numbers.proofs.Lists.{map_at}
 use Rattle.group.specs.Numbers.{quantum_most, value_most}
 use Rattle.group.proofs.RefusalLaws.{passed_if, passed_first, lent_new, lent_kept}
-use Rattle.nodes.specs.Load.{marks, steps, refused_float, node_of, loaded, loaded_refusal, nodes_after}
+use Rattle.nodes.specs.Load.{marks, steps, refused_float, node_of, loaded, nodes_after}
 use Rattle.nodes.specs.Size.{size_of}
 use Rattle.nodes.specs.Demand2.{IsNode, NodesLoaded}
 use Rattle.nodes.proofs.Fields.{sign}
@@ -22,6 +22,7 @@ use Rattle.nodes.proofs.Signed.{size_signed}
 use Rattle.nodes.proofs.Steps.{size_limit, node_size}
 use Rattle.nodes.proofs.LoadLaws.{steps_nearest, marked_node, only_marked}
 use Rattle.nodes.proofs.TableLaws.{loaded_told, not_done}
+use Rattle.group.specs.Refusals.{refusal_of}
 
 stepped : (q : ℕ) (flag x : Float) → marks flag x ≡ false → node_of q flag x ≡ steps q x
 unfolding node_of
@@ -49,13 +50,13 @@ module _ (q : ℕ) (flag : Float) (floats : List Float) (nodes : List ℤ) where
       let c = passed_first Err (Ok tt) not_done (λ i. refused_float q flag (get_or floats i nan)) (length floats) 11 1 (Ok tt) b.1 in
       (eqb-true (length floats) (length nodes) (not-false _ b.0), c.0)
 
-  module _ (z : (loaded_refusal (loaded q flag floats (length nodes))).number ≡ 0) where
+  module _ (z : (refusal_of (loaded q flag floats (length nodes))).number ≡ 0) where
     done : loaded q flag floats (length nodes) ≡ Ok tt
     done = (loaded_told q flag floats (length nodes)).zero z
 
     mapped : nodes_after q flag floats nodes ≡ map (node_of q flag) floats
     unfolding nodes_after
-    mapped = lent_new (loaded_refusal (loaded q flag floats (length nodes))) (map (node_of q flag) floats) nodes z
+    mapped = lent_new (refusal_of (loaded q flag floats (length nodes))) (map (node_of q flag) floats) nodes z
 
     each : (i : ℕ) → i < length floats → IsNode q flag (get_or floats i nan) (get_or (nodes_after q flag floats nodes) i (pos 0))
     each i l =
@@ -72,5 +73,5 @@ nodes_loaded q flag floats nodes =
       lent = λ z. (passed q flag floats nodes (done q flag floats nodes z)).0;
       count = λ z. ap length (mapped q flag floats nodes z) ∙ length-map floats (node_of q flag);
       each = each q flag floats nodes;
-      kept = lent_kept (loaded_refusal (loaded q flag floats (length nodes))) (map (node_of q flag) floats) nodes;
+      kept = lent_kept (refusal_of (loaded q flag floats (length nodes))) (map (node_of q flag) floats) nodes;
     }

@@ -5,7 +5,8 @@ use Rattle.std.specs.Float.Ieee.Exact.{HasValue}
 use Rattle.numbers.specs.Round.{nearest}
 use Rattle.group.specs.Numbers.{mark, value_most}
 use Rattle.group.specs.declared.Refusal.{Refusal}
-use Rattle.nodes.specs.Load.{signed, marks, loaded_refusal}
+use Rattle.nodes.specs.Load.{signed, marks}
+use Rattle.group.specs.Refusals.{refusal_of}
 
 -- v is the node of the float x
 pub record IsNode (q : ℕ) (flag x : Float) (v : ℤ) : Type 0 where
@@ -21,8 +22,8 @@ pub record IsNode (q : ℕ) (flag x : Float) (v : ℤ) : Type 0 where
 -- l answers the loading of floats into `nodes`, which are `after` then
 pub record NodesLoaded (q : ℕ) (flag : Float) (floats : List Float) (nodes : List ℤ) (l : Result ⊤ Refusal) (after : List ℤ) : Type 0 where
   -- accepted: as many nodes as floats, and each is its float's
-  pub lent : (loaded_refusal l).number ≡ 0 → length floats ≡ length nodes
-  pub count : (loaded_refusal l).number ≡ 0 → length after ≡ length floats
-  pub each : (loaded_refusal l).number ≡ 0 → (i : ℕ) → i < length floats → IsNode q flag (get_or floats i nan) (get_or after i (pos 0))
+  pub lent : (refusal_of l).number ≡ 0 → length floats ≡ length nodes
+  pub count : (refusal_of l).number ≡ 0 → length after ≡ length floats
+  pub each : (refusal_of l).number ≡ 0 → (i : ℕ) → i < length floats → IsNode q flag (get_or floats i nan) (get_or after i (pos 0))
   -- after a refusal the nodes are as they were
-  pub kept : ((loaded_refusal l).number ≡ 0 → ⊥) → after ≡ nodes
+  pub kept : ((refusal_of l).number ≡ 0 → ⊥) → after ≡ nodes

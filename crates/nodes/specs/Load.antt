@@ -6,7 +6,7 @@ use Rattle.numbers.specs.Round.{round_z}
 use Rattle.numbers.specs.First.{first}
 use Rattle.group.specs.declared.Refusal.{Refusal}
 use Rattle.group.specs.Numbers.{quantum_most, mark, value_fits}
-use Rattle.group.specs.Refusals.{no_refusal, refuse_if, refuse_first, lent_after}
+use Rattle.group.specs.Refusals.{no_refusal, refuse_if, refuse_first, lent_after, refusal_of}
 
 -- n, below zero where s is true
 abbrev pub signed : Bool → ℕ → ℤ
@@ -48,11 +48,6 @@ loaded q flag floats n =
     (refuse_first Err (λ i. refused_float q flag (get_or floats i nan)) (length floats) 11 1
     (Ok tt)))
 
--- what loading refuses
-abbrev pub loaded_refusal : Result ⊤ Refusal → Refusal
-loaded_refusal (Ok tt) = no_refusal
-loaded_refusal (Err r) = r
-
 -- the lent nodes afterwards: the node of each float; after a refusal as they were
 unfoldable pub nodes_after : ℕ → Float → List Float → List ℤ → List ℤ
-nodes_after q flag floats nodes = lent_after (loaded_refusal (loaded q flag floats (length nodes))) (map (node_of q flag) floats) nodes
+nodes_after q flag floats nodes = lent_after (refusal_of (loaded q flag floats (length nodes))) (map (node_of q flag) floats) nodes

@@ -8,12 +8,13 @@ use Rattle.group.proofs.RefusalLaws.{if_past}
 use Rattle.fix.specs.declared.Fix.{Fix}
 use Rattle.fix.specs.Answers.{result_in}
 use Rattle.screen.specs.declared.Shifts.{Shifts}
-use Rattle.screen.specs.Screen.{plus_zero, shown_shift, degrees_of, admitted, shown, answer_of, screen_refusal, record_of}
+use Rattle.screen.specs.Screen.{plus_zero, shown_shift, degrees_of, admitted, shown, answer_of, record_of}
 use Rattle.screen.specs.Shown.{below_zero, Times, nearest_to, shift_at, ShowsResults, ShowsPoint}
 use Rattle.screen.proofs.Exact.{div_at, cast_exact, like, shift_exact}
 use Rattle.screen.proofs.TableLaws.{answer_told}
 use Rattle.std.specs.Prelude.{Result, Ok}
 use Rattle.group.specs.declared.Refusal.{Refusal}
+use Rattle.group.specs.Refusals.{refusal_of}
 
 -- ---- results
 
@@ -64,7 +65,7 @@ degrees_rounded mas h =
     ∙ ap (λ (a : ℕ). round binary64 (below_zero mas) a 3600000) (mul-one (nat_abs mas))
 
 -- the record of an answer that is no refusal
-pub record_shown : (point : Point) (found : Result Fix Refusal) (q np : ℕ) → (screen_refusal (answer_of found q np)).number ≡ 0
+pub record_shown : (point : Point) (found : Result Fix Refusal) (q np : ℕ) → (refusal_of (answer_of found q np)).number ≡ 0
     → ShowsPoint point (answer_of found q np) (record_of point (answer_of found q np))
 unfolding record_of
 record_shown point found q np z =

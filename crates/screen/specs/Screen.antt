@@ -47,11 +47,6 @@ answer_of found q np =
     refuse_if Err (not (admitted q np)) 2 0
     (shown found q np)
 
--- what the screen refuses, and the shifts that it hands back beside it
-abbrev pub screen_refusal : Result Shifts Refusal → Refusal
-screen_refusal (Ok s) = no_refusal
-screen_refusal (Err r) = r
-
 abbrev pub shifts_of : Result Shifts Refusal → List Float
 shifts_of (Ok s) = s.first ∷ s.second ∷ s.third ∷ []
 shifts_of (Err r) = plus_zero ∷ plus_zero ∷ plus_zero ∷ []

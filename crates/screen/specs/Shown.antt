@@ -6,10 +6,10 @@ use Rattle.std.specs.Float.Ieee.Exact.{HasValue}
 use Rattle.group.specs.declared.Point.{Point}
 use Rattle.group.specs.declared.Refusal.{Refusal}
 use Rattle.group.specs.Numbers.{mas_in_degree}
-use Rattle.group.specs.Refusals.{no_refusal}
+use Rattle.group.specs.Refusals.{no_refusal, refusal_of}
 use Rattle.screen.specs.declared.Shifts.{Shifts}
 use Rattle.screen.specs.declared.ScreenRecord.{ScreenRecord}
-use Rattle.screen.specs.Screen.{plus_zero, screen_refusal, shifts_of}
+use Rattle.screen.specs.Screen.{plus_zero, shifts_of}
 
 -- whether a number is below zero
 abbrev pub below_zero : ℤ → Bool
@@ -30,7 +30,7 @@ shift_at s p = slice_index_or (shifts_of s) p plus_zero
 
 -- s shows np whole results, in steps of 2 to the power -q
 pub record ShowsResults (results : ℕ → ℤ) (q np : ℕ) (s : Result Shifts Refusal) : Type 0 where
-  pub accepted : screen_refusal s ≡ no_refusal
+  pub accepted : refusal_of s ≡ no_refusal
   -- each of the first NP shifts, as an exact number, times 2 to the power Q is the whole result
   pub exact : (p : ℕ) → p < np → Times (shift_at s p) (2 ^ q) (results p)
   -- a missing parameter shows +0

@@ -12,17 +12,17 @@ use lib.ListN.{length, get_or}
 use borrow.Author.Tests.{lt-ltb, le-ltb, eq-eqb, ne_eqb}
 use Rattle.numbers.proofs.FirstLaws.{first_le}
 use Rattle.group.specs.declared.Refusal.{Refusal}
-use Rattle.group.specs.Refusals.{refusal, refuse_first, lent_after}
+use Rattle.group.specs.Refusals.{refusal, refuse_first, lent_after, refusal_of}
 use Rattle.group.proofs.RefusalLaws.{if_here, if_past, at_here, at_past}
 use Rattle.group.specs.Numbers.{quantum_most}
-use Rattle.nodes.specs.Load.{refused_float, node_of, first_refused, loaded, loaded_refusal, nodes_after}
+use Rattle.nodes.specs.Load.{refused_float, node_of, first_refused, loaded, nodes_after}
 use Rattle.nodes.proofs.load_nodes.Goals as goal
 
 module _ (q : ℕ) (flag : Float) (floats : List Float) (nodes : List ℤ) where
   -- r is the answer, and with it the nodes afterwards
-  answered : (r : Result ⊤ Refusal) → r ≡ loaded q flag floats (length nodes) → (r ≡ loaded q flag floats (length nodes)) × (lent_after (loaded_refusal r) (map (node_of q flag) floats) nodes ≡ nodes_after q flag floats nodes)
+  answered : (r : Result ⊤ Refusal) → r ≡ loaded q flag floats (length nodes) → (r ≡ loaded q flag floats (length nodes)) × (lent_after (refusal_of r) (map (node_of q flag) floats) nodes ≡ nodes_after q flag floats nodes)
   unfolding nodes_after
-  answered r e = (e, ap (λ (l : Result ⊤ Refusal). lent_after (loaded_refusal l) (map (node_of q flag) floats) nodes) e)
+  answered r e = (e, ap (λ (l : Result ⊤ Refusal). lent_after (refusal_of l) (map (node_of q flag) floats) nodes) e)
 
   by_quantum : quantum_most < q → Err (refusal 2 0) ≡ loaded q flag floats (length nodes)
   unfolding loaded
