@@ -1,5 +1,5 @@
 -- Which floats are NaN, as the code tests it, and what the bits say of the others.
-use mathlib.Core.Path.{◌≡◌, refl, sym, ◌∙◌, subst}
+use mathlib.Core.Path.{◌≡◌, refl, sym, subst}
 use mathlib.Core.Bool.{Bool, true, false, not, ◌&&◌, ◌||◌, beq}
 use Prim.Native.Nat.{ℕ, ◌*◌, ◌^◌, ◌<◌}
 use lib.Dec.{T, eqb, eqb_refl}
@@ -20,9 +20,6 @@ unfolding ne eq is_nan
 ne_nan nan = refl
 ne_nan (inf s) = rw same_sign
 ne_nan (fin s m e) = level_self s (m * up e * down e)
-
-pub not_nan : (x : Float) → ne x x ≡ false → T (not (is_nan x))
-not_nan x h = subst (λ (b : Bool). T (not b)) (sym h ∙ ne_nan x) tt
 
 -- x is a number or an infinity, and is what its bits say
 pub record Read (x : Float) : Type 0 where
