@@ -323,10 +323,7 @@ fn lookup_of(number: u64, at: u64, fix: &[i64; 4]) -> Result<Fix, Refusal>
             third: fix[3],
         });
     }
-    Err(Refusal {
-        number,
-        place: at,
-    })
+    Err(Refusal { number, place: at })
 }
 
 // The shifts of a screen answer.

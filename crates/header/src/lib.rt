@@ -299,7 +299,11 @@ fn put_group(group: Group, out: &mut [u8]) -> usize
 }
 
 // Writes a group of this verdict, as `write_header` says.
-fn write_judged(verdict: Result<(), Refusal>, group: Group, out: &mut [u8]) -> Result<usize, Refusal>
+fn write_judged(
+    verdict: Result<(), Refusal>,
+    group: Group,
+    out: &mut [u8],
+) -> Result<usize, Refusal>
     requires { verdict ≡ judged group }
     ensures answer { result ≡ written group (length out.old) }
     ensures bytes { out.new ≡ bytes_after group out.old }

@@ -16,8 +16,8 @@ ghost use Rattle.judge.specs.Keys.{word_at, name_keys, put_four, agree, some_rea
 use abi::GROUP_WORDS;
 use flat::{LON_FIRST, LON_LAST};
 use group::{
-    Function, Grid, Group, LON_TURN, Name, Refusal, function_blank, function_fits,
-    grid_fits, head_numbers_fit, name_fits,
+    Function, Grid, Group, LON_TURN, Name, Refusal, function_blank, function_fits, grid_fits,
+    head_numbers_fit, name_fits,
 };
 
 // The entries of a record, used or not.

@@ -85,7 +85,11 @@ fn handed_on(r: Refusal) -> Refusal
 // the lookup's refusal with its place. A quantum above QUANTUM_MOST, parameters other than 1 to PARAMETERS_MOST, or a
 // refusal's number outside the table are refused by 2 with place 0.
 #[tactic(auto, unfolding(crate::specs::Screen::answer_of, crate::specs::Screen::shown, group::specs::Refusals::refuse_if))]
-pub fn screen_answer(found: Result<fix::Fix, group::Refusal>, quantum: u64, parameters: u64) -> Result<Shifts, Refusal>
+pub fn screen_answer(
+    found: Result<fix::Fix, group::Refusal>,
+    quantum: u64,
+    parameters: u64,
+) -> Result<Shifts, Refusal>
     ensures { result ≡ answer_of found quantum parameters }
 {
     if !admits(quantum, parameters) {
