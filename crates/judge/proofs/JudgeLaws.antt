@@ -1,10 +1,10 @@
 -- What the judge's loops rely on and show; and the flat comparison of grids as the comparison that document 01 asks for.
-use Prim.Native.Nat.{ℕ, ◌<◌, ◌≤◌}
+use Prim.Native.Nat.{ℕ, ◌≤◌}
 use mathlib.Core.Path.{◌≡◌, refl, sym, ◌∙◌, ap}
 use mathlib.Core.Bool.{Bool, true, false, cond, not, ◌&&◌}
 use mathlib.Core.List.{List}
 use native.Mathlib.Omega.{arith}
-use borrow.Author.Tests.{lt-leb, not-false}
+use borrow.Author.Tests.{not-false}
 use lib.Dec.{leb}
 use lib.IntN.{ℤ}
 use Rattle.numbers.specs.First.{first, some}
@@ -19,9 +19,8 @@ use Rattle.abi.proofs.EntryLaws.{function_of_words_lem, grid_of_words_lem}
 use Rattle.extent.specs.Extent.{inside}
 use Rattle.flat.specs.Lists.{Sided}
 use Rattle.judge.specs.Judge.{unused_function, unused_grid, bad_function, outside, same_name, same_rank, ranked_earlier}
-use Rattle.judge.specs.Rules.{function_test, GridLimits}
+use Rattle.judge.specs.Rules.{GridLimits}
 use Rattle.judge.specs.Keys.{keys_of, KeysListed, some_reaches, rank_rule, clash, shares_earlier, Comparable}
-use Rattle.judge.specs.declared.FunctionRule.TheVariants as R
 use Rattle.judge.specs.declared.Shared.{Shared}
 use Rattle.judge.specs.declared.Shared.TheVariants as S
 use Rattle.judge.proofs.LimitLaws.{name_good, name_bytes, grid_edges}
@@ -29,25 +28,21 @@ use Rattle.judge.proofs.KeyLaws.{sided_listed, none_reaches, clash_name, clash_r
 
 -- the entries of a group that a list of numbers stands for: what the loops over that list found is what is judged
 module _ (ns : List ℤ) where
-  -- an entry before the count is no unused one
-  pub function_used : (m k : ℕ) → k < m → function_test R.Unused (leb m k) (function_of_words ns k) ≡ false
-  function_used m k l = rw (lt-leb m k l)
+  pub unused_functions : {m : ℕ} → m ≡ (group_of_words ns).functions
+      → some (λ k. leb m k && not (function_blank (function_of_words ns k))) functions_most ≡ some (unused_function (group_of_words ns)) functions_most
+  unused_functions e =
+      some_same _ _ functions_most (λ k l. let r = sym (function_of_words_lem ns k l) in λ j. leb (e j) k && not (function_blank (r j)))
 
-  pub unused_functions : {m i : ℕ} → m ≡ (group_of_words ns).functions → i ≡ first (λ k. function_test R.Unused (leb m k) (function_of_words ns k)) functions_most
-      → i ≡ first (unused_function (group_of_words ns)) functions_most
-  unused_functions {m} e f =
-      f ∙ first_same _ _ functions_most (λ k l. let r = sym (function_of_words_lem ns k l) in λ j. leb (e j) k && not (function_blank (r j)))
+  pub unused_grids : {n : ℕ} → n ≡ (group_of_words ns).grids
+      → some (λ k. leb n k && not (grid_blank (grid_of_words ns k))) grids_most ≡ some (unused_grid (group_of_words ns)) grids_most
+  unused_grids e =
+      some_same _ _ grids_most (λ k l. let d = sym (grid_of_words_lem ns k l) in λ j. leb (e j) k && not (grid_blank (d j)))
 
-  pub bad_functions : {m i : ℕ} → m ≡ (group_of_words ns).functions → m ≤ functions_most → i ≡ first (λ k. function_test R.Limits (leb m k) (function_of_words ns k)) m
+  pub bad_functions : {m i : ℕ} → m ≡ (group_of_words ns).functions → m ≤ functions_most → i ≡ first (λ k. not (function_fits (function_of_words ns k))) m
       → i ≡ first (bad_function (group_of_words ns)) (group_of_words ns).functions
   bad_functions {m} e h f =
       f ∙ first_same _ (bad_function (group_of_words ns)) m (λ k l. ap (λ (r : Function). not (function_fits r)) (sym (function_of_words_lem ns k (omega arith))))
       ∙ ap (first (bad_function (group_of_words ns))) e
-
-  pub unused_grids : {n i : ℕ} → n ≡ (group_of_words ns).grids → i ≡ first (λ k. leb n k && not (grid_blank (grid_of_words ns k))) grids_most
-      → i ≡ first (unused_grid (group_of_words ns)) grids_most
-  unused_grids {n} e f =
-      f ∙ first_same _ _ grids_most (λ k l. let d = sym (grid_of_words_lem ns k l) in λ j. leb (e j) k && not (grid_blank (d j)))
 
 -- where no grid is outside the limits, the sides are true distances
 pub comparable : (g : Group) → GridLimits g → (i : ℕ) → i ≡ first (outside g) g.grids → g.grids ≤ i → Comparable S.Turn g

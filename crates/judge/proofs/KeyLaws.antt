@@ -1,10 +1,8 @@
 -- Laws of the keys: eight bytes as one number, keys stored in lists, and keys that agree exactly where two grids share what they may not.
-use Prim.Native.Nat.{ℕ, zero, suc, ◌+◌, ◌*◌, ◌-◌, ◌^◌, ◌<◌, ◌≤◌}
+use Prim.Native.Nat.{ℕ, zero, suc, ◌+◌, ◌*◌, ◌-◌, ◌<◌, ◌≤◌}
 use mathlib.Core.Path.{◌≡◌, refl, sym, ap, ◌∙◌}
 use mathlib.Core.Bool.{Bool, true, false, ◌&&◌, ◌||◌}
 use mathlib.Core.List.{List}
-use native.Mathlib.Nat.{pow-le-pow_right, pow-suc, mul-le-mul_right}
-use native.Mathlib.Numerals.{add-one}
 use native.Mathlib.Decide.{dec_lt}
 use native.Mathlib.Omega.{arith}
 use borrow.Author.Count.{below_more}
@@ -12,6 +10,8 @@ use borrow.Author.Tests.{eqb-true, eq-eqb}
 use lib.Dec.{leb, eqb}
 use lib.ListN.{length, get_or, set, length-set}
 use lib.Seq.{get_or-set_same, get_or-set_other}
+use Rattle.std.specs.Int.{w64, from_be_bytes}
+use Rattle.abi.specs.Abi.{list_of}
 use Rattle.numbers.specs.First.{every}
 use Rattle.numbers.proofs.Bools.{and_left, and_right, both, same_test}
 use Rattle.numbers.proofs.FirstLaws.{none_by, every_at, all_every}
@@ -30,19 +30,13 @@ use Rattle.judge.specs.Keys.{packed, word_at, keys_of, put_four, KeysListed, som
 use Rattle.judge.specs.declared.Keys.{Keys}
 use Rattle.judge.specs.declared.Shared.TheVariants as S
 
--- what the sum of a word's bytes needs
-pub room : (i : ℕ) → i < 8 → 256 ^ i ≤ 72057594037927936
-room i h = pow-le-pow_right {n = 256} (omega arith) {i = i} {j = 7} (omega arith)
-
-pub grow : (w b i : ℕ) → w < 256 ^ i → b < 256 → w * 256 + b < 256 ^ (i + 1)
-grow w b i h k =
-    let m : suc w * 256 ≤ 256 ^ i * 256 = mul-le-mul_right 256 h in
-    let e : 256 ^ (i + 1) ≡ 256 ^ i * 256 = rw (add-one i) (pow-suc 256 i) in
-    omega arith
-
-pub packed_more : (byte : ℕ → ℕ) (i : ℕ) → packed byte (i + 1) ≡ packed byte i * 256 + byte i
-unfolding packed
-packed_more byte i = rw (add-one i) refl
+-- eight bytes of a name as one number, as std reads them
+pub word_read : (n : Name) (from : ℕ) → from_be_bytes w64 (list_of (λ j. get_or n.bytes (from + j) 0) 8) ≡ word_at n from
+unfolding packed list_of
+word_read n from =
+    let e : from + 0 ≡ from = omega arith in
+    let first = ap (λ (j : ℕ). get_or n.bytes j 0) e in
+    omega (arith, first)
 
 -- the number tells the bytes
 module _ (p q : ℕ → ℕ) where

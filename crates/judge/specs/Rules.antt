@@ -1,24 +1,16 @@
--- The tests of function entries that one loop serves, by their rule; what the pass over the grids may rely on, and what it finds and leaves.
-use Rattle.std.specs.Prelude.{ℕ, ◌*◌, ◌<◌, ◌≤◌, ◌≡◌, Bool, true, not, ◌&&◌, List, length, Result, Ok, Err, ⊤}
+-- What the pass over the grids may rely on, and what it finds and leaves.
+use Rattle.std.specs.Prelude.{ℕ, ◌*◌, ◌<◌, ◌≤◌, ◌≡◌, true, not, List, length, Result, Ok, Err, ⊤}
 use Rattle.numbers.specs.First.{first}
-use Rattle.group.specs.declared.Function.{Function}
 use Rattle.group.specs.declared.Group.{Group}
 use Rattle.group.specs.Record.{grid_at}
 use Rattle.group.specs.Refusals.{refuse_first}
 use Rattle.group.specs.Numbers.{parameters_most, functions_most, grids_most}
-use Rattle.group.specs.Limits.{function_fits, function_blank, grid_fits}
+use Rattle.group.specs.Limits.{grid_fits}
 use Rattle.extent.specs.Extent.{inside}
 use Rattle.flat.specs.Lists.{Flat}
-use Rattle.judge.specs.declared.FunctionRule.{FunctionRule}
-use Rattle.judge.specs.declared.FunctionRule.TheVariants as R
 use Rattle.judge.specs.Judge.{bad_grid, judged_grids, judged_ranks}
 use Rattle.judge.specs.Keys.{name_keys, KeysListed}
 use Rattle.group.specs.declared.Refusal.{Refusal}
-
--- one function, behind the count or not
-abbrev pub function_test : FunctionRule → Bool → Function → Bool
-function_test R.Unused behind f = behind && not (function_blank f)
-function_test R.Limits behind f = not (function_fits f)
 
 -- 2 of the grid lines, of which the first is line `from`, then 3 to 5
 unfoldable pub judged_from : ℕ → Group → Result ⊤ Refusal

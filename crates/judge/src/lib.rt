@@ -4,13 +4,13 @@
 ghost use Rattle.std.specs.Prelude.{◌≡◌, true, false, cond, not, ◌&&◌, ◌||◌, ℕ, ◌+◌, ◌-◌, ◌*◌, ◌<◌, ◌≤◌, leb, eqb, length, set};
 ghost use Rattle.numbers.specs.First.{first, some};
 ghost use Rattle.group.specs.Numbers.{parameters_most, functions_most, grids_most};
-ghost use Rattle.group.specs.Limits.{grid_fits, grid_blank, head_fits};
+ghost use Rattle.group.specs.Limits.{function_fits, function_blank, grid_fits, grid_blank, head_fits};
 ghost use Rattle.abi.specs.Abi.{function_of_words, grid_of_words, group_of_words};
 ghost use Rattle.extent.specs.Extent.{inside};
 ghost use Rattle.extent.specs.Sides.{ahead};
 ghost use Rattle.flat.specs.Lists.{FlatRoom, Flattened};
 ghost use Rattle.judge.specs.Judge.{bad_grid, judged};
-ghost use Rattle.judge.specs.Rules.{function_test, HeadLimits, judged_from, KeyRoom, Scanned, Left};
+ghost use Rattle.judge.specs.Rules.{HeadLimits, judged_from, KeyRoom, Scanned, Left};
 ghost use Rattle.judge.specs.Keys.{word_at, name_keys, put_four, agree, some_reaches, rank_rule, clash};
 
 use abi::GROUP_WORDS;
@@ -27,13 +27,6 @@ const GRIDS: u64 = group::GRIDS_MOST as u64;
 
 // Four numbers of each, by which grids are compared.
 const FOURS: usize = group::GRIDS_MOST * 4;
-
-// What a function entry can break.
-#[derive(Clone, Copy)]
-enum FunctionRule {
-    Unused,
-    Limits,
-}
 
 // What two grids may not share: a name; or a rank, where they hold a coordinate in common: where their extents share one as they are
 // written, or round the earth.
@@ -62,56 +55,43 @@ struct Scan {
     edge: u64,
 }
 
-// Whether a function breaks a rule.
-fn function_breaks(rule: FunctionRule, r: Function, behind: bool) -> bool
-    ensures { result ≡ function_test rule behind r }
+// Whether a function entry from one on is no ramp of zeros.
+fn some_unused_function(words: &[i64; GROUP_WORDS], from: u64) -> bool
+    requires { from ≤ functions_most }
+    ensures { result ≡ some (λ k. leb from k && not (function_blank (function_of_words words.now k))) functions_most }
 {
-    match rule {
-        FunctionRule::Unused => {
-            let blank = function_blank(r);
-            behind & !blank
+    for k in from..FUNCTIONS {
+        if !function_blank(abi::function_of_words(words, k as usize)) {
+            return true;
         }
-        FunctionRule::Limits => !function_fits(r),
     }
+    false
 }
 
-// The first of n function entries that breaks a rule, n if none does; those before one are known to keep it.
-fn first_function(
-    rule: FunctionRule,
-    words: &[i64; GROUP_WORDS],
-    used: u64,
-    from: u64,
-    n: u64,
-) -> u64
-    requires { (from ≤ n) × (n ≤ functions_most) × ((k : ℕ) → k < from → function_test rule (leb used k) (function_of_words words.now k) ≡ false) }
-    ensures { result ≡ first (λ k. function_test rule (leb used k) (function_of_words words.now k)) n }
-{
-    let mut i: u64 = from;
-    while i < n {
-        let at = i as usize;
-        let r = abi::function_of_words(words, at);
-        if function_breaks(rule, r, used <= i) {
-            return i;
-        }
-        i += 1;
-    }
-    i
-}
-
-// The first grid entry from one on that is not all zero, the count of entries if none is.
-fn first_unused(words: &[i64; GROUP_WORDS], from: u64) -> u64
+// Whether a grid entry from one on is not all zero.
+fn some_unused_grid(words: &[i64; GROUP_WORDS], from: u64) -> bool
     requires { from ≤ grids_most }
-    ensures { result ≡ first (λ k. leb from k && not (grid_blank (grid_of_words words.now k))) grids_most }
+    ensures { result ≡ some (λ k. leb from k && not (grid_blank (grid_of_words words.now k))) grids_most }
 {
-    let mut i: u64 = from;
-    while i < GRIDS {
-        let at = i as usize;
-        if !abi::grid_clear(words, at) {
-            return i;
+    for k in from..GRIDS {
+        if !abi::grid_clear(words, k as usize) {
+            return true;
         }
-        i += 1;
     }
-    i
+    false
+}
+
+// The first of n functions that is outside its limits, n if none is.
+fn first_bad_function(words: &[i64; GROUP_WORDS], n: u64) -> u64
+    requires { n ≤ functions_most }
+    ensures { result ≡ first (λ k. not (function_fits (function_of_words words.now k))) n }
+{
+    for k in 0..n {
+        if !function_fits(abi::function_of_words(words, k as usize)) {
+            return k;
+        }
+    }
+    n
 }
 
 // The eight bytes of a name from one on, as one number.
@@ -119,14 +99,8 @@ fn word(name: Name, from: usize) -> u64
     requires { from ≤ 16 }
     ensures { result ≡ word_at name from }
 {
-    let mut w: u64 = 0;
-    let mut i: usize = 0;
-    while i < 8 {
-        let b = name.bytes[from + i];
-        w = w * 256 + numbers::wide(b);
-        i += 1;
-    }
-    w
+    let bytes = std::array::from_fn(|j| name.bytes[from + j]);
+    u64::from_be_bytes(bytes)
 }
 
 // The numbers by which a name is compared with the others.
@@ -173,8 +147,7 @@ fn list_grid(
         × (keys.new ≡ set keys.old k g.name.len)
         × Flattened g k sides.old ranks.old frames.old sides.new ranks.new frames.new }
 {
-    let m = name_keys(g.name);
-    put_keys(fours, keys, k, m);
+    put_keys(fours, keys, k, name_keys(g.name));
     flat::flatten(g, k, sides, ranks, frames);
     extent::grid_inside(g, np)
 }
@@ -206,19 +179,16 @@ fn scan_grids(
         × (n ≤ result.bad → Scanned (group_of_words words.now) np n result.edge
         fours.new keys.new sides.new ranks.new frames.new) }
 {
-    let mut edge: u64 = 0;
-    let mut i: u64 = 0;
-    while i < n {
-        let at = i as usize;
-        let g = abi::grid_of_words(words, at);
+    let mut edge = 0;
+    for i in 0..n {
+        let g = abi::grid_of_words(words, i as usize);
         if !grid_fits(g) {
-            return Scan { bad: i, edge: edge };
+            return Scan { bad: i, edge };
         }
-        let inside = list_grid(g, np, at, fours, keys, sides, ranks, frames);
+        let inside = list_grid(g, np, i as usize, fours, keys, sides, ranks, frames);
         edge = edge_after(edge, i, inside);
-        i += 1;
     }
-    Scan { bad: i, edge: edge }
+    Scan { bad: n, edge }
 }
 
 // How far east of w the longitude x lies, round the earth.
@@ -231,22 +201,12 @@ fn ahead(w: u64, x: u64) -> u64
     LON_TURN - 1 - (w - x - 1) % LON_TURN
 }
 
-// How far it is from w to e, 0 if e lies west of w.
-fn width(w: u64, e: u64) -> u64
-    ensures { result ≡ e - w }
-{
-    if w <= e {
-        return e - w;
-    }
-    0
-}
-
 // Whether two extents share a longitude round the earth: the west side of one lies in the other.
 fn lons_meet(w: u64, e: u64, v: u64, f: u64) -> bool
     ensures { result ≡ (leb (ahead v w) (f - v) || leb (ahead w v) (e - w)) }
 {
-    let first = ahead(v, w) <= width(v, f);
-    let second = ahead(w, v) <= width(w, e);
+    let first = ahead(v, w) <= f.saturating_sub(v);
+    let second = ahead(w, v) <= e.saturating_sub(w);
     first | second
 }
 
@@ -292,12 +252,10 @@ fn clashes_earlier(shared: Shared, fours: &[u64], keys: &[u64], k: usize) -> boo
     requires { (k * 4 + 3 < length fours.now) × (k < length keys.now) }
     ensures { result ≡ some (clash shared fours.now keys.now k) k }
 {
-    let mut j: usize = 0;
-    while j < k {
+    for j in 0..k {
         if grids_clash(shared, fours, keys, j, k) {
             return true;
         }
-        j += 1;
     }
     false
 }
@@ -307,15 +265,12 @@ fn first_clash(shared: Shared, fours: &[u64], keys: &[u64], n: u64) -> u64
     requires { (n * 4 ≤ length fours.now) × (n ≤ length keys.now) }
     ensures { result ≡ first (λ k. some (clash shared fours.now keys.now k) k) n }
 {
-    let mut i: u64 = 0;
-    while i < n {
-        let k = i as usize;
-        if clashes_earlier(shared, fours, keys, k) {
-            return i;
+    for k in 0..n {
+        if clashes_earlier(shared, fours, keys, k as usize) {
+            return k;
         }
-        i += 1;
     }
-    i
+    n
 }
 
 // Whether one of n grids reaches the ends of the admitted longitudes.
@@ -323,13 +278,11 @@ fn some_reaches(sides: &[u64], n: u64) -> bool
     requires { n * 4 ≤ length sides.now }
     ensures { result ≡ some_reaches sides.now n }
 {
-    let mut i: u64 = 0;
-    while i < n {
-        let at = i as usize * 4;
+    for k in 0..n {
+        let at = k as usize * 4;
         if (sides[at] <= LON_FIRST) | (LON_LAST <= sides[at + 1]) {
             return true;
         }
-        i += 1;
     }
     false
 }
@@ -417,26 +370,21 @@ pub fn judge_into(
     ensures { (result ≡ judged (group_of_words words.now))
         × Left result (group_of_words words.now) sides.new ranks.new frames.new }
 {
+    let first_line = Refusal {
+        number: 2,
+        place: 1,
+    };
     if !head_fits(words) {
-        return Err(Refusal {
-            number: 2,
-            place: 1,
-        });
+        return Err(first_line);
     }
     let m = abi::function_count(words);
-    if first_function(FunctionRule::Unused, words, m, m, FUNCTIONS) < FUNCTIONS {
-        return Err(Refusal {
-            number: 2,
-            place: 1,
-        });
+    if some_unused_function(words, m) {
+        return Err(first_line);
     }
-    if first_unused(words, abi::grid_count(words)) < GRIDS {
-        return Err(Refusal {
-            number: 2,
-            place: 1,
-        });
+    if some_unused_grid(words, abi::grid_count(words)) {
+        return Err(first_line);
     }
-    let function = first_function(FunctionRule::Limits, words, m, 0, m);
+    let function = first_bad_function(words, m);
     if function < m {
         return Err(Refusal {
             number: 2,

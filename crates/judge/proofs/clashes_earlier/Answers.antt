@@ -1,6 +1,5 @@
 -- `clashes_earlier` meets its contract, by the loop of FirstLaws.
 use mathlib.Core.Path.{◌∙◌, sym}
-use native.Mathlib.Omega.{arith}
 use Rattle.numbers.proofs.FirstLaws.{passed_none, passed_more, passed_some, found_some}
 use Rattle.judge.proofs.clashes_earlier.Goals as goal
 
@@ -11,12 +10,6 @@ pub returns-then-grids_clash : goal.returns-then-grids_clash
 returns-then-grids_clash c =
     found_some _ _ _ c.loop-j.invariant c.loop-j-test.true
     (sym c.grids_clash.ensures ∙ c.if-grids_clash.true)
-
-pub overflow_add-j : goal.overflow_add-j
-overflow_add-j c = omega arith
-
-pub loop-j-smaller : goal.loop-j-smaller
-loop-j-smaller c = omega arith
 
 pub loop-j-preserved : goal.loop-j-preserved
 loop-j-preserved c =

@@ -1,11 +1,7 @@
 -- `clashes_earlier` meets its contract, by the loop of FirstLaws.
-use Prim.Native.Nat.{◌-◌}
 use Rattle.numbers.proofs.FirstLaws.{Passed}
 use Rattle.judge.specs.Keys.{clash}
 use Rattle.judge.proofs.clashes_earlier.Given as goal
 
 abbrev pub invariant-loop-j : goal.invariant-loop-j
 invariant-loop-j l = Passed (clash l.shared l.fours l.keys l.k) l.k l.j
-
-abbrev pub decreases-loop-j : goal.decreases-loop-j
-decreases-loop-j l = l.k - l.j

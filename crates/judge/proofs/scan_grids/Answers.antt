@@ -66,13 +66,6 @@ pub edge_after-edge-requires : goal.edge_after-edge-requires
 edge_after-edge-requires c =
     let q = c in omega (arith, c.requires.2.room.few, c.loop-i-test.true)
 
-pub overflow_add-i : goal.overflow_add-i
-overflow_add-i c =
-    let q = c in omega (arith, c.requires.2.room.few, c.loop-i-test.true)
-
-pub loop-i-smaller : goal.loop-i-smaller
-loop-i-smaller c = omega arith
-
 pub loop-i-preserved : goal.loop-i-preserved
 loop-i-preserved c =
     let i : ℕ = c.loop-i.i in
@@ -115,8 +108,7 @@ shape_of-frames c = c.loop-i.invariant.5
 
 pub returns : goal.returns
 returns c =
-    let l = c.loop-i in let s = c in
-    let e : l.i ≡ c.args.n = omega (arith, l.invariant.0, c.loop-i-test.false) in (
-      passed_end (bad_grid (group_of_words c.args.words.now)) c.args.n l.i (scanned_passed c.args.n l.invariant.0 l.invariant.6) c.loop-i-test.false,
+    let l = c.loop-i in let e : l.i ≡ c.args.n = omega arith in (
+      sym e ∙ passed_end (bad_grid (group_of_words c.args.words.now)) c.args.n l.i (scanned_passed c.args.n l.invariant.0 l.invariant.6) c.loop-i-test.false,
       λ h. rw e at l.invariant.6,
     )
