@@ -23,7 +23,7 @@ use Rattle.judge.proofs.Accepted.{accepted}
 use Rattle.line.specs.Lines.{function_line, function_text, grid_text}
 use Rattle.line.proofs.KindLaws.{FunctionFormed, HeadFormed, head_within, function_kind, grid_name_lem}
 use Rattle.header.specs.Items.{entries}
-use Rattle.header.specs.Whole.{stopped, grid_lines, read_lines, group_of_lines, accepted_reading, head_of_group, header_text}
+use Rattle.header.specs.Whole.{stopped, grid_lines, read_lines, group_of_lines, head_of_group, header_text}
 use Rattle.header.specs.Header.{verdict_reading, judged_reading, read_header}
 use Rattle.header.specs.Demand2.{Shaped, Formed}
 use Rattle.header.proofs.ItemLaws.{All}
@@ -175,5 +175,5 @@ module _ (g : Group) (s : Shaped g) (e : judged g ≡ Ok tt) where
         no_grid = λ k l u. not-false (grid_blank (grid_at g k)) (sym (ap (λ (b : Bool). b && not (grid_blank (grid_at g k))) (le-leb g.grids k u)) ∙ a.no_grid k l);
       }
 
-  pub same_group : read_header (header_text g) ≡ accepted_reading g
+  pub same_group : read_header (header_text g) ≡ Ok g
   same_group = as_text g accepted_formed ∙ ap (verdict_reading g) e

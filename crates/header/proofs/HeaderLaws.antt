@@ -12,43 +12,33 @@ use Rattle.text.specs.Wrote.{Wrote}
 use Rattle.group.specs.declared.Function.{Function}
 use Rattle.group.specs.declared.Grid.{Grid}
 use Rattle.group.specs.declared.Group.{Group}
-use Rattle.group.specs.Refusals.{refusal, no_refusal, refuse_if, lent_after, refusal_of}
-use Rattle.group.proofs.RefusalLaws.{if_here, if_past, not_zero, lent_new, lent_kept, no_acceptance}
+use Rattle.group.specs.Refusals.{refusal, no_refusal, refuse_if, lent_after}
+use Rattle.group.proofs.RefusalLaws.{if_here, if_past, not_zero, lent_new, lent_kept}
 use Rattle.header.specs.Items.{closed}
 use Rattle.line.specs.Lines.{head_text, function_text, grid_text}
 use Rattle.group.specs.declared.Refusal.{Refusal}
 use Rattle.judge.specs.Judge.{judged}
 use Rattle.judge.proofs.TableLaws.{judged_table}
-use Rattle.header.specs.declared.Reading.{Reading}
-use Rattle.header.specs.Whole.{Header, stopped, header, read_lines, group_of_lines, refused_reading, lines_reading, head_of_group, header_text}
-use Rattle.header.specs.Header.{verdict_reading, judged_reading, read_header, written, bytes_after}
+use Rattle.header.specs.Whole.{Header, stopped, header, read_lines, group_of_lines, lines_reading, head_of_group, header_text}
+use Rattle.header.specs.Header.{verdict_reading, judged_reading, read_header, written, written_refusal, bytes_after}
 use Rattle.std.specs.Prelude.{Result, Ok, Err, ⊤}
 
-module _ (t : List ℕ) (q : Reading) (e : q ≡ lines_reading (read_lines t)) where
-  pub lines_refused : (r : Refusal) → q.verdict ≡ Err r → q ≡ read_header t
+module _ (t : List ℕ) (q : Result Group Refusal) (e : q ≡ lines_reading (read_lines t)) where
+  pub lines_refused : (r : Refusal) → q ≡ Err r → Err r ≡ read_header t
   unfolding read_header
-  lines_refused r v = go (read_lines t) e
+  lines_refused r v = go (read_lines t) (sym v ∙ e)
     where
-      go : (x : Header Function Grid) → q ≡ lines_reading x → q ≡ judged_reading x
+      go : (x : Header Function Grid) → Err r ≡ lines_reading x → Err r ≡ judged_reading x
       go (stopped s) f = f
-      go (header h rs ds) f = absurd (no_acceptance r (sym v ∙ ap (λ (a : Reading). a.verdict) f))
+      go (header h rs ds) f = cc
 
-  module _ (w : q.verdict ≡ Ok tt) (v : Result ⊤ Refusal) (j : v ≡ judged q.group) where
-    judged_as : read_header t ≡ verdict_reading q.group v
-    unfolding read_header
-    judged_as = go (read_lines t) e
-      where
-        go : (x : Header Function Grid) → q ≡ lines_reading x → judged_reading x ≡ verdict_reading q.group v
-        go (stopped s) f = absurd (no_acceptance s (sym (ap (λ (a : Reading). a.verdict) f) ∙ w))
-        go (header h rs ds) f =
-            let g : q.group ≡ group_of_lines h rs ds = ap (λ (a : Reading). a.group) f in
-            sym (λ i. verdict_reading (g i) (judged (g i))) ∙ ap (verdict_reading q.group) (sym j)
-
-    pub header_refused : (r : Refusal) → v ≡ Err r → refused_reading r ≡ read_header t
-    header_refused r f = sym (judged_as ∙ ap (verdict_reading q.group) f)
-
-    pub header_accepted : v ≡ Ok tt → q ≡ read_header t
-    header_accepted f = (λ i. record { verdict = w i; group = q.group }) ∙ sym (judged_as ∙ ap (verdict_reading q.group) f)
+  pub judged_as : (g : Group) → q ≡ Ok g → read_header t ≡ verdict_reading g (judged g)
+  unfolding read_header
+  judged_as g v = go (read_lines t) (sym v ∙ e)
+    where
+      go : (x : Header Function Grid) → Ok g ≡ lines_reading x → judged_reading x ≡ verdict_reading g (judged g)
+      go (stopped s) f = cc
+      go (header h rs ds) f = let m : g ≡ group_of_lines h rs ds = cc in sym (λ i. verdict_reading (m i) (judged (m i)))
 
 -- ---- writing
 

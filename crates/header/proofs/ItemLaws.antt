@@ -7,8 +7,8 @@ use native.Mathlib.Decide.{dec_lt}
 use native.Mathlib.Omega.{arith}
 use native.Mathlib.Numerals.{add-one}
 use lib.Dec.{ltb}
-use lib.ListN.{length, length-replicate, get_or, take, drop, set, replicate, length-drop, length-set, take-append-drop}
-use lib.Seq.{drop-drop, drop-set-lt, take-suc-set, length-take-le}
+use lib.ListN.{length, length-replicate, get_or, take, drop, set, replicate, length-drop}
+use lib.Seq.{drop-drop, take-suc-set, take_all, length-take-le}
 use borrow.Author.Tests.{lt-ltb, le-ltb}
 use Rattle.numbers.specs.First.{first, some}
 use Rattle.numbers.proofs.FirstLaws.{first_le}
@@ -16,10 +16,9 @@ use Rattle.text.specs.Parts.{split, join, up_to}
 use Rattle.text.proofs.PartLaws.{Free, split_lead, split_cut, split_last, first_part, up_to_le}
 use Rattle.group.specs.declared.Refusal.{Refusal}
 use Rattle.group.specs.Refusals.{refusal}
-use Rattle.line.specs.Line.{Line, bad, good}
 use Rattle.line.proofs.LineLaws.{limited}
-use Rattle.header.specs.Items.{Items, refused, items, on_line, read_items, closed, entries, verdict_of, found_of, behind_of, Are}
-use Rattle.std.specs.Prelude.{Result, Ok, Err, ⊤}
+use Rattle.header.specs.Items.{Items, refused, items, on_line, read_items, closed, entries, Are}
+use Rattle.std.specs.Prelude.{Result, Ok, Err}
 
 -- the records may be the lines from n on
 abbrev pub All : {A : Type 0} → (ℕ → A → Type 0) → ℕ → List A → Type 0
@@ -42,7 +41,7 @@ module _ {A : Type 0} (fits : A → Bool) (d : A) where
   unfolding first
   limited_more x xs count n ls = go (fits x) (first (beyond fits d xs) count)
     where
-      go : (b : Bool) (f : ℕ) → on_line (cond b (good x) (bad (refusal 2 n))) (cond (ltb f count) (refused (refusal 2 (f + suc n))) (items (take count xs) ls))
+      go : (b : Bool) (f : ℕ) → on_line (cond b (Ok x) (Err (refusal 2 n))) (cond (ltb f count) (refused (refusal 2 (f + suc n))) (items (take count xs) ls))
           ≡ cond (ltb (cond (not b) 0 (suc f)) (suc count)) (refused (refusal 2 (cond (not b) 0 (suc f) + n))) (items (x ∷ take count xs) ls)
       go false f = let e : n ≡ 0 + n = omega arith in rw (lt-ltb 0 (suc count) (omega arith)) (ap (λ (m : ℕ). refused (refusal 2 m)) e)
       go true f =
@@ -52,7 +51,7 @@ module _ {A : Type 0} (fits : A → Bool) (d : A) where
             | no l ↦ rw (le-ltb f count (omega arith), le-ltb (suc f) (suc count) (omega arith))
           ]
 
-module _ {A : Type 0} (read : ℕ → List ℕ → Line Refusal A) (text : A → List ℕ) where
+module _ {A : Type 0} (read : ℕ → List ℕ → Result A Refusal) (text : A → List ℕ) where
   pub closed_line : (k n : ℕ) (l t : List ℕ) → Free 10 l → read_items read (suc k) n (split 10 (l ++ 10 ∷ t)) ≡ on_line (read n l) (read_items read k (suc n) (split 10 t))
   closed_line k n l t f = let p = first_part 10 t in rw (split_lead 10 l t f, p.1.1)
 
@@ -68,14 +67,14 @@ module _ {A : Type 0} (read : ℕ → List ℕ → Line Refusal A) (text : A →
       ∙ (λ i. on_line (back n a h.0 i) (read_closed P fits free back d xs count (suc n) t (omega arith) h.1 i))
       ∙ limited_more fits d a xs count n (split 10 t)
 
-  on_items : (x : Line Refusal A) (is : Items A) (xs : List A) (rest : List (List ℕ)) → on_line x is ≡ items xs rest
-      → (a : A) × (bs : List A) × (x ≡ good a) × (is ≡ items bs rest) × (xs ≡ a ∷ bs)
-  on_items (bad r) is xs rest e = let q : ◌≡◌ {A = ℕ} 0 1 = cc in absurd (omega arith)
-  on_items (good a) (refused r) xs rest e = let q : ◌≡◌ {A = ℕ} 0 1 = cc in absurd (omega arith)
-  on_items (good a) (items bs ls) xs rest e = let q : ls ≡ rest = cc in (a, bs, refl, ap (items bs) q, cc)
+  on_items : (x : Result A Refusal) (is : Items A) (xs : List A) (rest : List (List ℕ)) → on_line x is ≡ items xs rest
+      → (a : A) × (bs : List A) × (x ≡ Ok a) × (is ≡ items bs rest) × (xs ≡ a ∷ bs)
+  on_items (Err r) is xs rest e = let q : ◌≡◌ {A = ℕ} 0 1 = cc in absurd (omega arith)
+  on_items (Ok a) (refused r) xs rest e = let q : ◌≡◌ {A = ℕ} 0 1 = cc in absurd (omega arith)
+  on_items (Ok a) (items bs ls) xs rest e = let q : ls ≡ rest = cc in (a, bs, refl, ap (items bs) q, cc)
 
   -- read, and written again: the same bytes
-  pub closed_read : ((n : ℕ) (l : List ℕ) (a : A) → read n l ≡ good a → text a ≡ l)
+  pub closed_read : ((n : ℕ) (l : List ℕ) (a : A) → read n l ≡ Ok a → text a ≡ l)
       → (k n : ℕ) (ls : List (List ℕ)) (xs : List A) (p : List ℕ) (ps : List (List ℕ)) → read_items read k n ls ≡ items xs (p ∷ ps)
       → join 10 ls ≡ closed text xs ++ join 10 (p ∷ ps)
   closed_read back zero n ls xs p ps e =
@@ -106,7 +105,7 @@ module _ {A : Type 0} (read : ℕ → List ℕ → Line Refusal A) (text : A →
 module _ {A : Type 0} where
   abbrev pub after : List A → Items A → Items A
   after [] is = is
-  after (x ∷ xs) is = on_line (good x) (after xs is)
+  after (x ∷ xs) is = on_line (Ok x) (after xs is)
 
   pub after_refused : (xs : List A) (r : Refusal) → after xs (refused r) ≡ refused r
   after_refused [] r = refl
@@ -116,13 +115,13 @@ module _ {A : Type 0} where
   after_items [] ys ls = refl
   after_items (x ∷ xs) ys ls = rw (after_items xs ys ls)
 
-  pub after_one : (xs : List A) (x : A) (is : Items A) → after xs (on_line (good x) is) ≡ after (xs ++ (x ∷ [])) is
+  pub after_one : (xs : List A) (x : A) (is : Items A) → after xs (on_line (Ok x) is) ≡ after (xs ++ (x ∷ [])) is
   after_one [] x is = refl
   after_one (y ∷ xs) x is = rw (after_one xs x is)
 
 -- ---- a loop that reads count records from line n on: xs are the first k of them, and ls the parts behind them
 
-module _ {A : Type 0} (read : ℕ → List ℕ → Line Refusal A) (count n : ℕ) (ls₀ : List (List ℕ)) where
+module _ {A : Type 0} (read : ℕ → List ℕ → Result A Refusal) (count n : ℕ) (ls₀ : List (List ℕ)) where
   abbrev pub whole : Items A
   whole = read_items read count n ls₀
 
@@ -149,13 +148,13 @@ module _ {A : Type 0} (read : ℕ → List ℕ → Line Refusal A) (count n : �
         ∙ ap (λ (qs : List (List ℕ)). on_line (read (n + k) l) (read_items read (count - (k + 1)) (suc (n + k)) qs)) (sym p.1.1)
         ∙ ap (λ (j : ℕ). on_line (read (n + k) l) (read_items read (count - (k + 1)) j (split 10 t))) m
 
-    pub loop_bad : (l t : List ℕ) (ls : List (List ℕ)) (r : Refusal) → ls ≡ l ∷ split 10 t → read (n + k) l ≡ bad r → State k xs ls → whole ≡ refused r
-    loop_bad l t ls r e b s = sym s ∙ ap (after xs) (step l t ls e ∙ ap (λ (x : Line Refusal A). on_line x (read_items read (count - (k + 1)) (n + (k + 1)) (split 10 t))) b) ∙ after_refused xs r
+    pub loop_bad : (l t : List ℕ) (ls : List (List ℕ)) (r : Refusal) → ls ≡ l ∷ split 10 t → read (n + k) l ≡ Err r → State k xs ls → whole ≡ refused r
+    loop_bad l t ls r e b s = sym s ∙ ap (after xs) (step l t ls e ∙ ap (λ (x : Result A Refusal). on_line x (read_items read (count - (k + 1)) (n + (k + 1)) (split 10 t))) b) ∙ after_refused xs r
 
-    pub loop_good : (l t : List ℕ) (ls : List (List ℕ)) (x : A) → ls ≡ l ∷ split 10 t → read (n + k) l ≡ good x → State k xs ls → State (k + 1) (xs ++ (x ∷ [])) (split 10 t)
+    pub loop_good : (l t : List ℕ) (ls : List (List ℕ)) (x : A) → ls ≡ l ∷ split 10 t → read (n + k) l ≡ Ok x → State k xs ls → State (k + 1) (xs ++ (x ∷ [])) (split 10 t)
     loop_good l t ls x e b s =
         sym (after_one xs x (read_items read (count - (k + 1)) (n + (k + 1)) (split 10 t)))
-        ∙ ap (after xs) (sym (step l t ls e ∙ ap (λ (y : Line Refusal A). on_line y (read_items read (count - (k + 1)) (n + (k + 1)) (split 10 t))) b)) ∙ s
+        ∙ ap (after xs) (sym (step l t ls e ∙ ap (λ (y : Result A Refusal). on_line y (read_items read (count - (k + 1)) (n + (k + 1)) (split 10 t))) b)) ∙ s
 
   pub loop_end : (k : ℕ) (xs : List A) (ls : List (List ℕ)) → count ≤ k → State k xs ls → whole ≡ items xs ls
   loop_end k xs ls h s =
@@ -188,97 +187,53 @@ module _ (text : List ℕ) (at e : ℕ) (found : e ≡ at + up_to 10 (drop at te
       lt : (up_to 10 (drop at text) ≡ length (drop at text) → ⊥) → up_to 10 (drop at text) < length (drop at text)
       lt n = let u = up_to_le 10 (drop at text) in elim (dec_lt (up_to 10 (drop at text)) (length (drop at text))) [ yes l ↦ l | no l ↦ absurd (n (omega arith)) ]
 
--- ---- the array that the loop fills: its first k entries are read, the others blank
+-- ---- the loop itself, over the text, the entries, the place of the next line and the count of lines read
 
-drop_one : {A : Type 0} (z : A) (n : ℕ) → drop 1 (replicate n z) ≡ replicate (n - 1) z
-drop_one z zero = refl
-drop_one z (suc n) = let e : n ≡ suc n - 1 = omega arith in ap (λ (k : ℕ). replicate k z) e
-
-pub record Filled {A : Type 0} (size : ℕ) (z : A) (k : ℕ) (array : List A) : Type 0 where
-  pub count : length array ≡ size
-  pub blank : drop k array ≡ replicate (size - k) z
-
-module _ {A : Type 0} (size : ℕ) (z : A) where
-  pub filled_none : (array : List A) → length array ≡ size → array ≡ replicate size z → Filled size z 0 array
-  filled_none array l e = record { count = l; blank = e ∙ ap (λ (k : ℕ). replicate k z) (let m : size ≡ size - 0 = omega arith in m) }
-
-  pub filled_more : (k : ℕ) (array : List A) (x : A) → k < size → Filled size z k array → Filled size z (k + 1) (set array k x)
-  filled_more k array x h f =
-      record {
-        count = length-set array k x ∙ f.count;
-        blank =
-            drop-set-lt (k + 1) array k x (omega arith) ∙ sym (drop-drop 1 k array) ∙ ap (drop 1) f.blank ∙ drop_one z (size - k)
-            ∙ ap (λ (n : ℕ). replicate n z) (let m : size - k - 1 ≡ size - (k + 1) = omega arith in m);
-      }
-
-  pub taken_more : (k : ℕ) (array : List A) (x : A) → k < size → Filled size z k array → take (k + 1) (set array k x) ≡ take k array ++ (x ∷ [])
-  taken_more k array x h f = let l : k < length array = (let c = f.count in omega arith) in ap (λ (j : ℕ). take j (set array k x)) (add-one k) ∙ take-suc-set array k x l
-
-  pub filled_all : (k : ℕ) (array : List A) → k ≤ size → Filled size z k array → array ≡ entries size z (take k array)
-  filled_all k array h f =
-      let c = f.count in
-      let l : length (take k array) ≡ k = length-take-le k array (omega arith) in
-      sym (take-append-drop k array) ∙ ap (λ (r : List A). take k array ++ r) (f.blank ∙ ap (λ (m : ℕ). replicate (size - m) z) (sym l))
-
--- ---- the loop itself, over the text, the array, the place of the next line and the count of lines read
-
-pub record Loop {A : Type 0} (read : ℕ → List ℕ → Line Refusal A) (size : ℕ) (z : A) (count n : ℕ) (text : List ℕ) (at : ℕ) (array : List A) (next k : ℕ) : Type 0 where
-  pub bound : k ≤ count
+pub record Loop {A : Type 0} (read : ℕ → List ℕ → Result A Refusal) (count n : ℕ) (text : List ℕ) (at : ℕ) (entries : List A) (next k : ℕ) : Type 0 where
   pub room : next ≤ length text
-  pub fill : Filled size z k array
-  pub state : State read count n (split 10 (drop at text)) k (take k array) (split 10 (drop next text))
+  pub state : State read count n (split 10 (drop at text)) k (take k entries) (split 10 (drop next text))
 
-module _ {A : Type 0} (read : ℕ → List ℕ → Line Refusal A) (size : ℕ) (z : A) (count n : ℕ) (text : List ℕ) (at : ℕ) where
+module _ {A : Type 0} (read : ℕ → List ℕ → Result A Refusal) (count n : ℕ) (text : List ℕ) (at : ℕ) where
   abbrev is : Items A
   is = read_items read count n (split 10 (drop at text))
 
-  pub loop_enters : (array : List A) → array ≡ replicate size z → at ≤ length text → Loop read size z count n text at array at 0
-  loop_enters array e r =
-      record {
-        bound = omega arith;
-        room = r;
-        fill = filled_none size z array (ap length e ∙ length-replicate size z) e;
-        state = loop_start read count n (split 10 (drop at text));
-      }
+  pub loop_enters : (entries : List A) → at ≤ length text → Loop read count n text at entries at 0
+  loop_enters entries r = record { room = r; state = loop_start read count n (split 10 (drop at text)) }
 
-  pub loop_stops : (r : Refusal) (verdict : Result ⊤ Refusal) (array : List A) (next : ℕ) → is ≡ refused r → verdict ≡ Err r → array ≡ replicate size z → next ≡ 0 → Are size z text is verdict array next
-  loop_stops r verdict array next w v a m =
-      record {
-        judged = v ∙ sym (ap verdict_of w);
-        filled = a ∙ ap (λ (k : ℕ). replicate k z) whole_size ∙ sym (ap (λ (x : Items A). entries size z (found_of x)) w);
-        behind = λ q. absurd (let x : ◌≡◌ {A = ℕ} 0 1 = cc in omega arith);
-        room = omega arith;
-      }
-    where
-      whole_size : size ≡ size - 0
-      whole_size = omega arith
-
-  module _ (array : List A) (next k : ℕ) (l : Loop read size z count n text at array next k) where
+  module _ (entries : List A) (next k : ℕ) (l : Loop read count n text at entries next k) where
     module _ (e : ℕ) (found : e ≡ next + up_to 10 (drop next text)) (h : k < count) where
       pub loop_unclosed : e ≡ length text → is ≡ refused (refusal 1 (n + k))
-      loop_unclosed q = loop_missing read count n (split 10 (drop at text)) k (take k array) h _ _ (none_closed text next e found l.room q) l.state
+      loop_unclosed q = loop_missing read count n (split 10 (drop at text)) k (take k entries) h _ _ (none_closed text next e found l.room q) l.state
 
       module _ (q : e ≡ length text → ⊥) where
-        pub loop_refuses : (r : Refusal) → read (n + k) (take (e - next) (drop next text)) ≡ bad r → is ≡ refused r
-        loop_refuses r b = loop_bad read count n (split 10 (drop at text)) k (take k array) h _ (drop (e + 1) text) _ r (one_closed text next e found l.room q) b l.state
+        pub loop_refuses : (r : Refusal) → read (n + k) (take (e - next) (drop next text)) ≡ Err r → is ≡ refused r
+        loop_refuses r b = loop_bad read count n (split 10 (drop at text)) k (take k entries) h _ (drop (e + 1) text) _ r (one_closed text next e found l.room q) b l.state
 
-        pub loop_reads : (x : A) → count ≤ size → read (n + k) (take (e - next) (drop next text)) ≡ good x → Loop read size z count n text at (set array k x) (e + 1) (k + 1)
+        pub loop_reads : (x : A) → length entries ≡ count → read (n + k) (take (e - next) (drop next text)) ≡ Ok x → Loop read count n text at (set entries k x) (e + 1) (k + 1)
         loop_reads x c b =
+            let m : take (k + 1) (set entries k x) ≡ take k entries ++ (x ∷ []) = ap (λ (j : ℕ). take j (set entries k x)) (add-one k) ∙ take-suc-set entries k x (omega arith) in
             record {
-              bound = omega arith;
               room = behind_le text next e found l.room q;
-              fill = filled_more size z k array x (omega arith) l.fill;
-              state = subst (λ (xs : List A). State read count n (split 10 (drop at text)) (k + 1) xs (split 10 (drop (e + 1) text))) (sym (taken_more size z k array x (omega arith) l.fill))
-                  (loop_good read count n (split 10 (drop at text)) k (take k array) h _ (drop (e + 1) text) _ x (one_closed text next e found l.room q) b l.state);
+              state = subst (λ (xs : List A). State read count n (split 10 (drop at text)) (k + 1) xs (split 10 (drop (e + 1) text))) (sym m)
+                  (loop_good read count n (split 10 (drop at text)) k (take k entries) h _ (drop (e + 1) text) _ x (one_closed text next e found l.room q) b l.state);
             }
 
-    pub loop_leaves : count ≤ k → count ≤ size → Are size z text is (Ok tt) array next
-    loop_leaves c s =
-        let w = loop_end read count n (split 10 (drop at text)) k (take k array) (split 10 (drop next text)) c l.state in
-        let b = l.bound in
-        record {
-          judged = sym (ap verdict_of w);
-          filled = filled_all size z k array (omega arith) l.fill ∙ sym (ap (λ (x : Items A). entries size z (found_of x)) w);
-          behind = λ q. sym (ap behind_of w);
-          room = l.room;
-        }
+    pub loop_leaves : length entries ≡ count → count ≤ k → Are text is entries (Ok next)
+    loop_leaves c h = (
+      loop_end read count n (split 10 (drop at text)) k (take k entries) (split 10 (drop next text)) h l.state ∙ ap (λ (xs : List A). items xs (split 10 (drop next text))) (take_all k entries (omega arith)),
+      l.room,
+    )
+
+-- ---- the array that they are read into: its first n entries are lent as a part, the others stay blank
+
+drop_blank : {A : Type 0} (z : A) (n size : ℕ) → drop n (replicate size z) ≡ replicate (size - n) z
+drop_blank z zero size = let e : size ≡ size - 0 = omega arith in ap (λ (k : ℕ). replicate k z) e
+drop_blank z (suc n) zero = let e : 0 ≡ 0 - suc n = omega arith in ap (λ (k : ℕ). replicate k z) e
+drop_blank z (suc n) (suc size) = let e : size - n ≡ suc size - suc n = omega arith in drop_blank z n size ∙ ap (λ (k : ℕ). replicate k z) e
+
+module _ {A : Type 0} (size n : ℕ) (z : A) (h : n ≤ size) where
+  pub part_length : length (take n (replicate size z)) ≡ n
+  part_length = let l = length-replicate size z in length-take-le n (replicate size z) (omega arith)
+
+  pub part_filled : (xs : List A) → length xs ≡ length (take n (replicate size z)) → xs ++ drop n (replicate size z) ≡ entries size z xs
+  part_filled xs l = ap (λ (r : List A). xs ++ r) (drop_blank z n size ∙ ap (λ (k : ℕ). replicate (size - k) z) (sym (l ∙ part_length)))

@@ -8,6 +8,7 @@ use native.Mathlib.Omega.{arith}
 use lib.ListN.{length, take, get_or, length-append, length-take}
 use lib.Seq.{get_or-take}
 use lib.IntN.{pos}
+use Rattle.std.proofs.lemmas.List.{get_or_default}
 use Rattle.text.specs.Decimal.{int_text}
 use Rattle.text.proofs.PutLaws.{line_length}
 use Rattle.text.proofs.DecimalLaws.{int_text_length, pos_text_length}
@@ -32,7 +33,6 @@ use Rattle.line.specs.Names.{name_text, unit_text}
 use Rattle.header.specs.Items.{closed}
 use Rattle.line.specs.Lines.{group_keyword, head_ints, head_text, ramp_keyword, step_keyword, ramp2_keyword, function_text, grid_keyword, grid_ints, grid_text}
 use Rattle.header.specs.Whole.{head_of_group, header_text}
-use Rattle.header.specs.Writing.{Wide}
 use Rattle.line.proofs.LimitLaws.{head_sizes, ramp_sizes, step_sizes, ramp2_sizes, origin_sizes, counts_sizes}
 use Rattle.line.proofs.NameLaws.{name_len}
 use Rattle.line.proofs.KindLaws.{grid_name_lem, grid_numbers_lem}
@@ -137,8 +137,10 @@ module _ (g : Group) (e : judged g ≡ Ok tt) where
   unfolding head_fits
   head_parts = and_parts (name_fits g.name) (head_numbers_fit (pos g.quantum) (pos g.parameters) (pos g.functions) (pos g.grids)) (accepted g e).head
 
-  pub grids_wide : Wide g.grid g.grids
-  grids_wide = record { most = (accepted_head g e).grids; names = λ k l. (name_len (grid_at g k).name (grid_name_lem (grid_at g k) ((accepted g e).grid k l))).1 }
+  pub grids_wide : (k : ℕ) (d : Grid) → k < length g.grid → k < g.grids → (get_or g.grid k d).name.len ≤ name_most
+  grids_wide k d r l =
+      subst (λ (x : Grid). x.name.len ≤ name_most) (get_or_default g.grid k no_grid d r)
+      (name_len (grid_at g k).name (grid_name_lem (grid_at g k) ((accepted g e).grid k l))).1
 
   pub length_most : length (header_text g) ≤ 6732
   unfolding header_text

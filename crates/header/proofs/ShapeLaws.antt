@@ -1,4 +1,4 @@
--- The group of every reading has lists of its arrays' lengths, as every record of the code has.
+-- The group of every text that is read has lists of its arrays' lengths, as every record of the code has.
 use Prim.Native.Nat.{ℕ, zero, suc, ◌+◌, ◌-◌, ◌≤◌, ◌<◌}
 use mathlib.Core.Path.{◌≡◌, refl, sym, ap, ◌∙◌, subst}
 use mathlib.Core.List.{List, [], ◌∷◌}
@@ -12,10 +12,9 @@ use Rattle.group.specs.declared.Function.{Function}
 use Rattle.group.specs.declared.Grid.{Grid}
 use Rattle.group.specs.declared.Group.{Group}
 use Rattle.group.specs.Record.{no_grid}
-use Rattle.group.specs.Blank.{blank_function, blank_grid, blank_group}
+use Rattle.group.specs.Blank.{blank_function, blank_grid}
 use Rattle.judge.specs.Judge.{judged}
 use Rattle.line.specs.declared.Head.{Head}
-use Rattle.line.specs.Line.{Line, bad, good}
 use Rattle.line.specs.Lines.{head_line, function_line, grid_line}
 use Rattle.line.proofs.RoomLaws.{HeadRoom, head_room, grid_room}
 use Rattle.header.specs.Items.{Items, refused, items, on_line, read_items, entries}
@@ -36,12 +35,12 @@ module _ {A : Type 0} (P : A → Type 0) where
   Read k (refused r) = Unit {0}
   Read k (items xs ls) = (length xs ≡ k) × Each xs
 
-  on_line_read : (k : ℕ) (x : Line Refusal A) (is : Items A) → ((a : A) → x ≡ good a → P a) → Read k is → Read (suc k) (on_line x is)
-  on_line_read k (bad r) is p h = tt
-  on_line_read k (good a) (refused r) p h = tt
-  on_line_read k (good a) (items xs ls) p h = (ap suc h.0, (p a refl, h.1))
+  on_line_read : (k : ℕ) (x : Result A Refusal) (is : Items A) → ((a : A) → x ≡ Ok a → P a) → Read k is → Read (suc k) (on_line x is)
+  on_line_read k (Err r) is p h = tt
+  on_line_read k (Ok a) (refused r) p h = tt
+  on_line_read k (Ok a) (items xs ls) p h = (ap suc h.0, (p a refl, h.1))
 
-  read_each : (read : ℕ → List ℕ → Line Refusal A) → ((n : ℕ) (l : List ℕ) (a : A) → read n l ≡ good a → P a)
+  read_each : (read : ℕ → List ℕ → Result A Refusal) → ((n : ℕ) (l : List ℕ) (a : A) → read n l ≡ Ok a → P a)
       → (k n : ℕ) (ls : List (List ℕ)) → Read k (read_items read k n ls)
   read_each read p zero n ls = (refl, tt)
   read_each read p (suc k) n [] = tt
@@ -115,23 +114,14 @@ group_shaped h rs ds r =
         ∙ get_or-append-add ds (replicate (64 - length ds) blank_grid) (k - length ds) no_grid
         ∙ get_or-replicate (64 - length ds) (k - length ds) blank_grid no_grid (omega arith)
 
-blank_shaped : Shaped blank_group
-blank_shaped =
-    record {
-      name = refl;
-      function = refl;
-      grid = refl;
-      names = λ k l. ap (λ (d : Grid). length d.name.bytes) (get_or-replicate 64 k blank_grid no_grid l);
-    }
-
-pub read_shaped : (t : List ℕ) → Shaped (read_header t).group
+pub read_shaped : (t : List ℕ) (g : Group) → read_header t ≡ Ok g → Shaped g
 unfolding read_header
-read_shaped t = go (read_lines t) (lines_room t)
+read_shaped t g e = go (read_lines t) (lines_room t) e
   where
-    by_verdict : (g : Group) (v : Result ⊤ Refusal) → Shaped g → Shaped (verdict_reading g v).group
-    by_verdict g (Ok tt) s = s
-    by_verdict g (Err r) s = blank_shaped
+    by_verdict : (h : Group) (v : Result ⊤ Refusal) → Shaped h → verdict_reading h v ≡ Ok g → Shaped g
+    by_verdict h (Ok tt) s f = let m : h ≡ g = cc in subst Shaped m s
+    by_verdict h (Err r) s f = cc
 
-    go : (x : Header Function Grid) → Room x → Shaped (judged_reading x).group
-    go (stopped r) s = blank_shaped
-    go (header h rs ds) s = by_verdict (group_of_lines h rs ds) (judged (group_of_lines h rs ds)) (group_shaped h rs ds s)
+    go : (x : Header Function Grid) → Room x → judged_reading x ≡ Ok g → Shaped g
+    go (stopped r) s f = cc
+    go (header h rs ds) s f = by_verdict (group_of_lines h rs ds) (judged (group_of_lines h rs ds)) (group_shaped h rs ds s) f

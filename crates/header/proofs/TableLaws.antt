@@ -3,16 +3,16 @@ use Prim.Native.Nat.{ℕ, zero, suc, ◌+◌}
 use mathlib.Core.Path.{◌≡◌, refl}
 use mathlib.Core.Bool.{Bool, true, false, cond}
 use mathlib.Core.List.{List, [], ◌∷◌}
-use mathlib.Core.Option.{Option, none, some}
+use mathlib.Core.Option as M
 use native.Mathlib.Omega.{arith}
 use lib.Dec.{eqb}
 use lib.ListN.{length, drop}
 use lib.IntN.{ℤ}
 use Rattle.text.specs.Parts.{split}
 use Rattle.text.specs.Fields.{same, read_ints}
-use Rattle.group.specs.Refusals.{refusal, in_table, Told, refusal_of}
+use Rattle.group.specs.Refusals.{refusal, in_table, Told}
 use Rattle.group.specs.Shapes.{ramp_of, step_of, ramp2_of}
-use Rattle.group.proofs.RefusalLaws.{Answers, no_acceptance, told_accepted, told_by, told_if, told_verdict}
+use Rattle.group.proofs.RefusalLaws.{Answers, told_accepted, told_by, told_if, told_verdict}
 use Rattle.group.specs.declared.Refusal.{Refusal}
 use Rattle.group.specs.declared.Shape.{Shape}
 use Rattle.group.specs.declared.Function.{Function}
@@ -21,40 +21,38 @@ use Rattle.group.specs.declared.Group.{Group}
 use Rattle.judge.specs.Judge.{judged}
 use Rattle.judge.proofs.TableLaws.{judged_told}
 use Rattle.line.specs.declared.Head.{Head}
-use Rattle.line.specs.Line.{Line, bad, good}
 use Rattle.line.specs.Lines.{keyed, formed, fields, line_of, group_keyword, head_texts, head_fit, head_of, head_line, grid_keyword, grid_texts, grid_fit, grid_of}
 use Rattle.line.specs.Lines.{ramp_keyword, step_keyword, ramp2_keyword, no_texts, of_shape, shape_fit, shape_fields, function_line}
-use Rattle.header.specs.declared.Reading.{Reading}
 use Rattle.header.specs.Items.{Items, refused, items, on_line, read_items}
-use Rattle.header.specs.Whole.{Header, stopped, header, ending, after_grids, after_functions_of, after_head_of, read_lines_of, grid_lines, read_lines, group_of_lines, refused_reading}
-use Rattle.header.specs.Header.{judged_reading, read_header, written}
-use Rattle.std.specs.Prelude.{Result, Ok, Err}
+use Rattle.header.specs.Whole.{Header, stopped, header, ending, after_grids, after_functions_of, after_head_of, read_lines_of, grid_lines, read_lines, group_of_lines}
+use Rattle.header.specs.Header.{judged_reading, read_header, read_refusal, written, written_refusal}
+use Rattle.std.specs.Prelude.{Option, Some, None, Result, Ok, Err}
 
 abbrev InTable : Refusal → Type 0
 InTable r = in_table r.number ≡ true
 
 -- ---- one line
 
-abbrev LineIn : {A : Type 0} → Line Refusal A → Type 0
-LineIn (bad r) = InTable r
-LineIn (good a) = Unit {0}
+abbrev LineIn : {A : Type 0} → Result A Refusal → Type 0
+LineIn (Err r) = InTable r
+LineIn (Ok a) = Unit {0}
 
-if_in : {A : Type 0} (b : Bool) (x y : Line Refusal A) → LineIn x → LineIn y → LineIn (cond b x y)
+if_in : {A : Type 0} (b : Bool) (x y : Result A Refusal) → LineIn x → LineIn y → LineIn (cond b x y)
 if_in true x y p q = p
 if_in false x y p q = q
 
 module _ {B A : Type 0} (texts numbers : ℕ) (read : List (List ℕ) → Option B) (fits : List ℤ → Bool) (make : B → List ℤ → A) (form limit : Refusal) (p : InTable form) (q : InTable limit) where
-  formed_in : (o : Option B) (zs : Option (List ℤ)) → LineIn (formed texts numbers read fits make form limit o zs)
-  formed_in none zs = p
-  formed_in (some b) none = p
-  formed_in (some b) (some zs) = if_in (fits zs) (good (make b zs)) (bad limit) tt q
+  formed_in : (o : Option B) (zs : M.Option (List ℤ)) → LineIn (formed texts numbers read fits make form limit o zs)
+  formed_in None zs = p
+  formed_in (Some b) M.none = p
+  formed_in (Some b) (M.some zs) = if_in (fits zs) (Ok (make b zs)) (Err limit) tt q
 
   fields_in : (fs : List (List ℕ)) → LineIn (fields texts numbers read fits make form limit fs)
   fields_in fs =
-      if_in (eqb (length fs) (texts + numbers)) (formed texts numbers read fits make form limit (read fs) (read_ints (drop texts fs))) (bad form)
+      if_in (eqb (length fs) (texts + numbers)) (formed texts numbers read fits make form limit (read fs) (read_ints (drop texts fs))) (Err form)
       (formed_in (read fs) (read_ints (drop texts fs))) p
 
-keyed_in : {A : Type 0} (word : List ℕ) (these others : List (List ℕ) → Line Refusal A)
+keyed_in : {A : Type 0} (word : List ℕ) (these others : List (List ℕ) → Result A Refusal)
     → ((fs : List (List ℕ)) → LineIn (these fs)) → ((ps : List (List ℕ)) → LineIn (others ps)) → (ps : List (List ℕ)) → LineIn (keyed word these others ps)
 keyed_in word these others p q [] = q []
 keyed_in word these others p q (k ∷ fs) = if_in (same k word) (these fs) (others (k ∷ fs)) (p fs) (q (k ∷ fs))
@@ -62,7 +60,7 @@ keyed_in word these others p q (k ∷ fs) = if_in (same k word) (these fs) (othe
 line_in : {B A : Type 0} (texts numbers : ℕ) (read : List (List ℕ) → Option B) (fits : List ℤ → Bool) (make : B → List ℤ → A) (word : List ℕ) (n : ℕ) (l : List ℕ)
     → LineIn (line_of texts numbers read fits make (refusal 1 n) (refusal 2 n) word l)
 line_in texts numbers read fits make word n l =
-    keyed_in word (fields texts numbers read fits make (refusal 1 n) (refusal 2 n)) (λ fs. bad (refusal 1 n))
+    keyed_in word (fields texts numbers read fits make (refusal 1 n) (refusal 2 n)) (λ fs. Err (refusal 1 n))
     (fields_in texts numbers read fits make (refusal 1 n) (refusal 2 n) refl refl) (λ ps. refl) (split 9 l)
 
 kinds_in : (n : ℕ) (l : List ℕ) → LineIn (function_line n l)
@@ -72,8 +70,8 @@ kinds_in n l =
     (keyed_in ramp2_keyword (shape_fields 4 ramp2_of n) none_of (shape_in 4 ramp2_of)
     (λ ps. refl))) (split 9 l)
   where
-    none_of : List (List ℕ) → Line Refusal Function
-    none_of fs = bad (refusal 1 n)
+    none_of : List (List ℕ) → Result Function Refusal
+    none_of fs = Err (refusal 1 n)
 
     shape_in : (numbers : ℕ) (make : List ℤ → Shape) (fs : List (List ℕ)) → LineIn (shape_fields numbers make n fs)
     shape_in numbers make = fields_in 0 numbers no_texts (shape_fit make) (of_shape make) (refusal 1 n) (refusal 2 n) refl refl
@@ -84,11 +82,11 @@ abbrev ItemsIn : {A : Type 0} → Items A → Type 0
 ItemsIn (refused r) = InTable r
 ItemsIn (items xs ls) = Unit {0}
 
-module _ {A : Type 0} (read : ℕ → List ℕ → Line Refusal A) (read-in : (n : ℕ) (l : List ℕ) → LineIn (read n l)) where
-  on_line_in : (x : Line Refusal A) (is : Items A) → LineIn x → ItemsIn is → ItemsIn (on_line x is)
-  on_line_in (bad r) is p q = p
-  on_line_in (good a) (refused r) p q = q
-  on_line_in (good a) (items xs ls) p q = tt
+module _ {A : Type 0} (read : ℕ → List ℕ → Result A Refusal) (read-in : (n : ℕ) (l : List ℕ) → LineIn (read n l)) where
+  on_line_in : (x : Result A Refusal) (is : Items A) → LineIn x → ItemsIn is → ItemsIn (on_line x is)
+  on_line_in (Err r) is p q = p
+  on_line_in (Ok a) (refused r) p q = q
+  on_line_in (Ok a) (items xs ls) p q = tt
 
   items_in : (k n : ℕ) (ls : List (List ℕ)) → ItemsIn (read_items read k n ls)
   items_in zero n ls = tt
@@ -102,7 +100,7 @@ abbrev HeaderIn : {R D : Type 0} → Header R D → Type 0
 HeaderIn (stopped r) = InTable r
 HeaderIn (header h rs ds) = Unit {0}
 
-module _ {R D : Type 0} (function : ℕ → List ℕ → Line Refusal R) (grid : Head → List (List ℕ) → ℕ → List ℕ → Line Refusal D)
+module _ {R D : Type 0} (function : ℕ → List ℕ → Result R Refusal) (grid : Head → List (List ℕ) → ℕ → List ℕ → Result D Refusal)
     (function-in : (n : ℕ) (l : List ℕ) → LineIn (function n l)) (grid-in : (h : Head) (ls : List (List ℕ)) (n : ℕ) (l : List ℕ) → LineIn (grid h ls n l)) where
   ending_in : (n : ℕ) (ls : List (List ℕ)) (x : Header R D) → HeaderIn x → HeaderIn (ending n ls x)
   ending_in n [] x p = refl
@@ -129,18 +127,21 @@ module _ {R D : Type 0} (function : ℕ → List ℕ → Line Refusal R) (grid :
 
 -- ---- reading and writing
 
-readings : Answers (λ (x : Reading). x.verdict ≡ Ok tt) (λ (x : Reading). refusal_of x.verdict) refused_reading
-readings = record { back = λ r. refl; never = no_acceptance }
+readings : Answers (λ (x : Result Group Refusal). (g : Group) × (x ≡ Ok g)) read_refusal Err
+readings = record { back = λ r. refl; never = λ r e. absurd (no_group e.0 r e.1) }
+  where
+    no_group : (g : Group) (r : Refusal) → Err r ≡ Ok g → ⊥
+    no_group g r e = let z : ◌≡◌ {A = ℕ} 0 1 = cc in omega arith
 
-pub read_told : (t : List ℕ) → Told ((read_header t).verdict ≡ Ok tt) (refusal_of (read_header t).verdict)
+pub read_told : (t : List ℕ) → Told ((g : Group) × (read_header t ≡ Ok g)) (read_refusal (read_header t))
 unfolding read_header
 read_told t =
     in_lines (read_lines t)
     (lines_in function_line grid_lines kinds_in (λ h ls. line_in 1 8 grid_texts grid_fit grid_of grid_keyword) t)
   where
-    in_lines : (x : Header Function Grid) → HeaderIn x → Told ((judged_reading x).verdict ≡ Ok tt) (refusal_of (judged_reading x).verdict)
+    in_lines : (x : Header Function Grid) → HeaderIn x → Told ((g : Group) × (judged_reading x ≡ Ok g)) (read_refusal (judged_reading x))
     in_lines (stopped r) p = told_by readings r p
-    in_lines (header h rs ds) p = told_verdict readings (judged (group_of_lines h rs ds)) (judged_told (group_of_lines h rs ds)) (told_accepted refl)
+    in_lines (header h rs ds) p = told_verdict readings (judged (group_of_lines h rs ds)) (judged_told (group_of_lines h rs ds)) (told_accepted (_, refl))
 
 -- a refusal is no count
 pub no_count : (n : ℕ) (r : Refusal) → Err r ≡ Ok n → ⊥

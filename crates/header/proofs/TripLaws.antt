@@ -18,16 +18,13 @@ use Rattle.group.specs.declared.Function.{Function}
 use Rattle.group.specs.declared.Grid.{Grid}
 use Rattle.group.specs.declared.Group.{Group}
 use Rattle.group.specs.Blank.{blank_function, blank_grid}
-use Rattle.group.proofs.RefusalLaws.{no_acceptance}
 use Rattle.judge.specs.Judge.{judged}
 use Rattle.line.specs.declared.Head.{Head}
-use Rattle.line.specs.Line.{Line, good, bad}
 use Rattle.line.specs.Lines.{head_line, head_text, function_line, function_text, grid_text}
 use Rattle.line.proofs.LineLaws.{limited, Kind}
 use Rattle.line.proofs.KindLaws.{FunctionFormed, GridFormed, HeadFormed, head_within, head_kind, function_kind, grid_kind}
-use Rattle.header.specs.declared.Reading.{Reading}
 use Rattle.header.specs.Items.{Items, refused, items, on_line, read_items, closed, entries}
-use Rattle.header.specs.Whole.{Header, stopped, header, ending, after_grids, after_functions_of, after_head_of, read_lines_of, grid_lines, read_lines, group_of_lines, accepted_reading, lines_text, header_text}
+use Rattle.header.specs.Whole.{Header, stopped, header, ending, after_grids, after_functions_of, after_head_of, read_lines_of, grid_lines, read_lines, group_of_lines, lines_text, header_text}
 use Rattle.header.specs.Header.{verdict_reading, judged_reading, read_header}
 use Rattle.header.proofs.ItemLaws.{All, beyond, limited_items, limited_none, closed_line, read_closed, closed_read, count_read}
 use Rattle.std.specs.Prelude.{Result, Ok, Err, ⊤}
@@ -36,13 +33,13 @@ use Rattle.std.specs.Prelude.{Result, Ok, Err, ⊤}
 
 -- what is asked of the grid lines. Their kind may go by the group line and by the parts from the first of them on: by those of text
 -- that was written, each record within its limits comes back; by those that W holds of, each line comes back
-pub record GridKind {D : Type 0} (grid : Head → List (List ℕ) → ℕ → List ℕ → Line Refusal D) (text : D → List ℕ) (P : Head → ℕ → D → Type 0) (fits : D → Bool) (W : Head → List (List ℕ) → Type 0) : Type 0 where
+pub record GridKind {D : Type 0} (grid : Head → List (List ℕ) → ℕ → List ℕ → Result D Refusal) (text : D → List ℕ) (P : Head → ℕ → D → Type 0) (fits : D → Bool) (W : Head → List (List ℕ) → Type 0) : Type 0 where
   pub free : (h : Head) (n : ℕ) (d : D) → P h n d → Free 10 (text d)
   pub back : (h : Head) (d₀ : D) (ds : List D) (m : ℕ) → All (P h) m (d₀ ∷ ds) → (n : ℕ) (d : D) → P h n d → grid h (split 10 (closed text (d₀ ∷ ds))) n (text d) ≡ limited fits (refusal 2) n d
-  pub same : (h : Head) (ls : List (List ℕ)) → W h ls → (n : ℕ) (l : List ℕ) (d : D) → grid h ls n l ≡ good d → text d ≡ l
+  pub same : (h : Head) (ls : List (List ℕ)) → W h ls → (n : ℕ) (l : List ℕ) (d : D) → grid h ls n l ≡ Ok d → text d ≡ l
 
 -- what is left is never nothing, so there was something
-some_lines : {A : Type 0} (read : ℕ → List ℕ → Line Refusal A) (k n : ℕ) (ls : List (List ℕ)) (xs : List A) (p : List ℕ) (ps : List (List ℕ)) → read_items read k n ls ≡ items xs (p ∷ ps)
+some_lines : {A : Type 0} (read : ℕ → List ℕ → Result A Refusal) (k n : ℕ) (ls : List (List ℕ)) (xs : List A) (p : List ℕ) (ps : List (List ℕ)) → read_items read k n ls ≡ items xs (p ∷ ps)
     → (q : List ℕ) × (qs : List (List ℕ)) × (ls ≡ q ∷ qs)
 some_lines read zero n ls xs p ps e = (p, ps, cc)
 some_lines read (suc k) n [] xs p ps e = let z : ◌≡◌ {A = ℕ} 0 1 = cc in absurd (omega arith)
@@ -52,8 +49,8 @@ one_only : {A : Type 0} (x : A) (xs : List A) → length (x ∷ xs) ≡ 1 → xs
 one_only x [] h = refl
 one_only x (y ∷ xs) h = absurd (omega arith)
 
-module _ {R D : Type 0} (function : ℕ → List ℕ → Line Refusal R) (functionT : R → List ℕ) (RP : ℕ → R → Type 0) (rfits : R → Bool) (rk : Kind function functionT RP (limited rfits (refusal 2)))
-    (grid : Head → List (List ℕ) → ℕ → List ℕ → Line Refusal D) (gridT : D → List ℕ) (DP : Head → ℕ → D → Type 0) (dfits : D → Bool) (W : Head → List (List ℕ) → Type 0) (dk : GridKind grid gridT DP dfits W) where
+module _ {R D : Type 0} (function : ℕ → List ℕ → Result R Refusal) (functionT : R → List ℕ) (RP : ℕ → R → Type 0) (rfits : R → Bool) (rk : Kind function functionT RP (limited rfits (refusal 2)))
+    (grid : Head → List (List ℕ) → ℕ → List ℕ → Result D Refusal) (gridT : D → List ℕ) (DP : Head → ℕ → D → Type 0) (dfits : D → Bool) (W : Head → List (List ℕ) → Type 0) (dk : GridKind grid gridT DP dfits W) where
   closed_grids : (dd : D) (h : Head) (n count : ℕ) (ds : List D) → count ≤ length ds → All (DP h) n (take count ds)
       → read_items (grid h (split 10 (closed gridT (take count ds)))) count n (split 10 (closed gridT (take count ds))) ≡ limited_items dfits dd ds count n ([] ∷ [])
   closed_grids dd h n zero ds l f = limited_none dfits dd ds n ([] ∷ [])
@@ -75,13 +72,13 @@ module _ {R D : Type 0} (function : ℕ → List ℕ → Line Refusal R) (functi
     lines = read_lines_of function grid (lines_text functionT gridT h (take h.functions rs) (take h.grids ds))
 
     abbrev behind_head : Bool → Header R D
-    behind_head b = after_head_of function grid (on_line (cond b (good h) (bad (refusal 2 1))) (items [] (split 10 (function_run ++ grid_run))))
+    behind_head b = after_head_of function grid (on_line (cond b (Ok h) (Err (refusal 2 1))) (items [] (split 10 (function_run ++ grid_run))))
 
     head_read : lines ≡ behind_head (head_within h)
     head_read =
         ap (λ (t : List ℕ). after_head_of function grid (read_items head_line 1 1 (split 10 t))) (append_assoc (head_text h) (10 ∷ []) (function_run ++ grid_run))
         ∙ ap (after_head_of function grid) (closed_line head_line head_text 0 1 (head_text h) (function_run ++ grid_run) (head_kind.free 1 h fh))
-        ∙ ap (λ (l : Line Refusal Head). after_head_of function grid (on_line l (items [] (split 10 (function_run ++ grid_run))))) (head_kind.back 1 h fh)
+        ∙ ap (λ (l : Result Head Refusal). after_head_of function grid (on_line l (items [] (split 10 (function_run ++ grid_run))))) (head_kind.back 1 h fh)
 
     pub head_stops : head_within h ≡ false → lines ≡ stopped (refusal 2 1)
     head_stops e = head_read ∙ ap behind_head e
@@ -187,21 +184,22 @@ Read = Same function_line function_text FunctionFormed function_fits function_ki
 take_entries : {A : Type 0} (size : ℕ) (z : A) (xs : List A) (n : ℕ) → length xs ≡ n → take n (entries size z xs) ≡ xs
 take_entries size z xs n e = take_at xs (replicate (size - length xs) z) n e
 
-pub same_bytes : (t : List ℕ) (g : Group) → read_header t ≡ accepted_reading g → header_text g ≡ t
+pub same_bytes : (t : List ℕ) (g : Group) → read_header t ≡ Ok g → header_text g ≡ t
 unfolding read_header header_text
 same_bytes t g e = in_lines (read_lines t) refl e
   where
-    in_verdict : (h : Head) (rs : List Function) (ds : List Grid) (v : Result ⊤ Refusal) → Read t h rs ds → verdict_reading (group_of_lines h rs ds) v ≡ accepted_reading g → header_text g ≡ t
-    in_verdict h rs ds (Err r) s f = absurd (no_acceptance r (ap (λ (a : Reading). a.verdict) f))
+    in_verdict : (h : Head) (rs : List Function) (ds : List Grid) (v : Result ⊤ Refusal) → Read t h rs ds → verdict_reading (group_of_lines h rs ds) v ≡ Ok g → header_text g ≡ t
+    in_verdict h rs ds (Err r) s f = cc
     in_verdict h rs ds (Ok tt) s f =
-        ap header_text (sym (ap (λ (a : Reading). a.group) f))
+        let m : group_of_lines h rs ds ≡ g = cc in
+        ap header_text (sym m)
         ∙ (λ i. lines_text function_text grid_text h (take_entries functions_most blank_function rs h.functions s.functions i) (take_entries grids_most blank_grid ds h.grids s.grids i))
         ∙ s.text tt
 
-    in_lines : (x : Header Function Grid) → read_lines t ≡ x → judged_reading x ≡ accepted_reading g → header_text g ≡ t
-    in_lines (stopped r) p f = absurd (no_acceptance r (ap (λ (a : Reading). a.verdict) f))
+    in_lines : (x : Header Function Grid) → read_lines t ≡ x → judged_reading x ≡ Ok g → header_text g ≡ t
+    in_lines (stopped r) p f = cc
     in_lines (header h rs ds) p f = in_verdict h rs ds (judged (group_of_lines h rs ds)) (same_lines function_line function_text FunctionFormed function_fits function_kind grid_lines grid_text GridsFormed grid_fits Always grid_lines_lem t h rs ds p) f
 
 -- so the text of a group is unique
-pub one_text : (g : Group) (t u : List ℕ) → read_header t ≡ accepted_reading g → read_header u ≡ accepted_reading g → t ≡ u
+pub one_text : (g : Group) (t u : List ℕ) → read_header t ≡ Ok g → read_header u ≡ Ok g → t ≡ u
 one_text g t u p q = sym (same_bytes t g p) ∙ same_bytes u g q

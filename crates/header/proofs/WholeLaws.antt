@@ -15,31 +15,13 @@ use Rattle.group.specs.Numbers.{functions_most, grids_most}
 use Rattle.group.specs.declared.Refusal.{Refusal}
 use Rattle.line.specs.declared.Head.{Head}
 use Rattle.group.specs.Refusals.{refusal}
-use Rattle.line.specs.Line.{Line, bad, good}
-use Rattle.header.specs.Items.{Items, refused, items, on_line, read_items, verdict_of, found_of, behind_of, Are}
+use Rattle.header.specs.Items.{Items, refused, items, on_line, read_items}
 use Rattle.line.specs.Lines.{fields, group_keyword, head_texts, head_fit, head_of, head_line}
 use Rattle.header.specs.Whole.{Header, stopped, header, ending, after_grids, after_functions_of, after_head_of, read_lines_of}
 use Rattle.line.proofs.LineLaws.{keyed_good, fields_good, four_of_lem}
 use Rattle.line.proofs.LimitLaws.{head_sizes}
 use Rattle.header.proofs.ItemLaws.{none_closed, one_closed}
-use Rattle.std.specs.Prelude.{Result, Ok, Err, ⊤}
-
--- ---- an answer about several lines, by its verdict
-
-module _ {A : Type 0} (size : ℕ) (z : A) (text : List ℕ) (is : Items A) (v : Result ⊤ Refusal) (array : List A) (next : ℕ) (a : Are size z text is v array next) where
-  are_refused : (r : Refusal) → v ≡ Err r → is ≡ refused r
-  are_refused r e = go is (sym a.judged ∙ e)
-    where
-      go : (x : Items A) → verdict_of x ≡ Err r → x ≡ refused r
-      go (refused s) h = let y : s ≡ r = cc in ap refused y
-      go (items xs ls) h = let y : ◌≡◌ {A = ℕ} 0 1 = cc in absurd (omega arith)
-
-  are_accepted : v ≡ Ok tt → is ≡ items (found_of is) (split 10 (drop next text))
-  are_accepted e = go is (sym a.judged ∙ e) ∙ ap (items (found_of is)) (sym (a.behind e))
-    where
-      go : (x : Items A) → verdict_of x ≡ Ok tt → x ≡ items (found_of x) (behind_of x)
-      go (refused s) h = let y : ◌≡◌ {A = ℕ} 0 1 = cc in absurd (omega arith)
-      go (items xs ls) h = refl
+use Rattle.std.specs.Prelude.{Result, Ok, Err}
 
 -- ---- the end of a text
 
@@ -54,40 +36,42 @@ ending_more n (x ∷ xs) h l = let p = first_part 10 xs in rw p.1.1 (go (eqb x 1
 -- ---- the lines behind the group line
 
 -- over any two kinds of line
-module _ {R D : Type 0} (function : ℕ → List ℕ → Line Refusal R) (grid : Head → List (List ℕ) → ℕ → List ℕ → Line Refusal D) where
-  module _ (functionSize gridSize : ℕ) (function_blank : R) (grid_blank : D) where
-    module _ (text : List ℕ) (at : ℕ) (h : Head) where
-      abbrev pub function_items : Items R
-      function_items = read_items function h.functions 2 (split 10 (drop at text))
+module _ {R D : Type 0} (function : ℕ → List ℕ → Result R Refusal) (grid : Head → List (List ℕ) → ℕ → List ℕ → Result D Refusal) where
+  module _ (text : List ℕ) (at : ℕ) (h : Head) where
+    abbrev pub function_items : Items R
+    function_items = read_items function h.functions 2 (split 10 (drop at text))
 
-      abbrev pub grid_items : ℕ → Items D
-      grid_items next = read_items (grid h (split 10 (drop next text))) h.grids (2 + h.functions) (split 10 (drop next text))
+    abbrev pub grid_items : ℕ → Items D
+    grid_items next = read_items (grid h (split 10 (drop next text))) h.grids (2 + h.functions) (split 10 (drop next text))
 
-      module _ (v : Result ⊤ Refusal) (rs : List R) (next : ℕ) (a : Are functionSize function_blank text function_items v rs next) where
-        pub functions_stop : (r : Refusal) → v ≡ Err r → after_functions_of function grid h function_items ≡ stopped r
-        functions_stop r e = ap (after_functions_of function grid h) (are_refused functionSize function_blank text function_items v rs next a r e)
+    abbrev behind : Header R D
+    behind = after_functions_of function grid h function_items
 
-        module _ (e : v ≡ Ok tt) (w : Result ⊤ Refusal) (ds : List D) (end : ℕ) (b : Are gridSize grid_blank text (grid_items next) w ds end) where
-          functioned : after_functions_of function grid h function_items ≡ after_grids (2 + h.functions + h.grids) h (found_of function_items) (grid_items next)
-          functioned = ap (after_functions_of function grid h) (are_accepted functionSize function_blank text function_items v rs next a e)
+    pub functions_stop : (r : Refusal) → function_items ≡ refused r → behind ≡ stopped r
+    functions_stop r e = ap (after_functions_of function grid h) e
 
-          pub grids_stop : (r : Refusal) → w ≡ Err r → after_functions_of function grid h function_items ≡ stopped r
-          grids_stop r f = functioned ∙ ap (after_grids (2 + h.functions + h.grids) h (found_of function_items)) (are_refused gridSize grid_blank text (grid_items next) w ds end b r f)
+    module _ (rs : List R) (next : ℕ) (e : function_items ≡ items rs (split 10 (drop next text))) where
+      functioned : behind ≡ after_grids (2 + h.functions + h.grids) h rs (grid_items next)
+      functioned = ap (after_functions_of function grid h) e
 
-          gridded : w ≡ Ok tt → after_functions_of function grid h function_items ≡ ending (2 + h.functions + h.grids) (split 10 (drop end text)) (header h (found_of function_items) (found_of (grid_items next)))
-          gridded f = functioned ∙ ap (after_grids (2 + h.functions + h.grids) h (found_of function_items)) (are_accepted gridSize grid_blank text (grid_items next) w ds end b f)
+      pub grids_stop : (r : Refusal) → grid_items next ≡ refused r → behind ≡ stopped r
+      grids_stop r f = functioned ∙ ap (after_grids (2 + h.functions + h.grids) h rs) f
 
-          pub more_stops : w ≡ Ok tt → (end ≡ length text → ⊥) → after_functions_of function grid h function_items ≡ stopped (refusal 1 (2 + h.functions + h.grids))
-          more_stops f q = gridded f ∙ ending_more _ (drop end text) _ left
-            where
-              left : 0 < length (drop end text)
-              left = let r = b.room in let d = length-drop end text in elim (dec_lt end (length text)) [ yes l ↦ omega arith | no l ↦ absurd (q (omega arith)) ]
+      module _ (ds : List D) (end : ℕ) (f : grid_items next ≡ items ds (split 10 (drop end text))) (room : end ≤ length text) where
+        gridded : behind ≡ ending (2 + h.functions + h.grids) (split 10 (drop end text)) (header h rs ds)
+        gridded = functioned ∙ ap (after_grids (2 + h.functions + h.grids) h rs) f
 
-          pub entries_done : w ≡ Ok tt → end ≡ length text → after_functions_of function grid h function_items ≡ header h (found_of function_items) (found_of (grid_items next))
-          entries_done f q =
-              let l : length text ≤ end = omega arith in
-              let d : drop end text ≡ [] = drop_of_length-le text l in
-              gridded f ∙ ap (λ (s : List ℕ). ending (2 + h.functions + h.grids) (split 10 s) (header h (found_of function_items) (found_of (grid_items next)))) d
+        pub more_stops : (end ≡ length text → ⊥) → behind ≡ stopped (refusal 1 (2 + h.functions + h.grids))
+        more_stops q = gridded ∙ ending_more _ (drop end text) _ left
+          where
+            left : 0 < length (drop end text)
+            left = let d = length-drop end text in elim (dec_lt end (length text)) [ yes l ↦ omega arith | no l ↦ absurd (q (omega arith)) ]
+
+        pub entries_done : end ≡ length text → behind ≡ header h rs ds
+        entries_done q =
+            let l : length text ≤ end = omega arith in
+            let d : drop end text ≡ [] = drop_of_length-le text l in
+            gridded ∙ ap (λ (s : List ℕ). ending (2 + h.functions + h.grids) (split 10 s) (header h rs ds)) d
 
   -- ---- the group line
 
@@ -96,26 +80,28 @@ module _ {R D : Type 0} (function : ℕ → List ℕ → Line Refusal R) (grid :
     head_unclosed q = ap (λ (ls : List (List ℕ)). after_head_of function grid (read_items head_line 1 1 ls)) (none_closed text 0 e found (omega arith) q)
 
     module _ (q : e ≡ length text → ⊥) where
-      head_line_lem : read_lines_of function grid text ≡ after_head_of function grid (on_line (head_line 1 (take (e - 0) (drop 0 text))) (items [] (split 10 (drop (e + 1) text))))
+      head_line_lem : read_lines_of function grid text ≡ after_head_of function grid (on_line (head_line 1 (take e text)) (items [] (split 10 (drop (e + 1) text))))
       head_line_lem =
           let p = first_part 10 (drop (e + 1) text) in
-          ap (λ (ls : List (List ℕ)). after_head_of function grid (read_items head_line 1 1 ls)) (one_closed text 0 e found (omega arith) q ∙ ap (λ (ls : List (List ℕ)). take (e - 0) (drop 0 text) ∷ ls) p.1.1)
-          ∙ ap (λ (ls : List (List ℕ)). after_head_of function grid (on_line (head_line 1 (take (e - 0) (drop 0 text))) (items [] ls))) (sym p.1.1)
+          let z : e - 0 ≡ e = omega arith in
+          ap (λ (ls : List (List ℕ)). after_head_of function grid (read_items head_line 1 1 ls))
+          (one_closed text 0 e found (omega arith) q ∙ (λ i. take (z i) text ∷ split 10 (drop (e + 1) text)) ∙ ap (λ (ls : List (List ℕ)). take e text ∷ ls) p.1.1)
+          ∙ ap (λ (ls : List (List ℕ)). after_head_of function grid (on_line (head_line 1 (take e text)) (items [] ls))) (sym p.1.1)
 
-      pub head_stops : (r : Refusal) → head_line 1 (take (e - 0) (drop 0 text)) ≡ bad r → read_lines_of function grid text ≡ stopped r
-      head_stops r b = head_line_lem ∙ ap (λ (l : Line Refusal Head). after_head_of function grid (on_line l (items [] (split 10 (drop (e + 1) text))))) b
+      pub head_stops : (r : Refusal) → head_line 1 (take e text) ≡ Err r → read_lines_of function grid text ≡ stopped r
+      head_stops r b = head_line_lem ∙ ap (λ (l : Result Head Refusal). after_head_of function grid (on_line l (items [] (split 10 (drop (e + 1) text))))) b
 
-      pub head_goes : (h : Head) → head_line 1 (take (e - 0) (drop 0 text)) ≡ good h → read_lines_of function grid text ≡ after_functions_of function grid h (read_items function h.functions 2 (split 10 (drop (e + 1) text)))
-      head_goes h g = head_line_lem ∙ ap (λ (l : Line Refusal Head). after_head_of function grid (on_line l (items [] (split 10 (drop (e + 1) text))))) g
+      pub head_goes : (h : Head) → head_line 1 (take e text) ≡ Ok h → read_lines_of function grid text ≡ after_functions_of function grid h (read_items function h.functions 2 (split 10 (drop (e + 1) text)))
+      head_goes h g = head_line_lem ∙ ap (λ (l : Result Head Refusal). after_head_of function grid (on_line l (items [] (split 10 (drop (e + 1) text))))) g
 
 -- the counts of a group line that is read
-pub head_counts : (n : ℕ) (line : List ℕ) (h : Head) → head_line n line ≡ good h → (h.functions ≤ functions_most) × (h.grids ≤ grids_most)
-head_counts n line h e = ⊎_elim (λ w. go w.0 w.2) (λ w. let z : ◌≡◌ {A = ℕ} 0 1 = cc in absurd (omega arith)) (keyed_good group_keyword of (λ fs. bad (refusal 1 n)) (split 9 line) h e)
+pub head_counts : (n : ℕ) (line : List ℕ) (h : Head) → head_line n line ≡ Ok h → (h.functions ≤ functions_most) × (h.grids ≤ grids_most)
+head_counts n line h e = ⊎_elim (λ w. go w.0 w.2) (λ w. let z : ◌≡◌ {A = ℕ} 0 1 = cc in absurd (omega arith)) (keyed_good group_keyword of (λ fs. Err (refusal 1 n)) (split 9 line) h e)
   where
-    of : List (List ℕ) → Line Refusal Head
+    of : List (List ℕ) → Result Head Refusal
     of = fields 2 4 head_texts head_fit head_of (refusal 1 n) (refusal 2 n)
 
-    go : (fs : List (List ℕ)) → of fs ≡ good h → (h.functions ≤ functions_most) × (h.grids ≤ grids_most)
+    go : (fs : List (List ℕ)) → of fs ≡ Ok h → (h.functions ≤ functions_most) × (h.grids ≤ grids_most)
     go fs f =
         let g = fields_good 2 4 head_texts head_fit head_of (refusal 1 n) (refusal 2 n) fs h f in
         let k : length g.zs ≡ 4 = length_ints (drop 2 fs) g.zs g.numbered ∙ length-drop 2 fs ∙ (let c = g.count in omega arith) in

@@ -1,15 +1,13 @@
 -- Demand 2 of the header text in its own words, of what reading and writing answer; and a group as a record beside its text.
-use Rattle.std.specs.Prelude.{ℕ, ◌≤◌, ◌<◌, ◌≡◌, true, List, length, take, drop, Result, Ok}
+use Rattle.std.specs.Prelude.{ℕ, ◌≤◌, ◌<◌, ◌≡◌, true, List, length, take, drop, Result, Ok, Err}
 use Rattle.group.specs.Numbers.{name_most, functions_most, grids_most}
 use Rattle.group.specs.Record.{function_at, grid_at}
 use Rattle.group.specs.Limits.{name_fits, function_blank, grid_blank}
-use Rattle.group.specs.Blank.{blank_group}
 use Rattle.group.specs.declared.Group.{Group}
 use Rattle.judge.specs.Judge.{judged}
-use Rattle.header.specs.declared.Reading.{Reading}
-use Rattle.header.specs.Whole.{accepted_reading, header_text}
-use Rattle.group.specs.Refusals.{no_refusal, refusal_of}
-use Rattle.header.specs.Header.{read_header, written, written_count, bytes_after}
+use Rattle.header.specs.Whole.{header_text}
+use Rattle.group.specs.Refusals.{no_refusal}
+use Rattle.header.specs.Header.{read_header, written, written_refusal, written_count, bytes_after}
 use Rattle.group.specs.declared.Refusal.{Refusal}
 
 -- the text stands in front, and every byte behind it is as it was
@@ -17,24 +15,20 @@ pub record InFront (text before after : List ℕ) : Type 0 where
   pub front : take (length text) after ≡ text
   pub behind : drop (length text) after ≡ drop (length text) before
 
--- r answers the reading of t
-pub record TextRead (t : List ℕ) (r : Reading) : Type 0 where
+-- r answers the reading of t: a refusal alone, or a group
+pub record TextRead (t : List ℕ) (r : Result Group Refusal) : Type 0 where
   -- the group of an accepted text is accepted by the judge
-  pub accepted : (refusal_of r.verdict).number ≡ 0 → judged r.group ≡ Ok tt
+  pub accepted : (g : Group) → r ≡ Ok g → judged g ≡ Ok tt
   -- and written back as the same bytes into any output that is long enough: the text's length is answered, and the rest stays
-  pub told : (refusal_of r.verdict).number ≡ 0 → (out : List ℕ) → length t ≤ length out
-      → refusal_of (written r.group (length out)) ≡ no_refusal
-  pub count : (refusal_of r.verdict).number ≡ 0 → (out : List ℕ) → length t ≤ length out
-      → written_count (written r.group (length out)) ≡ length t
-  pub bytes : (refusal_of r.verdict).number ≡ 0 → (out : List ℕ) → length t ≤ length out → InFront t out (bytes_after r.group out)
-  -- beside a refusal all numbers are 0, names empty, the unit arc-second
-  pub blank : ((refusal_of r.verdict).number ≡ 0 → ⊥) → r.group ≡ blank_group
+  pub told : (g : Group) → r ≡ Ok g → (out : List ℕ) → length t ≤ length out → written_refusal (written g (length out)) ≡ no_refusal
+  pub count : (g : Group) → r ≡ Ok g → (out : List ℕ) → length t ≤ length out → written_count (written g (length out)) ≡ length t
+  pub bytes : (g : Group) → r ≡ Ok g → (out : List ℕ) → length t ≤ length out → InFront t out (bytes_after g out)
 
 -- w answers the writing of g into `out`, which is `after` then
 pub record TextWritten (g : Group) (out : List ℕ) (w : Result ℕ Refusal) (after : List ℕ) : Type 0 where
   -- the bytes written, as many as the count, read back as that group; all behind them stays
-  pub back : (refusal_of w).number ≡ 0 → read_header (take (written_count w) after) ≡ accepted_reading g
-  pub behind : (refusal_of w).number ≡ 0 → drop (written_count w) after ≡ drop (written_count w) out
+  pub back : (written_refusal w).number ≡ 0 → read_header (take (written_count w) after) ≡ Ok g
+  pub behind : (written_refusal w).number ≡ 0 → drop (written_count w) after ≡ drop (written_count w) out
   -- after a refusal the output is unchanged
   pub unchanged : ((refusal_of w).number ≡ 0 → ⊥) → after ≡ out
 
@@ -56,5 +50,5 @@ pub record Formed (g : Group) : Type 0 where
 -- a group handed over as a record is judged as its text would be: the same verdict, and where accepted that group. A count beyond
 -- its limit stands in the text as it is, before the lines of all entries
 pub record JudgedAsText (g : Group) : Type 0 where
-  pub verdict : (read_header (header_text g)).verdict ≡ judged g
-  pub group : judged g ≡ Ok tt → (read_header (header_text g)).group ≡ g
+  pub refused : (r : Refusal) → judged g ≡ Err r → read_header (header_text g) ≡ Err r
+  pub accepted : judged g ≡ Ok tt → read_header (header_text g) ≡ Ok g

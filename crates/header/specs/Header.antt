@@ -5,23 +5,27 @@ use Rattle.group.specs.declared.Function.{Function}
 use Rattle.group.specs.declared.Grid.{Grid}
 use Rattle.group.specs.declared.Group.{Group}
 use Rattle.judge.specs.Judge.{judged}
-use Rattle.header.specs.declared.Reading.{Reading}
 use Rattle.group.specs.declared.Refusal.{Refusal}
-use Rattle.group.specs.Refusals.{no_refusal, refuse_if, unless_refused, lent_after, refusal_of}
-use Rattle.header.specs.Whole.{Header, stopped, header, read_lines, group_of_lines, refused_reading, accepted_reading, header_text}
+use Rattle.group.specs.Refusals.{no_refusal, refuse_if, unless_refused, lent_after}
+use Rattle.header.specs.Whole.{Header, stopped, header, read_lines, group_of_lines, header_text}
 
 -- a group that was read: its judge's refusal, else the group
-abbrev pub verdict_reading : Group → Result ⊤ Refusal → Reading
-verdict_reading g v = unless_refused refused_reading v (accepted_reading g)
+abbrev pub verdict_reading : Group → Result ⊤ Refusal → Result Group Refusal
+verdict_reading g v = unless_refused Err v (Ok g)
 
 -- the lines that were read: their refusal, else the group that they make, judged
-abbrev pub judged_reading : Header Function Grid → Reading
-judged_reading (stopped r) = refused_reading r
+abbrev pub judged_reading : Header Function Grid → Result Group Refusal
+judged_reading (stopped r) = Err r
 judged_reading (header h rs ds) = verdict_reading (group_of_lines h rs ds) (judged (group_of_lines h rs ds))
 
 -- reading goes line by line, 1 before 2 on one line, then 3, 4, 5
-unfoldable pub read_header : List ℕ → Reading
+unfoldable pub read_header : List ℕ → Result Group Refusal
 read_header text = judged_reading (read_lines text)
+
+-- what reading refuses
+abbrev pub read_refusal : Result Group Refusal → Refusal
+read_refusal (Ok g) = no_refusal
+read_refusal (Err r) = r
 
 -- what writing answers: 2 to 5, then 12, else the count of bytes
 unfoldable pub written : Group → ℕ → Result ℕ Refusal

@@ -1,9 +1,8 @@
 -- Several records, one to a line.
-use Rattle.std.specs.Prelude.{ℕ, zero, suc, ◌-◌, ◌≤◌, ◌≡◌, length, drop, replicate, List, [], ◌∷◌, ◌++◌, Result, Ok, Err, ⊤}
+use Rattle.std.specs.Prelude.{ℕ, zero, suc, ◌-◌, ◌≤◌, ◌≡◌, length, drop, replicate, List, [], ◌∷◌, ◌++◌, Result, Ok, Err, MatchResult}
 use Rattle.text.specs.Parts.{split}
 use Rattle.group.specs.declared.Refusal.{Refusal}
 use Rattle.group.specs.Refusals.{refusal}
-use Rattle.line.specs.Line.{Line, bad, good}
 
 -- some lines read as records: the first refusal, or the records and the parts behind them
 pub data Items (A : Type 0) : Type 0 where
@@ -11,14 +10,14 @@ pub data Items (A : Type 0) : Type 0 where
   items : List A → List (List ℕ) → Items A
 
 module _ {A : Type 0} where
-  abbrev pub on_line : Line Refusal A → Items A → Items A
-  on_line (bad r) is = refused r
-  on_line (good a) (refused r) = refused r
-  on_line (good a) (items xs ls) = items (a ∷ xs) ls
+  abbrev pub on_line : Result A Refusal → Items A → Items A
+  on_line (Err r) is = refused r
+  on_line (Ok a) (refused r) = refused r
+  on_line (Ok a) (items xs ls) = items (a ∷ xs) ls
 
   -- k records from line n on. The parts of a text at its line feeds are its closed lines and what stands behind the last line
   -- feed, which is no line
-  abbrev pub read_items : (ℕ → List ℕ → Line Refusal A) → ℕ → ℕ → List (List ℕ) → Items A
+  abbrev pub read_items : (ℕ → List ℕ → Result A Refusal) → ℕ → ℕ → List (List ℕ) → Items A
   read_items read zero n ls = items [] ls
   read_items read (suc k) n [] = refused (refusal 1 n)
   read_items read (suc k) n (l ∷ []) = refused (refusal 1 n)
@@ -33,21 +32,6 @@ module _ {A : Type 0} where
   abbrev pub entries : ℕ → A → List A → List A
   entries n z xs = xs ++ replicate (n - length xs) z
 
-  abbrev pub verdict_of : Items A → Result ⊤ Refusal
-  verdict_of (refused r) = Err r
-  verdict_of (items xs ls) = Ok tt
-
-  abbrev pub found_of : Items A → List A
-  found_of (refused r) = []
-  found_of (items xs ls) = xs
-
-  abbrev pub behind_of : Items A → List (List ℕ)
-  behind_of (refused r) = []
-  behind_of (items xs ls) = ls
-
-  -- the lines of a text read as records into an array: the verdict, the entries, and the place behind the last line
-  pub record Are (size : ℕ) (blank : A) (text : List ℕ) (is : Items A) (verdict : Result ⊤ Refusal) (array : List A) (next : ℕ) : Type 0 where
-    pub judged : verdict ≡ verdict_of is
-    pub filled : array ≡ entries size blank (found_of is)
-    pub behind : verdict ≡ Ok tt → split 10 (drop next text) ≡ behind_of is
-    pub room : next ≤ length text
+  -- the lines of a text read as records, of which `is` says which they are: the records, and the place behind the last line, or the first refusal
+  abbrev pub Are : (text : List ℕ) → Items A → List A → Result ℕ Refusal → Type 0
+  Are text is xs r = MatchResult r (λ next. (is ≡ items xs (split 10 (drop next text))) × (next ≤ length text)) (λ q. is ≡ refused q)

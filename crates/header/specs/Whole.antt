@@ -1,5 +1,5 @@
 -- A whole header: the group line, its functions, its grids, and nothing behind them.
-use Rattle.std.specs.Prelude.{ℕ, ◌+◌, List, [], ◌∷◌, ◌++◌, take, Ok, Err}
+use Rattle.std.specs.Prelude.{ℕ, ◌+◌, List, [], ◌∷◌, ◌++◌, take, Result, Ok, Err}
 use Rattle.text.specs.Parts.{split}
 use Rattle.group.specs.Numbers.{functions_most, grids_most}
 use Rattle.group.specs.declared.Refusal.{Refusal}
@@ -7,10 +7,8 @@ use Rattle.group.specs.declared.Function.{Function}
 use Rattle.group.specs.declared.Grid.{Grid}
 use Rattle.group.specs.declared.Group.{Group}
 use Rattle.line.specs.declared.Head.{Head}
-use Rattle.header.specs.declared.Reading.{Reading}
-use Rattle.group.specs.Blank.{blank_function, blank_grid, blank_group}
+use Rattle.group.specs.Blank.{blank_function, blank_grid}
 use Rattle.group.specs.Refusals.{refusal}
-use Rattle.line.specs.Line.{Line}
 use Rattle.header.specs.Items.{Items, refused, items, read_items, closed, entries}
 use Rattle.line.specs.Lines.{head_line, head_text, function_line, function_text, grid_line, grid_text}
 
@@ -33,7 +31,7 @@ module _ {R D : Type 0} where
 
 -- over any two kinds of line: that of the functions, and that of the grids, which may go by the group line and by the parts of the text
 -- from the first grid line on
-module _ {R D : Type 0} (function : ℕ → List ℕ → Line Refusal R) (grid : Head → List (List ℕ) → ℕ → List ℕ → Line Refusal D) where
+module _ {R D : Type 0} (function : ℕ → List ℕ → Result R Refusal) (grid : Head → List (List ℕ) → ℕ → List ℕ → Result D Refusal) where
   abbrev pub after_functions_of : Head → Items R → Header R D
   after_functions_of h (refused r) = stopped r
   after_functions_of h (items rs ls) = after_grids (2 + h.functions + h.grids) h rs (read_items (grid h ls) h.grids (2 + h.functions) ls)
@@ -52,7 +50,7 @@ module _ {R D : Type 0} (function : ℕ → List ℕ → Line Refusal R) (grid :
   read_lines_of text = after_head_of (read_items head_line 1 1 (split 10 text))
 
 -- all grid lines are of one kind
-abbrev pub grid_lines : Head → List (List ℕ) → ℕ → List ℕ → Line Refusal Grid
+abbrev pub grid_lines : Head → List (List ℕ) → ℕ → List ℕ → Result Grid Refusal
 grid_lines h ls = grid_line
 
 abbrev pub read_lines : List ℕ → Header Function Grid
@@ -72,15 +70,10 @@ group_of_lines h rs ds =
       grid = entries grids_most blank_grid ds;
     }
 
-abbrev pub refused_reading : Refusal → Reading
-refused_reading r = record { verdict = Err r; group = blank_group }
-
-abbrev pub accepted_reading : Group → Reading
-accepted_reading g = record { verdict = Ok tt; group = g }
-
-abbrev pub lines_reading : Header Function Grid → Reading
-lines_reading (stopped r) = refused_reading r
-lines_reading (header h rs ds) = accepted_reading (group_of_lines h rs ds)
+-- a text's first refusal, or the record of its lines
+abbrev pub lines_reading : Header Function Grid → Result Group Refusal
+lines_reading (stopped r) = Err r
+lines_reading (header h rs ds) = Ok (group_of_lines h rs ds)
 
 -- the lines of a group
 abbrev pub head_of_group : Group → Head
