@@ -15,13 +15,14 @@ use Rattle.group.specs.declared.Refusal.{Refusal}
 use Rattle.group.proofs.RefusalLaws.{passed_if, passed_verdict, not_zero, lent_kept}
 use Rattle.judge.specs.Judge.{judged}
 use Rattle.header.specs.Whole.{Header, stopped, header, read_lines, group_of_lines, header_text}
-use Rattle.header.specs.Header.{verdict_reading, judged_reading, read_header, written, written_refusal, written_count, bytes_after}
+use Rattle.header.specs.Header.{verdict_reading, judged_reading, read_header, written, written_count, bytes_after}
 use Rattle.header.specs.Demand2.{InFront, TextRead, TextWritten, Shaped, Formed, JudgedAsText}
 use Rattle.header.proofs.HeaderLaws.{count_answer}
 use Rattle.header.proofs.TableLaws.{no_count, written_told}
 use Rattle.header.proofs.TripLaws.{same_bytes}
 use Rattle.header.proofs.FormedLaws.{as_text, same_group}
 use Rattle.std.specs.Prelude.{Result, Ok, Err, ⊤}
+use Rattle.group.specs.Refusals.{refusal_of}
 
 pub put_front : (t out : List ℕ) → InFront t out (put 0 t out)
 unfolding put
@@ -53,7 +54,7 @@ pub text_read : (t : List ℕ) → TextRead t (read_header t)
 text_read t =
     record {
       accepted = judged_read t;
-      told = λ g e out l. ap written_refusal (sym (written_back t g e out l).0);
+      told = λ g e out l. ap refusal_of (sym (written_back t g e out l).0);
       count = λ g e out l. ap written_count (sym (written_back t g e out l).0);
       bytes = λ g e out l. subst (InFront t out) (written_back t g e out l).1 (put_front t out);
     }

@@ -12,7 +12,7 @@ use Rattle.text.specs.Wrote.{Wrote}
 use Rattle.group.specs.declared.Function.{Function}
 use Rattle.group.specs.declared.Grid.{Grid}
 use Rattle.group.specs.declared.Group.{Group}
-use Rattle.group.specs.Refusals.{refusal, no_refusal, refuse_if, lent_after}
+use Rattle.group.specs.Refusals.{refusal, no_refusal, refuse_if, lent_after, refusal_of}
 use Rattle.group.proofs.RefusalLaws.{if_here, if_past, not_zero, lent_new, lent_kept}
 use Rattle.header.specs.Items.{closed}
 use Rattle.line.specs.Lines.{head_text, function_text, grid_text}
@@ -20,7 +20,7 @@ use Rattle.group.specs.declared.Refusal.{Refusal}
 use Rattle.judge.specs.Judge.{judged}
 use Rattle.judge.proofs.TableLaws.{judged_table}
 use Rattle.header.specs.Whole.{Header, stopped, header, read_lines, group_of_lines, lines_reading, head_of_group, header_text}
-use Rattle.header.specs.Header.{verdict_reading, judged_reading, read_header, written, written_refusal, bytes_after}
+use Rattle.header.specs.Header.{verdict_reading, judged_reading, read_header, written, bytes_after}
 use Rattle.std.specs.Prelude.{Result, Ok, Err, ⊤}
 
 module _ (t : List ℕ) (q : Result Group Refusal) (e : q ≡ lines_reading (read_lines t)) where

@@ -10,7 +10,7 @@ use lib.ListN.{length, drop}
 use lib.IntN.{ℤ}
 use Rattle.text.specs.Parts.{split}
 use Rattle.text.specs.Fields.{same, read_ints}
-use Rattle.group.specs.Refusals.{refusal, in_table, Told}
+use Rattle.group.specs.Refusals.{refusal, in_table, Told, refusal_of}
 use Rattle.group.specs.Shapes.{ramp_of, step_of, ramp2_of}
 use Rattle.group.proofs.RefusalLaws.{Answers, told_accepted, told_by, told_if, told_verdict}
 use Rattle.group.specs.declared.Refusal.{Refusal}
@@ -25,7 +25,7 @@ use Rattle.line.specs.Lines.{keyed, formed, fields, line_of, group_keyword, head
 use Rattle.line.specs.Lines.{ramp_keyword, step_keyword, ramp2_keyword, no_texts, of_shape, shape_fit, shape_fields, function_line}
 use Rattle.header.specs.Items.{Items, refused, items, on_line, read_items}
 use Rattle.header.specs.Whole.{Header, stopped, header, ending, after_grids, after_functions_of, after_head_of, read_lines_of, grid_lines, read_lines, group_of_lines}
-use Rattle.header.specs.Header.{judged_reading, read_header, read_refusal, written, written_refusal}
+use Rattle.header.specs.Header.{judged_reading, read_header, written}
 use Rattle.std.specs.Prelude.{Option, Some, None, Result, Ok, Err}
 
 abbrev InTable : Refusal → Type 0
@@ -127,19 +127,19 @@ module _ {R D : Type 0} (function : ℕ → List ℕ → Result R Refusal) (grid
 
 -- ---- reading and writing
 
-readings : Answers (λ (x : Result Group Refusal). (g : Group) × (x ≡ Ok g)) read_refusal Err
+readings : Answers (λ (x : Result Group Refusal). (g : Group) × (x ≡ Ok g)) refusal_of Err
 readings = record { back = λ r. refl; never = λ r e. absurd (no_group e.0 r e.1) }
   where
     no_group : (g : Group) (r : Refusal) → Err r ≡ Ok g → ⊥
     no_group g r e = let z : ◌≡◌ {A = ℕ} 0 1 = cc in omega arith
 
-pub read_told : (t : List ℕ) → Told ((g : Group) × (read_header t ≡ Ok g)) (read_refusal (read_header t))
+pub read_told : (t : List ℕ) → Told ((g : Group) × (read_header t ≡ Ok g)) (refusal_of (read_header t))
 unfolding read_header
 read_told t =
     in_lines (read_lines t)
     (lines_in function_line grid_lines kinds_in (λ h ls. line_in 1 8 grid_texts grid_fit grid_of grid_keyword) t)
   where
-    in_lines : (x : Header Function Grid) → HeaderIn x → Told ((g : Group) × (judged_reading x ≡ Ok g)) (read_refusal (judged_reading x))
+    in_lines : (x : Header Function Grid) → HeaderIn x → Told ((g : Group) × (judged_reading x ≡ Ok g)) (refusal_of (judged_reading x))
     in_lines (stopped r) p = told_by readings r p
     in_lines (header h rs ds) p = told_verdict readings (judged (group_of_lines h rs ds)) (judged_told (group_of_lines h rs ds)) (told_accepted (_, refl))
 

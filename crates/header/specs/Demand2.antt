@@ -6,8 +6,8 @@ use Rattle.group.specs.Limits.{name_fits, function_blank, grid_blank}
 use Rattle.group.specs.declared.Group.{Group}
 use Rattle.judge.specs.Judge.{judged}
 use Rattle.header.specs.Whole.{header_text}
-use Rattle.group.specs.Refusals.{no_refusal}
-use Rattle.header.specs.Header.{read_header, written, written_refusal, written_count, bytes_after}
+use Rattle.group.specs.Refusals.{no_refusal, refusal_of}
+use Rattle.header.specs.Header.{read_header, written, written_count, bytes_after}
 use Rattle.group.specs.declared.Refusal.{Refusal}
 
 -- the text stands in front, and every byte behind it is as it was
@@ -20,15 +20,15 @@ pub record TextRead (t : List ℕ) (r : Result Group Refusal) : Type 0 where
   -- the group of an accepted text is accepted by the judge
   pub accepted : (g : Group) → r ≡ Ok g → judged g ≡ Ok tt
   -- and written back as the same bytes into any output that is long enough: the text's length is answered, and the rest stays
-  pub told : (g : Group) → r ≡ Ok g → (out : List ℕ) → length t ≤ length out → written_refusal (written g (length out)) ≡ no_refusal
+  pub told : (g : Group) → r ≡ Ok g → (out : List ℕ) → length t ≤ length out → refusal_of (written g (length out)) ≡ no_refusal
   pub count : (g : Group) → r ≡ Ok g → (out : List ℕ) → length t ≤ length out → written_count (written g (length out)) ≡ length t
   pub bytes : (g : Group) → r ≡ Ok g → (out : List ℕ) → length t ≤ length out → InFront t out (bytes_after g out)
 
 -- w answers the writing of g into `out`, which is `after` then
 pub record TextWritten (g : Group) (out : List ℕ) (w : Result ℕ Refusal) (after : List ℕ) : Type 0 where
   -- the bytes written, as many as the count, read back as that group; all behind them stays
-  pub back : (written_refusal w).number ≡ 0 → read_header (take (written_count w) after) ≡ Ok g
-  pub behind : (written_refusal w).number ≡ 0 → drop (written_count w) after ≡ drop (written_count w) out
+  pub back : (refusal_of w).number ≡ 0 → read_header (take (written_count w) after) ≡ Ok g
+  pub behind : (refusal_of w).number ≡ 0 → drop (written_count w) after ≡ drop (written_count w) out
   -- after a refusal the output is unchanged
   pub unchanged : ((refusal_of w).number ≡ 0 → ⊥) → after ≡ out
 

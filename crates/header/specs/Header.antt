@@ -6,7 +6,7 @@ use Rattle.group.specs.declared.Grid.{Grid}
 use Rattle.group.specs.declared.Group.{Group}
 use Rattle.judge.specs.Judge.{judged}
 use Rattle.group.specs.declared.Refusal.{Refusal}
-use Rattle.group.specs.Refusals.{no_refusal, refuse_if, unless_refused, lent_after}
+use Rattle.group.specs.Refusals.{no_refusal, refuse_if, unless_refused, lent_after, refusal_of}
 use Rattle.header.specs.Whole.{Header, stopped, header, read_lines, group_of_lines, header_text}
 
 -- a group that was read: its judge's refusal, else the group
@@ -22,11 +22,6 @@ judged_reading (header h rs ds) = verdict_reading (group_of_lines h rs ds) (judg
 unfoldable pub read_header : List ℕ → Result Group Refusal
 read_header text = judged_reading (read_lines text)
 
--- what reading refuses
-abbrev pub read_refusal : Result Group Refusal → Refusal
-read_refusal (Ok g) = no_refusal
-read_refusal (Err r) = r
-
 -- what writing answers: 2 to 5, then 12, else the count of bytes
 unfoldable pub written : Group → ℕ → Result ℕ Refusal
 written g room =
@@ -34,6 +29,7 @@ written g room =
     (refuse_if Err (ltb room (length (header_text g))) 12 0
     (Ok (length (header_text g))))
 
+-- the count that writing hands back, 0 beside a refusal
 abbrev pub written_count : Result ℕ Refusal → ℕ
 written_count (Ok n) = n
 written_count (Err r) = 0

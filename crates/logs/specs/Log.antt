@@ -37,6 +37,7 @@ log_judged g nodes log =
     (unless_refused Err (nodes_judged g (length nodes))
     (Ok (log_fault g nodes log)))
 
+-- the fault, 0 and 0 beside a refusal
 abbrev pub judgement_fault : Result Fault Refusal → Fault
 judgement_fault (Ok f) = f
 judgement_fault (Err r) = no_fault
