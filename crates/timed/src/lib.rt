@@ -1,15 +1,23 @@
 // The rounding alone, over lists, so that the benchmark can time it: no part of the library that users link.
 #![tactic(auto)]
 
+ghost use Rattle.std.specs.Prelude.{◌≡◌, min};
 ghost use Rattle.timed.specs.Timed.{RoundedWords, RoundedPairs};
 
-// Stores each numerator over its divisor, rounded, as far as all three lists go.
+// The lesser of two lengths. No `.min`: where the division signs of what rounds are counted, no method is followed.
+fn shorter(a: usize, b: usize) -> usize
+    ensures { result ≡ min a b }
+{
+    if a < b { a } else { b }
+}
+
+// Stores each numerator over its divisor, rounded, as far as all three lists go. By index, as the other: of iterators zipped a proof has to
+// follow each, and the loop says no more.
 #[unsafe(no_mangle)]
 pub extern "C" fn timed_nearest_even(numerators: &[u64], divisors: &[u64], out: &mut [u64])
     ensures { RoundedWords numerators.now divisors.now out.old out.new }
 {
-    let n = numerators.len().min(divisors.len()).min(out.len());
-    // By index: of three iterators zipped a proof has to follow each, and the loop says no more.
+    let n = shorter(numerators.len(), shorter(divisors.len(), out.len()));
     for i in 0..n {
         out[i] = numbers::nearest_even(numerators[i], divisors[i]);
     }
@@ -25,11 +33,10 @@ pub extern "C" fn timed_nearest_pairs(
 )
     ensures { RoundedPairs highs.now lows.now divisors.now out.old out.new }
 {
-    let n = highs
-        .len()
-        .min(lows.len())
-        .min(divisors.len())
-        .min(out.len());
+    let n = shorter(
+        highs.len(),
+        shorter(lows.len(), shorter(divisors.len(), out.len())),
+    );
     for i in 0..n {
         let numerator = pair::Pair {
             high: highs[i],
