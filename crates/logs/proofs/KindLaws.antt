@@ -23,7 +23,8 @@ use Rattle.fix.specs.Answers.{lookup_grid, result_in, results_of}
 use Rattle.lookup.specs.Lookup.{looked}
 use Rattle.lookup.proofs.Demand2.{demand_2}
 use Rattle.exercise.specs.Exercise.{point_at}
-use Rattle.logs.specs.Line.{Entry, grid_name, equal, same_shifts, found_kind, entry_kind, read_entry, line_kind, grid_fault, shift_fault}
+use Rattle.logs.specs.Line.{Entry, grid_name, equal, same_shifts, found_kind, entry_kind, read_entry, line_kind}
+use Rattle.logs.specs.Kinds.{passes, form_fault, lookup_fault, grid_fault, shift_fault, failed_number}
 use Rattle.logs.specs.Order4.{Says, found_for, Accepts, NamesChosen, EqualShifts, LineIs, LineJudged}
 use Rattle.logs.proofs.EqualLaws.{equal_refl, equal_true}
 use Rattle.logs.proofs.SaysLaws.{says_read, read_says, says_free}
@@ -82,24 +83,25 @@ module _ (g : Group) (nodes : List ℤ) (line : List ℕ) where
   abbrev Is : ℕ → Type 0
   Is = LineIs g nodes line
 
-  found_is : (e : Entry) → Says np line e → (l : Result Fix Refusal) → found_for g nodes e ≡ l → Is (found_kind g e.name e.shifts l)
+  found_is : (e : Entry) → Says np line e → (l : Result Fix Refusal) → found_for g nodes e ≡ l → Is (failed_number (found_kind g e.name e.shifts l))
   unfolding found_kind
   found_is e s (Err r) h = (e, s, λ a. refused_some g nodes e.position r h (sym (ap refusal_of h) ∙ a))
   found_is e s (Ok f) h = by_name (same e.name (grid_name g f.grid)) refl
     where
-      by_shifts : NamesChosen g nodes e → (b : Bool) → same_shifts np e.shifts (result_in f) ≡ b → Is (cond b 0 shift_fault)
+      by_shifts : NamesChosen g nodes e → (b : Bool) → same_shifts np e.shifts (result_in f) ≡ b → Is (failed_number (cond b passes shift_fault))
       by_shifts n true t = (e, s, accepts g nodes e f h, n, shifts g nodes e f h t)
       by_shifts n false t = (e, s, accepts g nodes e f h, n, λ q. true_false (shifted g nodes e f h q) t)
 
-      by_name : (b : Bool) → same e.name (grid_name g f.grid) ≡ b → Is (cond b (cond (same_shifts np e.shifts (result_in f)) 0 shift_fault) grid_fault)
+      by_name : (b : Bool) → same e.name (grid_name g f.grid) ≡ b
+          → Is (failed_number (cond b (cond (same_shifts np e.shifts (result_in f)) passes shift_fault) grid_fault))
       by_name true t = by_shifts (names g nodes e f h t) (same_shifts np e.shifts (result_in f)) refl
       by_name false t = (e, s, accepts g nodes e f h, λ n. true_false (named g nodes e f h n) t)
 
-  line_is : Is (line_kind g nodes line)
+  line_is : Is (failed_number (line_kind g nodes line))
   unfolding line_kind
   line_is = go (read_entry np line) refl
     where
-      go : (o : Option Entry) → read_entry np line ≡ o → Is (entry_kind g nodes o)
+      go : (o : Option Entry) → read_entry np line ≡ o → Is (failed_number (entry_kind g nodes o))
       go none h = λ e s. let w = sym h ∙ says_read np line e s in let z : ◌≡◌ {A = ℕ} 0 1 = cc in omega arith
       go (some e) h = found_is e (read_says np line e h) (found_for g nodes e) refl
 
@@ -111,46 +113,48 @@ module _ (g : Group) (nodes : List ℤ) (line : List ℕ) where
     kind_found = ap (entry_kind g nodes) (says_read np line e s)
 
     kind_fix : (f : Fix) → found_for g nodes e ≡ Ok f
-        → line_kind g nodes line ≡ cond (same e.name (grid_name g f.grid)) (cond (same_shifts np e.shifts (result_in f)) 0 shift_fault) grid_fault
+        → line_kind g nodes line ≡ cond (same e.name (grid_name g f.grid)) (cond (same_shifts np e.shifts (result_in f)) passes shift_fault) grid_fault
     unfolding found_kind
     kind_fix f h = kind_found ∙ ap (found_kind g e.name e.shifts) h
 
-    kind_named : (f : Fix) → found_for g nodes e ≡ Ok f → NamesChosen g nodes e → line_kind g nodes line ≡ cond (same_shifts np e.shifts (result_in f)) 0 shift_fault
-    kind_named f h n = kind_fix f h ∙ ap (λ (b : Bool). cond b (cond (same_shifts np e.shifts (result_in f)) 0 shift_fault) grid_fault) (named g nodes e f h n)
+    kind_named : (f : Fix) → found_for g nodes e ≡ Ok f → NamesChosen g nodes e → line_kind g nodes line ≡ cond (same_shifts np e.shifts (result_in f)) passes shift_fault
+    kind_named f h n = kind_fix f h ∙ ap (λ (b : Bool). cond b (cond (same_shifts np e.shifts (result_in f)) passes shift_fault) grid_fault) (named g nodes e f h n)
 
-    kind_refused : (Accepts g nodes e → ⊥) → line_kind g nodes line ≡ 2
+    kind_refused : (Accepts g nodes e → ⊥) → line_kind g nodes line ≡ lookup_fault
     unfolding found_kind
     kind_refused n = kind_found ∙ go (found_for g nodes e) refl
       where
-        go : (l : Result Fix Refusal) → found_for g nodes e ≡ l → found_kind g e.name e.shifts l ≡ 2
+        go : (l : Result Fix Refusal) → found_for g nodes e ≡ l → found_kind g e.name e.shifts l ≡ lookup_fault
         go (Err r) h = refl
         go (Ok f) h = absurd (n (ap refusal_of h))
 
-  kind_formless : ((e : Entry) → Says np line e → ⊥) → line_kind g nodes line ≡ 1
+  kind_formless : ((e : Entry) → Says np line e → ⊥) → line_kind g nodes line ≡ form_fault
   unfolding line_kind
   kind_formless n = go (read_entry np line) refl
     where
-      go : (o : Option Entry) → read_entry np line ≡ o → entry_kind g nodes o ≡ 1
+      go : (o : Option Entry) → read_entry np line ≡ o → entry_kind g nodes o ≡ form_fault
       go none h = refl
       go (some e) h = absurd (n e (read_says np line e h))
 
-  kind_is : (k : ℕ) → Is k → line_kind g nodes line ≡ k
+  kind_is : (k : ℕ) → Is k → failed_number (line_kind g nodes line) ≡ k
   kind_is zero (e, s, a, n, q) =
       let u = fixed g nodes e.position a in let f = u.0 in let h = u.2 in
-      kind_named e s f h n ∙ ap (λ (b : Bool). cond b 0 shift_fault) (shifted g nodes e f h q)
-  kind_is (suc zero) n = kind_formless n
-  kind_is (suc (suc zero)) (e, s, n) = kind_refused e s n
+      ap failed_number (kind_named e s f h n ∙ ap (λ (b : Bool). cond b passes shift_fault) (shifted g nodes e f h q))
+  kind_is (suc zero) n = ap failed_number (kind_formless n)
+  kind_is (suc (suc zero)) (e, s, n) = ap failed_number (kind_refused e s n)
   kind_is (suc (suc (suc zero))) (e, s, a, n) =
       let u = fixed g nodes e.position a in let f = u.0 in let h = u.2 in
-      kind_fix e s f h ∙ ap (λ (b : Bool). cond b (cond (same_shifts np e.shifts (result_in f)) 0 shift_fault) grid_fault) (untrue _ (λ t. n (names g nodes e f h t)))
+      ap failed_number
+      (kind_fix e s f h
+      ∙ ap (λ (b : Bool). cond b (cond (same_shifts np e.shifts (result_in f)) passes shift_fault) grid_fault) (untrue _ (λ t. n (names g nodes e f h t))))
   kind_is (suc (suc (suc (suc zero)))) (e, s, a, n, q) =
       let u = fixed g nodes e.position a in let f = u.0 in let h = u.2 in
-      kind_named e s f h n ∙ ap (λ (b : Bool). cond b 0 shift_fault) (untrue _ (λ t. q (shifts g nodes e f h t)))
+      ap failed_number (kind_named e s f h n ∙ ap (λ (b : Bool). cond b passes shift_fault) (untrue _ (λ t. q (shifts g nodes e f h t))))
   kind_is (suc (suc (suc (suc (suc k))))) n = absurd n
 
 pub line_exactly : (g : Group) (nodes : List ℤ) (line : List ℕ) → LineJudged g nodes line
 line_exactly g nodes line k = (λ h. subst (LineIs g nodes line) h (line_is g nodes line), kind_is g nodes line k)
 
 -- no line feed stands in a line that passes
-pub pass_free : (g : Group) (nodes : List ℤ) (line : List ℕ) → line_kind g nodes line ≡ 0 → Free 10 line
-pass_free g nodes line h = let p = (line_exactly g nodes line 0).0 h in says_free g.parameters line p.0 p.1
+pub pass_free : (g : Group) (nodes : List ℤ) (line : List ℕ) → line_kind g nodes line ≡ passes → Free 10 line
+pass_free g nodes line h = let p = (line_exactly g nodes line 0).0 (ap failed_number h) in says_free g.parameters line p.0 p.1

@@ -9,6 +9,7 @@ pub mod WrittenLaws
 pub mod TableLaws
 pub mod SaysLaws
 pub mod KindLaws
+pub mod NumberLaws
 pub mod FaultLaws
 pub mod OwnLaws
 pub mod Order4

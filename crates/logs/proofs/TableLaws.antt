@@ -20,13 +20,13 @@ use Rattle.header.proofs.TableLaws.{writings}
 use Rattle.logs.specs.declared.Fault.{Fault}
 use Rattle.logs.specs.Log.{log_judged}
 use Rattle.logs.specs.Writing.{found_text, found_written, line_written, line_after}
-use Rattle.std.specs.Prelude.{Result, Ok, Err}
+use Rattle.std.specs.Prelude.{Option, Result, Ok, Err}
 use Rattle.group.specs.declared.Refusal.{Refusal}
 
-judgements : Answers (λ (j : Result Fault Refusal). (f : Fault) × (j ≡ Ok f)) refusal_of Err
+judgements : Answers (λ (j : Result (Option Fault) Refusal). (f : Option Fault) × (j ≡ Ok f)) refusal_of Err
 judgements = record { back = λ r. refl; never = λ r e. let q = e.1 in let z : ◌≡◌ {A = ℕ} 0 1 = cc in omega arith }
 
-pub log_told : (g : Group) (nodes : List ℤ) (log : List ℕ) → Told ((f : Fault) × (log_judged g nodes log ≡ Ok f)) (refusal_of (log_judged g nodes log))
+pub log_told : (g : Group) (nodes : List ℤ) (log : List ℕ) → Told ((f : Option Fault) × (log_judged g nodes log ≡ Ok f)) (refusal_of (log_judged g nodes log))
 unfolding log_judged nodes_judged refuse_first
 log_told g nodes log =
     told_verdict judgements (judged g) (judged_told g)

@@ -28,7 +28,8 @@ use Rattle.judge.proofs.Accepted.{accepted, accepted_head}
 use Rattle.fix.specs.declared.Fix.{Fix}
 use Rattle.fix.specs.Answers.{result_in}
 use Rattle.lookup.specs.Lookup.{looked}
-use Rattle.logs.specs.Line.{form_fault, lookup_fault, grid_fault, shift_fault, grid_name, equal, same_shifts, read_entry, found_kind, entry_kind, line_kind}
+use Rattle.logs.specs.Kinds.{passes, form_fault, lookup_fault, grid_fault, shift_fault}
+use Rattle.logs.specs.Line.{grid_name, equal, same_shifts, read_entry, found_kind, entry_kind, line_kind}
 use Rattle.logs.specs.Reading.{Said, FoundIn}
 use Rattle.logs.proofs.EqualLaws.{equal_clamped}
 use Rattle.logs.proofs.PlaceLaws.{clamp_at, point_of, looked_clamped}
@@ -72,12 +73,12 @@ module _ (ns : List ℤ) (l : Result Fix Refusal) (f : Fix) (e : l ≡ Ok f) (h 
 
   module _ (name : List ℕ) (shifts : List ℤ) where
     opened : (t u : Bool) → same name (name_text (grid_of_words ns (f.grid - 1)).name) ≡ t → same_shifts g.parameters shifts (number_at (result_list f)) ≡ u
-        → found_kind g name shifts l ≡ cond t (cond u 0 shift_fault) grid_fault
+        → found_kind g name shifts l ≡ cond t (cond u passes shift_fault) grid_fault
     unfolding found_kind
     opened t u p q =
         let s = ap (λ (d : Grid). same name (name_text d.name)) grid_is ∙ p in
         let r : same_shifts g.parameters shifts (result_in f) ≡ u = ap (same_shifts g.parameters shifts) (λ i k. sym (result_at_lem f k) i) ∙ q in
-        rw e (λ i. cond (s i) (cond (r i) 0 shift_fault) grid_fault)
+        rw e (λ i. cond (s i) (cond (r i) passes shift_fault) grid_fault)
 
     pub kind_grid : same name (name_text (grid_of_words ns (f.grid - 1)).name) ≡ false → found_kind g name shifts l ≡ grid_fault
     kind_grid p = opened false (same_shifts g.parameters shifts (number_at (result_list f))) p refl
@@ -87,7 +88,7 @@ module _ (ns : List ℤ) (l : Result Fix Refusal) (f : Fix) (e : l ≡ Ok f) (h 
     kind_shift p q = opened true false p q
 
     pub kind_none : same name (name_text (grid_of_words ns (f.grid - 1)).name) ≡ true → same_shifts g.parameters shifts (number_at (result_list f)) ≡ true
-        → found_kind g name shifts l ≡ 0
+        → found_kind g name shifts l ≡ passes
     kind_none p q = opened true true p q
 
 -- ---- a line of the form, by its numbers as the code tells them apart
@@ -119,7 +120,7 @@ module _ (g : Group) (nodes : List ℤ) (line cuts : List ℕ) (place values : L
   found_told : (l : Result Fix Refusal) → at ≡ l → found_kind g (field_of line 4) s.vs l ≡ found_kind g (field_of line 4) values l
   unfolding found_kind
   found_told (Err r) e = refl
-  found_told (Ok f) e = ap (λ (t : Bool). cond (same (field_of line 4) (grid_name g f.grid)) (cond t 0 shift_fault) grid_fault) (shifts_told f e)
+  found_told (Ok f) e = ap (λ (t : Bool). cond (same (field_of line 4) (grid_name g f.grid)) (cond t passes shift_fault) grid_fault) (shifts_told f e)
 
   pub line_formed : line_kind g nodes line ≡ found_kind g (field_of line 4) values at
   unfolding line_kind

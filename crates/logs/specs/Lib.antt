@@ -1,4 +1,5 @@
 -- What the contracts of `logs` cite, and what it promises.
+pub mod Kinds
 pub mod Line
 pub mod Log
 pub mod Writing

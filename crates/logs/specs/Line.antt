@@ -16,6 +16,7 @@ use Rattle.lookup.specs.Lookup.{looked}
 use Rattle.exercise.specs.Exercise.{point_at}
 use Rattle.group.specs.declared.Refusal.{Refusal}
 use Rattle.fix.specs.declared.Fix.{Fix}
+use Rattle.logs.specs.Kinds.{Failed, passes, form_fault, lookup_fault, grid_fault, shift_fault}
 
 -- what a line says: a position, a grid's name and the shifts in steps
 pub record Entry : Type 0 where
@@ -53,19 +54,7 @@ abbrev pub entry_text : Entry → List ℕ
 entry_text e =
     join 9 (fix_keyword ∷ int_text e.position.lon.0 ∷ int_text e.position.lat.0 ∷ int_text e.position.day ∷ e.name ∷ map int_text e.shifts)
 
--- ---- its verdict: 0, or the kind of the first test that it fails
-
-abbrev pub form_fault : ℕ
-form_fault = 1
-
-abbrev pub lookup_fault : ℕ
-lookup_fault = 2
-
-abbrev pub grid_fault : ℕ
-grid_fault = 3
-
-abbrev pub shift_fault : ℕ
-shift_fault = 4
+-- ---- its verdict: the kind of the first test that it fails, or none
 
 -- the name of the grid numbered n, from 1
 abbrev pub grid_name : Group → ℕ → List ℕ
@@ -79,16 +68,16 @@ abbrev pub same_shifts : ℕ → List ℤ → (ℕ → ℤ) → Bool
 same_shifts np shifts result = every (λ q. equal (int_at shifts q) (result q)) np
 
 -- of a line of the form, which names a grid and shifts, by what the lookup answers: refused, another grid, another shift
-unfoldable pub found_kind : Group → List ℕ → List ℤ → Result Fix Refusal → ℕ
+unfoldable pub found_kind : Group → List ℕ → List ℤ → Result Fix Refusal → Failed
 found_kind g name shifts (Err r) = lookup_fault
 found_kind g name shifts (Ok f) =
     cond (same name (grid_name g f.grid))
-    (cond (same_shifts g.parameters shifts (result_in f)) 0 shift_fault)
+    (cond (same_shifts g.parameters shifts (result_in f)) passes shift_fault)
     grid_fault
 
-abbrev pub entry_kind : Group → List ℤ → Option Entry → ℕ
+abbrev pub entry_kind : Group → List ℤ → Option Entry → Failed
 entry_kind g nodes none = form_fault
 entry_kind g nodes (some e) = found_kind g e.name e.shifts (looked g nodes (point_at e.position) e.position.day)
 
-unfoldable pub line_kind : Group → List ℤ → List ℕ → ℕ
+unfoldable pub line_kind : Group → List ℤ → List ℕ → Failed
 line_kind g nodes line = entry_kind g nodes (read_entry g.parameters line)

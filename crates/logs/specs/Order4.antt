@@ -16,9 +16,9 @@ use Rattle.lookup.specs.Demand2.{Refuses, Judged, TableRow, ShortList, NothingRe
 use Rattle.exercise.specs.Exercise.{point_at}
 use Rattle.header.specs.Items.{closed}
 use Rattle.header.specs.Header.{written_count}
-use Rattle.logs.specs.declared.Fault.{Fault}
+use Rattle.logs.specs.Kinds.{failed_number}
 use Rattle.logs.specs.Line.{Entry, entry_text, line_kind}
-use Rattle.logs.specs.Log.{fault, no_fault, log_judged, judgement_fault}
+use Rattle.logs.specs.Log.{FaultNumbers, fault, no_fault, log_judged, judgement_fault}
 use Rattle.logs.specs.Writing.{line_most, line_written, line_after}
 use Rattle.fix.specs.declared.Fix.{Fix}
 
@@ -59,7 +59,7 @@ LineIs g nodes line (suc (suc (suc (suc (suc k))))) = ⊥
 
 -- exactly so is its verdict, by group, nodes and its own bytes alone
 abbrev pub LineJudged : Group → List ℤ → List ℕ → Type 0
-LineJudged g nodes line = (k : ℕ) → (line_kind g nodes line ≡ k) ↔ LineIs g nodes line k
+LineJudged g nodes line = (k : ℕ) → (failed_number (line_kind g nodes line) ≡ k) ↔ LineIs g nodes line k
 
 -- ---- a log
 
@@ -108,7 +108,8 @@ pub record LogJudged (g : Group) (nodes : List ℤ) (log : List ℕ) : Type 0 wh
 -- a line closed by its line feed is judged as a log of its own
 abbrev pub OneLine : Group → List ℤ → List ℕ → Type 0
 OneLine g nodes line = NoFeed line → refusal_of (log_judged g nodes (line ++ 10 ∷ [])) ≡ no_refusal
-    → judgement_fault (log_judged g nodes (line ++ 10 ∷ [])) ≡ cond (eqb (line_kind g nodes line) 0) no_fault (fault 1 (line_kind g nodes line))
+    → judgement_fault (log_judged g nodes (line ++ 10 ∷ []))
+    ≡ cond (eqb (failed_number (line_kind g nodes line)) 0) no_fault (fault 1 (failed_number (line_kind g nodes line)))
 
 -- ---- a log in parts
 
@@ -121,7 +122,7 @@ abbrev pub line_count : List ℕ → ℕ
 line_count log = length (split 10 log) - 1
 
 -- a fault so many lines later
-abbrev pub later : ℕ → Fault → Fault
+abbrev pub later : ℕ → FaultNumbers → FaultNumbers
 later n f = cond (eqb f.line 0) f (fault (n + f.line) f.kind)
 
 -- one log behind another

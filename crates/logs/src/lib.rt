@@ -12,6 +12,7 @@ ghost use Rattle.line.specs.Names.{name_text};
 ghost use Rattle.abi.specs.Abi.{number_at, grid_of_words, group_of_words};
 ghost use Rattle.lookup.specs.Lookup.{looked};
 ghost use Rattle.exercise.specs.Tables.{CallReady};
+ghost use Rattle.logs.specs.Kinds.{kind_number};
 ghost use Rattle.logs.specs.Line.{same_shifts, found_kind};
 ghost use Rattle.logs.specs.Log.{log_fault, log_judged};
 ghost use Rattle.logs.specs.Writing.{line_text, found_written, found_after, line_written, line_after};
@@ -23,28 +24,42 @@ use fix::Fix;
 use group::{Group, Latitude, Longitude, Point, Position, Refusal};
 use text::CUTS;
 
-// The first bad line of a log, from 1, and its kind: 1 form, 2 lookup refused, 3 other grid, 4 other shift; 0 and 0 if the log passes.
+// The tests of a line, in their order: its form, its lookup, its grid and its shifts.
+#[derive(Clone, Copy)]
+pub enum Kind {
+    Form,
+    Lookup,
+    Grid,
+    Shift,
+}
+
+impl Kind {
+    // Its number: 1 form, 2 lookup refused, 3 other grid, 4 other shift.
+    pub fn number(self) -> u64
+        ensures { result ≡ kind_number self }
+    {
+        match self {
+            Kind::Form => 1,
+            Kind::Lookup => 2,
+            Kind::Grid => 3,
+            Kind::Shift => 4,
+        }
+    }
+}
+
+// The first bad line of a log, from 1, and the test that it fails.
 #[derive(Clone, Copy)]
 pub struct Fault {
     pub line: u64,
-    pub kind: u64,
+    pub kind: Kind,
 }
 
-// A line that was judged: its kind, 0 if it passes, and the scale of the day last looked up.
+// A line that was judged: the first test that it fails, or none, and the scale of the day last looked up.
 #[derive(Clone, Copy)]
 pub struct Turn {
-    pub kind: u64,
+    pub kind: Option<Kind>,
     pub scale: Scale,
 }
-
-// The kinds of a fault.
-const FORM: u64 = 1;
-
-const LOOKUP: u64 = 2;
-
-const GRID: u64 = 3;
-
-const SHIFT: u64 = 4;
 
 // The fields of a line: `fix`, LON LAT DAY from here, GRID here, the shifts from here.
 const PLACE_FIELD: usize = 1;
@@ -119,22 +134,22 @@ fn kind_of(
     found: Result<Fix, Refusal>,
     name: &[u8],
     shifts: &[i64],
-) -> u64
+) -> Option<Kind>
     requires { FoundIn (group_of_words words.now) found × (length shifts.now ≡ parameters_most) }
     ensures { result ≡ found_kind (group_of_words words.now) name.now shifts.now found }
 {
     let Ok(f) = found else {
-        return LOOKUP;
+        return Some(Kind::Lookup);
     };
     let k = (f.grid - 1) as usize;
     if !names_grid(words, k, name) {
-        return GRID;
+        return Some(Kind::Grid);
     }
     let results = [f.first, f.second, f.third];
     if !same_shifts(shifts, &results, abi::parameter_count(words) as usize) {
-        return SHIFT;
+        return Some(Kind::Shift);
     }
-    0
+    None
 }
 
 // The lookup of a point on the day of a scale, by the tables of an accepted call: refusal 6, 9, 7 or 8, or the fix. It is written out
@@ -191,7 +206,10 @@ fn judge_line(
     let mut shifts = [0i64; SHIFTS];
     let np = abi::parameter_count(words) as usize;
     if !read_entry(line, np, &mut cuts, &mut place, &mut shifts) {
-        return Turn { kind: FORM, scale };
+        return Turn {
+            kind: Some(Kind::Form),
+            scale,
+        };
     }
     let point = Point {
         lon: Longitude(place[0]),
@@ -208,7 +226,12 @@ fn judge_line(
 
 // Judges every line of a log in an accepted call. No range or list says where the lines begin: each turn goes on behind the line feed that
 // it found, which is looked for in blocks of bytes.
-fn judge_lines(words: &[i64; GROUP_WORDS], tables: &Tables, nodes: &[i32], log: &[u8]) -> Fault
+fn judge_lines(
+    words: &[i64; GROUP_WORDS],
+    tables: &Tables,
+    nodes: &[i32],
+    log: &[u8],
+) -> Option<Fault>
     requires { CallReady (group_of_words words.now) (length nodes.now) tables.now }
     ensures { result ≡ log_fault (group_of_words words.now) nodes.now log.now }
 {
@@ -218,27 +241,28 @@ fn judge_lines(words: &[i64; GROUP_WORDS], tables: &Tables, nodes: &[i32], log: 
     while next < log.len() {
         let e = text::find_from(log, next, b'\n');
         if e == log.len() {
-            return Fault {
+            return Some(Fault {
                 line: n + 1,
-                kind: FORM,
-            };
+                kind: Kind::Form,
+            });
         }
         let turn = judge_line(words, tables, nodes, scale, &log[next..e]);
-        if turn.kind != 0 {
-            return Fault {
-                line: n + 1,
-                kind: turn.kind,
-            };
+        if let Some(kind) = turn.kind {
+            return Some(Fault { line: n + 1, kind });
         }
         scale = turn.scale;
         next = e + 1;
         n += 1;
     }
-    Fault { line: 0, kind: 0 }
+    None
 }
 
 // `judge_log` over a group handed over as a list of numbers.
-pub fn log_words(words: &[i64; GROUP_WORDS], nodes: &[i32], log: &[u8]) -> Result<Fault, Refusal>
+pub fn log_words(
+    words: &[i64; GROUP_WORDS],
+    nodes: &[i32],
+    log: &[u8],
+) -> Result<Option<Fault>, Refusal>
     ensures { result ≡ log_judged (group_of_words words.now) nodes.now log.now }
 {
     let tables = exercise::judge_call(words, nodes.len(), true)?;
@@ -246,10 +270,10 @@ pub fn log_words(words: &[i64; GROUP_WORDS], nodes: &[i32], log: &[u8]) -> Resul
 }
 
 // Judges a log, one line for each position: `fix` LON LAT DAY GRID V1 .. VNP, parted by tabs, each line closed by its line feed.
-// Answers the first bad line, from 1, and its kind: 1 not of this form, 2 the lookup is refused, 3 another grid is chosen, 4 the shifts
-// are others; 0 and 0 if the log passes, as an empty one does. Refusals 2 to 5 (the group), then 13 (the node list ends before some
+// Answers the first bad line, from 1, and the first test that it fails: it is not of this form, the lookup is refused, another grid is
+// chosen, or the shifts are others; none if the log passes, as an empty one does. Refusals 2 to 5 (the group), then 13 (the node list ends before some
 // grid's range does). With document 01's grid `basin` and no functions, `fix 5 5 0 basin 55` passes, with tabs for the spaces.
-pub fn judge_log(group: Group, nodes: &[i32], log: &[u8]) -> Result<Fault, Refusal>
+pub fn judge_log(group: Group, nodes: &[i32], log: &[u8]) -> Result<Option<Fault>, Refusal>
     ensures { result ≡ log_judged group nodes.now log.now }
 {
     let words = abi::numbers_of(group);

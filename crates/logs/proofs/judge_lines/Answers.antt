@@ -1,17 +1,24 @@
 -- `judge_lines` meets its contract.
-use Prim.Native.Nat.{ℕ, ◌+◌, ◌≤◌}
-use mathlib.Core.Path.{sym, subst}
-use mathlib.Core.List.{List}
+use Prim.Native.Nat.{◌+◌, ◌≤◌}
+use mathlib.Core.Path.{sym, ◌∙◌, subst}
 use native.Mathlib.Omega.{arith}
+use lib.ListN.{length}
 use mir.Syntax.{w64}
 use mir.Val.{Fits}
-use lib.ListN.{length}
 use Rattle.abi.specs.Abi.{group_of_words}
 use Rattle.exercise.proofs.ScaleLaws.{scale_none}
 use Rattle.header.proofs.ItemLaws.{end_le}
 use Rattle.logs.specs.Reading.{Scaled}
-use Rattle.logs.proofs.LoopLaws.{Passed, passed_none, passed_all, line_unclosed, line_bad, line_good}
+use Rattle.logs.proofs.LoopLaws.{passed_none, passed_all, line_unclosed, line_bad, line_good}
 use Rattle.logs.proofs.judge_lines.Goals as goal
+use Rattle.logs.proofs.judge_lines.Goals.{In-loop-next, After-find_from-e}
+
+-- the lines that have passed are no more than the bytes
+counted : (c : In-loop-next) → Fits w64 (c.loop-next.n + 1)
+counted c = let p = c.loop-next.invariant.0 in omega (arith, p.below, p.room)
+
+ends : (c : After-find_from-e) → c.find_from-e.result ≤ length c.args.log.now
+ends c = end_le c.args.log.now c.loop-next.next c.find_from-e.result c.find_from-e.ensures c.loop-next.invariant.0.room
 
 pub loop-next-init : goal.loop-next-init
 loop-next-init c =
@@ -19,67 +26,40 @@ loop-next-init c =
     (passed_none g a.nodes.now a.log.now, subst (Scaled g) (sym c.no_scale-scale.ensures) (scale_none g))
 
 pub overflow_add-result : goal.overflow_add-result
-overflow_add-result c =
-    let log : List ℕ = c.args.log.now in
-    let passed : Passed (group_of_words c.args.words.now) c.args.nodes.now log c.loop-next.next c.loop-next.n = c.loop-next.invariant.0 in
-    let counted : Fits w64 (c.loop-next.n + 1) = let p = passed in omega (arith, p.below, p.room) in
-    counted
+overflow_add-result c = counted (goal.at.overflow_add-result c).In-loop-next
 
 pub returns-then-e-log : goal.returns-then-e-log
-returns-then-e-log c =
-    let log : List ℕ = c.args.log.now in
-    let passed : Passed (group_of_words c.args.words.now) c.args.nodes.now log c.loop-next.next c.loop-next.n = c.loop-next.invariant.0 in
-    line_unclosed passed _ c.find_from-e.ensures c.loop-next-test.true c.if-e-log.true
+returns-then-e-log c = line_unclosed c.loop-next.invariant.0 _ c.find_from-e.ensures c.loop-next-test.true c.if-e-log.true
 
 pub slice_bounds-judge_line-end : goal.slice_bounds-judge_line-end
-slice_bounds-judge_line-end c =
-    omega (arith, end_le c.args.log.now c.loop-next.next c.find_from-e.result c.find_from-e.ensures c.loop-next.invariant.0.room)
+slice_bounds-judge_line-end c = omega (arith, ends (goal.at.slice_bounds-judge_line-end c).After-find_from-e)
 
 pub judge_line-turn-requires : goal.judge_line-turn-requires
 judge_line-turn-requires c = record { call = c.requires; scale = c.loop-next.invariant.1 }
 
-pub overflow_add-result-then-turn-ne0 : goal.overflow_add-result-then-turn-ne0
-overflow_add-result-then-turn-ne0 c =
-    let log : List ℕ = c.args.log.now in
-    let passed : Passed (group_of_words c.args.words.now) c.args.nodes.now log c.loop-next.next c.loop-next.n = c.loop-next.invariant.0 in
-    let counted : Fits w64 (c.loop-next.n + 1) = let p = passed in omega (arith, p.below, p.room) in
-    counted
+pub overflow_add-result-in-Some : goal.overflow_add-result-in-Some
+overflow_add-result-in-Some c = counted (goal.at.overflow_add-result-in-Some c).In-loop-next
 
-pub returns-then-turn-ne0 : goal.returns-then-turn-ne0
-returns-then-turn-ne0 c =
-    let log : List ℕ = c.args.log.now in
-    let passed : Passed (group_of_words c.args.words.now) c.args.nodes.now log c.loop-next.next c.loop-next.n = c.loop-next.invariant.0 in
-    line_bad passed _ c.find_from-e.ensures c.loop-next-test.true c.if-e-log.false _ c.judge_line-turn.ensures.kind c.if-turn-ne0.true
+pub returns-in-Some : goal.returns-in-Some
+returns-in-Some c =
+    line_bad c.loop-next.invariant.0 _ c.find_from-e.ensures c.loop-next-test.true c.if-e-log.false _ (sym c.judge_line-turn.ensures.kind ∙ c.in-Some.is)
 
 pub overflow_add-next : goal.overflow_add-next
-overflow_add-next c =
-    let log : List ℕ = c.args.log.now in
-    let passed : Passed (group_of_words c.args.words.now) c.args.nodes.now log c.loop-next.next c.loop-next.n = c.loop-next.invariant.0 in
-    let ends : c.find_from-e.result ≤ length log = end_le log c.loop-next.next c.find_from-e.result c.find_from-e.ensures passed.room in
-    omega (arith, ends, c.well_formed)
+overflow_add-next c = omega (arith, ends (goal.at.overflow_add-next c).After-find_from-e, c.well_formed)
 
 pub overflow_add-n : goal.overflow_add-n
-overflow_add-n c =
-    let log : List ℕ = c.args.log.now in
-    let passed : Passed (group_of_words c.args.words.now) c.args.nodes.now log c.loop-next.next c.loop-next.n = c.loop-next.invariant.0 in
-    let counted : Fits w64 (c.loop-next.n + 1) = let p = passed in omega (arith, p.below, p.room) in
-    counted
+overflow_add-n c = counted (goal.at.overflow_add-n c).In-loop-next
 
 pub loop-next-smaller : goal.loop-next-smaller
 loop-next-smaller c =
-    let log : List ℕ = c.args.log.now in
-    let passed : Passed (group_of_words c.args.words.now) c.args.nodes.now log c.loop-next.next c.loop-next.n = c.loop-next.invariant.0 in
-    let ends : c.find_from-e.result ≤ length log = end_le log c.loop-next.next c.find_from-e.result c.find_from-e.ensures passed.room in
-    let e = c.find_from-e.ensures in let b = ends in let t = c.loop-next-test.true in
+    let e = c.find_from-e.ensures in let b = ends (goal.at.loop-next-smaller c).After-find_from-e in let t = c.loop-next-test.true in
     omega arith
 
 pub loop-next-preserved : goal.loop-next-preserved
-loop-next-preserved c =
-    let log : List ℕ = c.args.log.now in
-    let passed : Passed (group_of_words c.args.words.now) c.args.nodes.now log c.loop-next.next c.loop-next.n = c.loop-next.invariant.0 in (
-      line_good passed _ c.find_from-e.ensures c.loop-next-test.true c.if-e-log.false _ c.judge_line-turn.ensures.kind c.if-turn-ne0.false,
-      c.judge_line-turn.ensures.scale,
-    )
+loop-next-preserved c = (
+  line_good c.loop-next.invariant.0 _ c.find_from-e.ensures c.loop-next-test.true c.if-e-log.false (sym c.judge_line-turn.ensures.kind ∙ c.in_default.is),
+  c.judge_line-turn.ensures.scale,
+)
 
 pub returns : goal.returns
 returns c = passed_all c.loop-next.invariant.0 c.loop-next-test.false
