@@ -3,8 +3,7 @@ use Prim.Native.Nat.{ℕ, ◌-◌}
 use mathlib.Core.Path.{◌≡◌, refl, sym, ap, ◌∙◌}
 use mathlib.Core.List.{List}
 use native.Mathlib.Omega.{arith}
-use lib.IntN.{ℤ, pos}
-use lib.ListN.{replicate}
+use lib.IntN.{ℤ}
 use Rattle.group.specs.declared.Group.{Group}
 use Rattle.group.specs.declared.Point.{Point}
 use Rattle.group.specs.declared.Refusal.{Refusal}
@@ -16,24 +15,19 @@ use Rattle.fix.specs.declared.Fix.{Fix}
 use Rattle.fix.specs.Fix.{corner_some}
 use Rattle.lookup.specs.Lookup.{offset_of, looked_in, looked}
 use Rattle.lookup.proofs.FoundLaws.{found}
-use Rattle.explain.specs.declared.Explanation.{Explanation}
-use Rattle.explain.specs.Explain.{pieces_of, pieces_numbers, explanation_words, explained_by, explained}
+use Rattle.explain.specs.Explain.{pieces_of, pieces_numbers, explained_by, explained}
 use Rattle.explain.specs.Flat.{Explainable}
 use Rattle.std.specs.Prelude.{Result, Ok, Err, ⊤}
 
--- a refusal, with zeros beside it
-abbrev pub refused_by : Refusal → Explanation
-refused_by r = record { verdict = Err r; numbers = replicate explanation_words (pos 0) }
-
 module _ (g : Group) (nodes : List ℤ) (p : Point) (t : ℤ) where
-  pub by_refusal : {l : Result Fix Refusal} (r : Refusal) → l ≡ Err r → refused_by r ≡ explained_by g nodes p t l
+  pub by_refusal : {l : Result Fix Refusal} (r : Refusal) → l ≡ Err r → Err r ≡ explained_by g nodes p t l
   unfolding explained_by
   by_refusal r e = rw e refl
 
   pub by_fix : {l : Result Fix Refusal} (f : Fix) {numbers : List ℤ} → l ≡ Ok f → numbers ≡ pieces_numbers (pieces_of g nodes p t f.grid)
-      → ◌≡◌ {A = Explanation} (record { verdict = Ok tt; numbers = numbers }) (explained_by g nodes p t l)
+      → Ok numbers ≡ explained_by g nodes p t l
   unfolding explained_by
-  by_fix f e n = rw e (λ i. record { verdict = Ok tt; numbers = n i })
+  by_fix f e n = rw e (ap Ok n)
 
   -- an accepted lookup can be explained
   pub explainable : (f : Fix) → looked g nodes p t ≡ Ok f → Explainable g nodes p t f.grid
@@ -47,10 +41,10 @@ module _ (g : Group) (nodes : List ℤ) (p : Point) (t : ℤ) where
       }
 
   -- judged first, as every call is
-  pub explained_judged : explained g nodes p t ≡ unless_refused refused_by (judged g) (explained_by g nodes p t (looked_in g nodes p t))
+  pub explained_judged : explained g nodes p t ≡ unless_refused Err (judged g) (explained_by g nodes p t (looked_in g nodes p t))
   unfolding looked explained_by
   explained_judged = go (judged g)
     where
-      go : (v : Result ⊤ Refusal) → explained_by g nodes p t (unless_refused Err v (looked_in g nodes p t)) ≡ unless_refused refused_by v (explained_by g nodes p t (looked_in g nodes p t))
+      go : (v : Result ⊤ Refusal) → explained_by g nodes p t (unless_refused Err v (looked_in g nodes p t)) ≡ unless_refused Err v (explained_by g nodes p t (looked_in g nodes p t))
       go (Ok tt) = refl
       go (Err r) = refl

@@ -8,14 +8,14 @@ use native.Mathlib.Omega.{arith}
 use borrow.Author.Tests.{lt-ltb, le-ltb, ltb-true, ne_eqb, eqb-false, not-true}
 use lib.Dec.{ltb, eqb}
 use lib.IntN.{ℤ, pos}
-use lib.ListN.{get_or, replicate}
+use lib.ListN.{get_or}
 use Rattle.numbers.specs.Round.{round_z}
 use Rattle.numbers.proofs.Bools.{and_left, and_right}
 use Rattle.group.specs.declared.Group.{Group}
 use Rattle.group.specs.declared.Point.{Point}
 use Rattle.group.specs.declared.Refusal.{Refusal}
 use Rattle.group.specs.Record.{grid_at}
-use Rattle.group.proofs.RefusalLaws.{no_acceptance}
+use Rattle.group.proofs.RefusalLaws.{no_answer}
 use Rattle.extent.specs.Extent.{holds}
 use Rattle.ingroup.specs.InGroup.{chosen_in}
 use Rattle.ingroup.proofs.InGroupLaws.{chosen_holds}
@@ -33,18 +33,11 @@ use Rattle.lookup.specs.Lookup.{offset_of, looked}
 use Rattle.lookup.proofs.OffsetLaws.{offset_inside}
 use Rattle.lookup.proofs.BestLaws.{chosen_is_best}
 use Rattle.lookup.proofs.FoundLaws.{no_fix, found}
-use Rattle.explain.specs.Explain.{Worked, none_worked, part_worked, worked_in, is_other, other_rank, pieces_of, pieces_numbers, explanation_words, explained_by}
+use Rattle.explain.specs.Explain.{Worked, none_worked, part_worked, worked_in, is_other, other_rank, pieces_of, pieces_numbers, explained_by}
 use Rattle.explain.specs.Flat.{Explainable}
 use Rattle.explain.specs.Rework.{Again, Reworks, Explains}
-use Rattle.explain.proofs.ExplainLaws.{explainable}
+use Rattle.explain.proofs.ExplainLaws.{by_fix, explainable}
 use Rattle.std.specs.Prelude.{Result, Ok, Err}
-
--- one refusal is another only where they are the same
-same_verdict : (r s : Refusal) → Err r ≡ Err s → r ≡ s
-same_verdict r s e = cc
-
-same_lookup : (r s : Refusal) → Err r ≡ Err s → r ≡ s
-same_lookup r s e = cc
 
 -- ---- one parameter
 
@@ -186,37 +179,29 @@ module _ (g : Group) (nodes : List ℤ) (p : Point) (t : ℤ) (f : Fix) (e : loo
         answer = answer ∙ sym e;
       }
     where
-      answer : Ok (record { grid = f.grid; first = (worked_in l nodes factor 0).result; second = (worked_in l nodes factor 1).result; third = (worked_in l nodes factor 2).result }) ≡ Ok f
+      answer : ◌≡◌ {A = Result Fix Refusal}
+          (Ok (record { grid = f.grid; first = (worked_in l nodes factor 0).result; second = (worked_in l nodes factor 1).result; third = (worked_in l nodes factor 2).result })) (Ok f)
       answer = λ i. Ok (record { grid = f.grid; first = result_is 0 (omega arith) i; second = result_is 1 (omega arith) i; third = result_is 2 (omega arith) i })
 
 -- ---- the whole
 
 -- what an answer is by what the lookup found
 module _ (g : Group) (nodes : List ℤ) (p : Point) (t : ℤ) where
-  by_zeros : (r : Refusal) → (explained_by g nodes p t (Err r)).numbers ≡ replicate explanation_words (pos 0)
+  refused : (x : Result Fix Refusal) (r : Refusal) → (explained_by g nodes p t x ≡ Err r) ↔ (x ≡ Err r)
   unfolding explained_by
-  by_zeros r = refl
+  refused (Ok f) r = (λ e. absurd (no_answer r _ (sym e)), λ e. absurd (no_fix f r (sym e)))
+  refused (Err s) r = (λ e. let same : s ≡ r = cc in ap Err same, λ e. let same : s ≡ r = cc in ap Err same)
 
-  by_pieces : (f : Fix) → (explained_by g nodes p t (Ok f)).numbers ≡ pieces_numbers (pieces_of g nodes p t f.grid)
+  accepted : (x : Result Fix Refusal) → ((numbers : List ℤ) × (explained_by g nodes p t x ≡ Ok numbers)) ↔ ((f : Fix) × (x ≡ Ok f))
   unfolding explained_by
-  by_pieces f = refl
-
-  refused : (x : Result Fix Refusal) (r : Refusal) → ((explained_by g nodes p t x).verdict ≡ Err r) ↔ (x ≡ Err r)
-  unfolding explained_by
-  refused (Ok f) r = (λ e. absurd (no_acceptance r (sym e)), λ e. absurd (no_fix f r (sym e)))
-  refused (Err s) r = (λ e. ap Err (same_verdict s r e), λ e. ap Err (same_lookup s r e))
-
-  accepted : (x : Result Fix Refusal) → ((explained_by g nodes p t x).verdict ≡ Ok tt) ↔ ((f : Fix) × (x ≡ Ok f))
-  unfolding explained_by
-  accepted (Ok f) = (λ e. (f, refl), λ e. refl)
-  accepted (Err s) = (λ e. absurd (no_acceptance s e), λ e. absurd (no_fix e.0 s e.1))
+  accepted (Ok f) = (λ e. (f, refl), λ e. (pieces_numbers (pieces_of g nodes p t f.grid), refl))
+  accepted (Err s) = (λ e. absurd (no_answer s e.0 e.1), λ e. absurd (no_fix e.0 s e.1))
 
 pub explains : (g : Group) (nodes : List ℤ) (p : Point) (t : ℤ) → Explains g nodes p t
 explains g nodes p t =
     record {
-      refused = λ r. refused g nodes p t (looked g nodes p t) r;
-      zeros = λ r e. ap (λ (x : Result Fix Refusal). (explained_by g nodes p t x).numbers) e ∙ by_zeros g nodes p t r;
+      refused = refused g nodes p t (looked g nodes p t);
       accepted = accepted g nodes p t (looked g nodes p t);
-      pieces = λ f e. (ap (λ (x : Result Fix Refusal). (explained_by g nodes p t x).numbers) e ∙ by_pieces g nodes p t f, reworks g nodes p t f e);
+      pieces = λ f e. (sym (by_fix g nodes p t f e refl), reworks g nodes p t f e);
       sums = λ z. record { whole = parts_whole z; below = low_below z };
     }

@@ -1,5 +1,5 @@
 -- What a lookup is made of: the pieces by which its answer is worked out, each by the lookup's own definition.
-use Rattle.std.specs.Prelude.{ℕ, ◌+◌, ◌-◌, ◌*◌, Bool, not, cond, ◌&&◌, List, [], ◌∷◌, ◌++◌, ltb, eqb, ℤ, pos, replicate, Result, Ok, Err}
+use Rattle.std.specs.Prelude.{ℕ, ◌+◌, ◌-◌, ◌*◌, Bool, not, cond, ◌&&◌, List, [], ◌∷◌, ◌++◌, ltb, eqb, ℤ, pos, Result, Ok, Err}
 use Rattle.group.specs.declared.Group.{Group}
 use Rattle.group.specs.declared.Point.{Point}
 use Rattle.group.specs.Numbers.{parameters_most, grids_most}
@@ -14,7 +14,6 @@ use Rattle.day.specs.Day.{factor_of, result_of}
 use Rattle.fix.specs.declared.Offset.{Offset}
 use Rattle.fix.specs.Fix.{cell_of, position, corners_of, value_in}
 use Rattle.lookup.specs.Lookup.{offset_of, looked}
-use Rattle.explain.specs.declared.Explanation.{Explanation}
 use Rattle.group.specs.declared.Refusal.{Refusal}
 use Rattle.fix.specs.declared.Fix.{Fix}
 
@@ -129,11 +128,11 @@ pieces_numbers e =
 abbrev pub explanation_words : ℕ
 explanation_words = 18 + parameters_most * 8 + grids_most
 
--- ---- the answer: refused as the lookup is, with zeros, else the pieces of its grid
+-- ---- the answer: refused as the lookup is, else the pieces of its grid
 
-unfoldable pub explained_by : Group → List ℤ → Point → ℤ → Result Fix Refusal → Explanation
-explained_by g nodes p t (Ok f) = record { verdict = Ok tt; numbers = pieces_numbers (pieces_of g nodes p t f.grid) }
-explained_by g nodes p t (Err r) = record { verdict = Err r; numbers = replicate explanation_words (pos 0) }
+unfoldable pub explained_by : Group → List ℤ → Point → ℤ → Result Fix Refusal → Result (List ℤ) Refusal
+explained_by g nodes p t (Ok f) = Ok (pieces_numbers (pieces_of g nodes p t f.grid))
+explained_by g nodes p t (Err r) = Err r
 
-abbrev pub explained : Group → List ℤ → Point → ℤ → Explanation
+abbrev pub explained : Group → List ℤ → Point → ℤ → Result (List ℤ) Refusal
 explained g nodes p t = explained_by g nodes p t (looked g nodes p t)

@@ -1,6 +1,6 @@
 -- What an explanation promises: it is refused exactly as the lookup is, and else its pieces, worked again from the header and the nodes, give
 -- the lookup's answer.
-use Rattle.std.specs.Prelude.{ℕ, ◌+◌, ◌-◌, ◌*◌, ◌^◌, ◌≤◌, ◌<◌, ◌≡◌, true, List, ◌↔◌, ℤ, pos, ◌+ℤ◌, ◌-ℤ◌, ◌*ℤ◌, nat_abs, get_or, replicate, Ok, Err}
+use Rattle.std.specs.Prelude.{ℕ, ◌+◌, ◌-◌, ◌*◌, ◌^◌, ◌≤◌, ◌<◌, ◌≡◌, true, List, ◌↔◌, ℤ, pos, ◌+ℤ◌, ◌-ℤ◌, ◌*ℤ◌, nat_abs, get_or, Ok, Err}
 use Rattle.numbers.specs.Round.{round_z}
 use Rattle.group.specs.declared.Grid.{Grid}
 use Rattle.group.specs.declared.Group.{Group}
@@ -14,7 +14,7 @@ use Rattle.day.specs.Day.{factor_of, result_of}
 use Rattle.fix.specs.declared.Fix.{Fix}
 use Rattle.lookup.specs.Lookup.{looked}
 use Rattle.lookup.specs.Demand2.{BestGrid}
-use Rattle.explain.specs.Explain.{Pieces, none_worked, pieces_of, pieces_numbers, explanation_words, explained}
+use Rattle.explain.specs.Explain.{Pieces, none_worked, pieces_of, pieces_numbers, explained}
 
 -- one parameter, from the node list to the result
 pub record Again (nodes : List ℤ) (e : Pieces) (q : ℕ) : Type 0 where
@@ -74,12 +74,11 @@ pub record TwoNumbers (z : ℤ) : Type 0 where
   pub below : low_part z < 2 ^ 32
 
 pub record Explains (g : Group) (nodes : List ℤ) (p : Point) (t : ℤ) : Type 0 where
-  -- refused exactly where the lookup is, by the same number with the same place, and zeros beside it
-  pub refused : (r : Refusal) → ((explained g nodes p t).verdict ≡ Err r) ↔ (looked g nodes p t ≡ Err r)
-  pub zeros : (r : Refusal) → looked g nodes p t ≡ Err r → (explained g nodes p t).numbers ≡ replicate explanation_words (pos 0)
+  -- refused exactly where the lookup is, by the same number with the same place
+  pub refused : (r : Refusal) → (explained g nodes p t ≡ Err r) ↔ (looked g nodes p t ≡ Err r)
   -- accepted exactly where the lookup is; the numbers are then those of the pieces, which give its answer
-  pub accepted : ((explained g nodes p t).verdict ≡ Ok tt) ↔ ((f : Fix) × (looked g nodes p t ≡ Ok f))
+  pub accepted : ((numbers : List ℤ) × (explained g nodes p t ≡ Ok numbers)) ↔ ((f : Fix) × (looked g nodes p t ≡ Ok f))
   pub pieces : (f : Fix) → looked g nodes p t ≡ Ok f
-      → ((explained g nodes p t).numbers ≡ pieces_numbers (pieces_of g nodes p t f.grid)) × Reworks g nodes p t (pieces_of g nodes p t f.grid)
+      → (explained g nodes p t ≡ Ok (pieces_numbers (pieces_of g nodes p t f.grid))) × Reworks g nodes p t (pieces_of g nodes p t f.grid)
   -- no sum is cut
   pub sums : (z : ℤ) → TwoNumbers z

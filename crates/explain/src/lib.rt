@@ -1,7 +1,7 @@
 // What a lookup is made of: the numbers by which an examiner can work its answer out again.
 #![tactic(auto)]
 
-ghost use Rattle.std.specs.Prelude.{◌≡◌, false, [], ◌++◌, ℕ, ◌+◌, ◌^◌, ◌<◌, ◌≤◌, pos, nat_abs, length, replicate, Ok, Err};
+ghost use Rattle.std.specs.Prelude.{◌≡◌, false, [], ◌++◌, ℕ, ◌+◌, ◌^◌, ◌<◌, ◌≤◌, pos, nat_abs, length, Ok};
 ghost use Rattle.numbers.specs.Lists.{at};
 ghost use Rattle.group.specs.Numbers.{lon_turn, grids_most, rank_most, factor_most};
 ghost use Rattle.abi.specs.Abi.{list_of, group_of_words};
@@ -13,7 +13,7 @@ ghost use Rattle.fix.specs.Inside.{InsideGrid, RangeListed};
 ghost use Rattle.fix.specs.Parts.{Begun};
 ghost use Rattle.lookup.specs.Lookup.{looked_in};
 ghost use Rattle.lookup.specs.Flat.{Laid};
-ghost use Rattle.explain.specs.Explain.{worked_in, worked_numbers, pieces_at, cell_numbers, pieces_of, pieces_numbers, explained_by, explained, explanation_words};
+ghost use Rattle.explain.specs.Explain.{worked_in, worked_numbers, pieces_at, cell_numbers, pieces_of, pieces_numbers, explained_by, explained};
 ghost use Rattle.explain.specs.Flat.{rank_beside, parameters_numbers, Explainable};
 
 use abi::GROUP_WORDS;
@@ -35,12 +35,8 @@ const OTHERS_FROM: usize = CELL_WORDS + PARAMETERS_WORDS;
 
 pub const EXPLANATION_WORDS: usize = OTHERS_FROM + GRIDS_MOST;
 
-// What a lookup is made of, in the order of include/bulhyemik.h; zeros beside a refusal.
-#[derive(Clone, Copy)]
-pub struct Explanation {
-    pub verdict: Result<(), Refusal>,
-    pub numbers: [i64; EXPLANATION_WORDS],
-}
+// What a lookup is made of, in the order of include/bulhyemik.h.
+pub type Explanation = [i64; EXPLANATION_WORDS];
 
 // The numbers of a point's cell in the grid numbered c, by the longitude used and the day's factor.
 fn cell_numbers(l: Offset, c: u64, lon: i64, factor: i64) -> [i64; CELL_WORDS]
@@ -152,14 +148,7 @@ fn ranks_beside(
     requires { Room sides.now ranks.now grids × (lon_turn ≤ x) × (x + lon_turn < 2 ^ 64) × ((i : ℕ) → i < grids → at ranks.now i ≤ rank_most) }
     ensures { result ≡ list_of (λ k. pos (rank_beside sides.now ranks.now grids c x y k)) grids_most }
 {
-    let mut out = [0i64; GRIDS_MOST];
-    let mut k = 0;
-    while k < GRIDS_MOST {
-        let rank = rank_beside(sides, ranks, grids, c, x, y, k);
-        out[k] = rank as i64;
-        k += 1;
-    }
-    out
+    std::array::from_fn(|k| rank_beside(sides, ranks, grids, c, x, y, k) as i64)
 }
 
 // All numbers of a point in the grid numbered c, with the ranks of the others that hold it.
@@ -170,7 +159,7 @@ fn all_numbers(
     nodes: &[i32],
     factor: i64,
     others: &[i64; GRIDS_MOST],
-) -> [i64; EXPLANATION_WORDS]
+) -> Explanation
     requires { InsideGrid l × RangeListed l (length nodes.now) × (0 < l.np) × (c ≤ grids_most) × (nat_abs factor ≤ factor_most) × (corner_some is_beyond l nodes.now ≡ false) }
     ensures { result ≡ cell_numbers (pieces_at c lon l [] factor (λ k. 0)) ++ (parameters_numbers l nodes.now factor ++ others.now) }
 {
@@ -193,7 +182,7 @@ fn found_numbers(
     point: Point,
     day: i64,
     c: u64,
-) -> [i64; EXPLANATION_WORDS]
+) -> Explanation
     requires { Explainable (group_of_words words.now) nodes.now point day c
         × Laid (group_of_words words.now) sides.now ranks.now frames.now }
     ensures { result ≡ pieces_numbers (pieces_of (group_of_words words.now) nodes.now point day c) }
@@ -209,16 +198,6 @@ fn found_numbers(
     all_numbers(l, c, lon, nodes, factor, &others)
 }
 
-// A refusal, with zeros beside it.
-fn unexplained(refusal: Refusal) -> Explanation
-    ensures { result ≡ record { verdict = Err refusal; numbers = replicate explanation_words (pos 0) } }
-{
-    Explanation {
-        verdict: Err(refusal),
-        numbers: [0i64; EXPLANATION_WORDS],
-    }
-}
-
 // What a lookup in an accepted group, whose flat lists are these, is made of.
 fn explain_accepted(
     words: &[i64; GROUP_WORDS],
@@ -228,22 +207,13 @@ fn explain_accepted(
     nodes: &[i32],
     point: Point,
     day: i64,
-) -> Explanation
+) -> Result<Explanation, Refusal>
     requires { (judged (group_of_words words.now) ≡ Ok tt) × Laid (group_of_words words.now) sides.now ranks.now frames.now }
     ensures { result ≡ explained_by (group_of_words words.now) nodes.now point day
         (looked_in (group_of_words words.now) nodes.now point day) }
 {
-    let found = lookup::look_accepted(words, sides, ranks, frames, nodes, point, day);
-    match found {
-        Err(refusal) => unexplained(refusal),
-        Ok(fix) => {
-            let numbers = found_numbers(words, sides, ranks, frames, nodes, point, day, fix.grid);
-            Explanation {
-                verdict: Ok(()),
-                numbers: numbers,
-            }
-        }
-    }
+    let fix = lookup::look_accepted(words, sides, ranks, frames, nodes, point, day)?;
+    Ok(found_numbers(words, sides, ranks, frames, nodes, point, day, fix.grid))
 }
 
 // What a lookup in a group handed over as a list of numbers is made of, as `explain` says.
@@ -252,17 +222,14 @@ pub fn explain_words(
     nodes: &[i32],
     point: Point,
     day: i64,
-) -> Explanation
+) -> Result<Explanation, Refusal>
     ensures { result ≡ explained (group_of_words words.now) nodes.now point day }
 {
     let mut sides = [0u64; flat::SIDES];
     let mut ranks = [0u64; group::GRIDS_MOST];
     let mut frames = [0u64; flat::FRAMES];
-    let verdict = judge::judge_into(words, &mut sides, &mut ranks, &mut frames);
-    match verdict {
-        Err(refusal) => unexplained(refusal),
-        Ok(()) => explain_accepted(words, &sides, &ranks, &frames, nodes, point, day),
-    }
+    judge::judge_into(words, &mut sides, &mut ranks, &mut frames)?;
+    explain_accepted(words, &sides, &ranks, &frames, nodes, point, day)
 }
 
 // What the lookup of a point on a day is made of: refused as `lookup` refuses, else the chosen grid's number, the longitude used, the
@@ -270,7 +237,7 @@ pub fn explain_words(
 // the corners, the day's factor, for each parameter the corners, their weighted sum in two parts, the value and the result, and the
 // ranks of the other grids that hold the point. With document 01's grid `basin`, no functions and the nodes 0 10 20 / 100 110 120,
 // the point (5, 5) has the cell (0, 0), four weights of 25, the sum 5500, the value 55 and the result 55.
-pub fn explain(group: Group, nodes: &[i32], point: Point, day: i64) -> Explanation
+pub fn explain(group: Group, nodes: &[i32], point: Point, day: i64) -> Result<Explanation, Refusal>
     ensures { result ≡ explained group nodes.now point day }
 {
     let words = abi::numbers_of(group);
