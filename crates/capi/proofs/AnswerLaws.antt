@@ -37,7 +37,7 @@ use Rattle.logs.specs.Writing.{line_written, line_after}
 use Rattle.numbers.specs.Order.{count_of}
 use Rattle.abi.specs.Abi.{group_of_words, numbers_of, count_at, number_at, stored, joined}
 use Rattle.abi.proofs.ListLaws.{sets_append, sets_whole, length_joined}
-use Rattle.capi.specs.Answers.{left, filled, answered, judge_answer, fix_numbers, found_answer, point_of, lookup_answer, many_answer, area_of, hole_numbers, hole_answer, lent_text, written_answer, write_answer, fault_numbers, log_answer, line_answer, loaded_by, load_answer}
+use Rattle.capi.specs.Answers.{left, left_by, answered, judge_answer, fix_numbers, found_answer, point_of, lookup_answer, many_answer, area_of, hole_numbers, hole_answer, lent_text, written_answer, write_answer, fault_numbers, log_answer, line_answer, loaded_by, load_answer}
 use Rattle.capi.specs.InForce.{entries_from, entry_words, list_words, stored_entry, stored_list, list_numbers, in_force_answer}
 use Rattle.capi.proofs.SmallLaws.{in_force_stored}
 use Rattle.capi.specs.Screen.{lookup_of, shown_of, shifts_answer, record_floats, record_answer}
@@ -58,9 +58,9 @@ pub same_area : {w e s n west east south north : ℤ} → w ≡ west → e ≡ e
 same_area a b c d i = area_of (a i) (b i) (c i) (d i)
 
 -- what is told of an answer and left of it
-pub told_filled : {A B : Type 0} (fill : A → B) (beside : B) (a b : Result A Refusal) (number place : ℕ) (lent : B)
-    → refusal number place ≡ refusal_of a → lent ≡ filled fill beside a → a ≡ b → left number place lent ≡ answered fill beside b
-told_filled fill beside a b number place lent t l e = (λ i. record { refusal = t i; lent = l i }) ∙ ap (answered fill beside) e
+pub told_left : {A B : Type 0} (fill : A → B) (beside : B) (a b : Result A Refusal) (number place : ℕ) (lent : B)
+    → refusal number place ≡ refusal_of a → lent ≡ left_by fill beside a → a ≡ b → left number place lent ≡ answered fill beside b
+told_left fill beside a b number place lent t l e = (λ i. record { refusal = t i; lent = l i }) ∙ ap (answered fill beside) e
 
 module _ (l : List ℤ) where
   abbrev g : Group
@@ -84,24 +84,24 @@ module _ (l : List ℤ) where
   many_told nodes points results after v number place a b c = λ i. record { refusal = (c ∙ ap refusal_of a) i; lent = b i }
 
   pub in_force_told : (area t : Area) (f : Result InForce Refusal) (number place : ℕ) (ns : List ℤ) → t ≡ area → f ≡ in_force_of g t
-      → refusal number place ≡ refusal_of f → ns ≡ filled stored_list (replicate list_words (pos 0)) f → left number place ns ≡ in_force_answer l area
+      → refusal number place ≡ refusal_of f → ns ≡ left_by stored_list (replicate list_words (pos 0)) f → left number place ns ≡ in_force_answer l area
   unfolding in_force_answer
   in_force_told area t f number place ns e a b c =
-      told_filled list_numbers (replicate list_words (pos 0)) f (in_force_of g area) number place ns b (c ∙ in_force_stored g t f a) (a ∙ ap (in_force_of g) e)
+      told_left list_numbers (replicate list_words (pos 0)) f (in_force_of g area) number place ns b (c ∙ in_force_stored g t f a) (a ∙ ap (in_force_of g) e)
 
   pub hole_told : (area t : Area) (h : Result (Option Point) Refusal) (number place : ℕ) (ns : List ℤ) → t ≡ area → h ≡ hole_of g t
-      → refusal number place ≡ refusal_of h → ns ≡ filled hole_numbers (replicate 3 (pos 0)) h → left number place ns ≡ hole_answer l area
+      → refusal number place ≡ refusal_of h → ns ≡ left_by hole_numbers (replicate 3 (pos 0)) h → left number place ns ≡ hole_answer l area
   unfolding hole_answer
   hole_told area t h number place ns e a b c =
-      told_filled hole_numbers (replicate 3 (pos 0)) h (hole_of g area) number place ns b c (a ∙ ap (hole_of g) e)
+      told_left hole_numbers (replicate 3 (pos 0)) h (hole_of g area) number place ns b c (a ∙ ap (hole_of g) e)
 
-  pub log_told : (nodes : List ℤ) (log : List ℕ) (j : Result Fault Refusal) (number place : ℕ) (ns : List ℕ) → j ≡ log_judged g nodes log
-      → refusal number place ≡ refusal_of j → ns ≡ filled fault_numbers (replicate 2 0) j → left number place ns ≡ log_answer l nodes log
+  pub log_told : (nodes : List ℤ) (log : List ℕ) (j : Result (Option Fault) Refusal) (number place : ℕ) (ns : List ℕ) → j ≡ log_judged g nodes log
+      → refusal number place ≡ refusal_of j → ns ≡ left_by fault_numbers (replicate 2 0) j → left number place ns ≡ log_answer l nodes log
   unfolding log_answer
-  log_told nodes log j number place ns a b c = told_filled fault_numbers (replicate 2 0) j (log_judged g nodes log) number place ns b c a
+  log_told nodes log j number place ns a b c = told_left fault_numbers (replicate 2 0) j (log_judged g nodes log) number place ns b c a
 
   pub line_told : (nodes position : List ℤ) (out after : List ℕ) (p : Position) (w : Result ℕ Refusal) (number place n : ℕ) → p ≡ position_of position
-      → w ≡ line_written g nodes p (length out) → after ≡ line_after g nodes p out → refusal number place ≡ refusal_of w → n ≡ filled (λ k. k) 0 w
+      → w ≡ line_written g nodes p (length out) → after ≡ line_after g nodes p out → refusal number place ≡ refusal_of w → n ≡ left_by (λ k. k) 0 w
       → left number place (lent_text n after) ≡ line_answer l nodes position out
   unfolding line_answer
   line_told nodes position out after p w number place n e a b c d =
@@ -110,7 +110,7 @@ module _ (l : List ℤ) where
       ∙ ap (λ (q : Position). written_answer (line_written g nodes q (length out)) (line_after g nodes q out)) e
 
   pub write_told : (out after : List ℕ) (w : Result ℕ Refusal) (number place n : ℕ)
-      → w ≡ written g (length out) → after ≡ bytes_after g out → refusal number place ≡ refusal_of w → n ≡ filled (λ k. k) 0 w
+      → w ≡ written g (length out) → after ≡ bytes_after g out → refusal number place ≡ refusal_of w → n ≡ left_by (λ k. k) 0 w
       → left number place (lent_text n after) ≡ write_answer l out
   unfolding write_answer
   write_told out after w number place n a b c d =

@@ -37,7 +37,7 @@ use Rattle.logs.specs.Writing.{line_written}
 use Rattle.logs.proofs.TableLaws.{log_told, line_told, line_kept}
 use Rattle.numbers.specs.Order.{count_of}
 use Rattle.abi.specs.Abi.{group_of_words, numbers_of, joined}
-use Rattle.capi.specs.Answers.{filled, point_of, lent_text, judge_answer, read_answer, write_answer, fix_numbers, lookup_answer, many_answer, hole_numbers, hole_answer, fault_numbers, log_answer, line_answer, load_answer}
+use Rattle.capi.specs.Answers.{left_by, point_of, lent_text, judge_answer, read_answer, write_answer, fix_numbers, lookup_answer, many_answer, hole_numbers, hole_answer, fault_numbers, log_answer, line_answer, load_answer}
 use Rattle.capi.specs.InForce.{list_words, list_numbers, in_force_answer}
 use Rattle.capi.specs.Screen.{lookup_of, shown_of, record_floats}
 use Rattle.capi.specs.Demand1.{Judges, Reads, Writes, JudgesLog, WritesLine, Looks, LooksMany, Lists, FindsHole, Loads, Shows}
@@ -50,7 +50,7 @@ unfolding judge_answer
 judges group = record { told = judged_told (group_of_words group) }
 
 -- what stands beside a refusal
-beside : {A B : Type 0} (fill : A → B) (z : B) (x : Result A Refusal) → ((refusal_of x).number ≡ 0 → ⊥) → filled fill z x ≡ z
+beside : {A B : Type 0} (fill : A → B) (z : B) (x : Result A Refusal) → ((refusal_of x).number ≡ 0 → ⊥) → left_by fill z x ≡ z
 beside fill z (Ok x) n = absurd (n refl)
 beside fill z (Err r) n = refl
 

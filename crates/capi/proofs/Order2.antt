@@ -18,7 +18,7 @@ use Rattle.inforce.specs.Order2.{HoleInArea}
 use Rattle.inforce.proofs.TableLaws.{found_told}
 use Rattle.inforce.proofs.Order2.{order_2, refuses_alike}
 use Rattle.abi.specs.Abi.{number_at, group_of_words}
-use Rattle.capi.specs.Answers.{filled, hole_numbers, hole_answer}
+use Rattle.capi.specs.Answers.{left_by, hole_numbers, hole_answer}
 use Rattle.capi.specs.Order2.{HoleWords, NamesHole}
 use Rattle.std.specs.Prelude.{Option, Some, None, Result, Ok, Err, ⊤}
 use Rattle.group.specs.declared.Refusal.{Refusal}
@@ -66,9 +66,9 @@ names_hole group area z = go (judged g) refl (area_fits area) refl
     taken : (r : Refusal) → verdict_of (hole_of g area) ≡ Err r → ⊥
     taken r e = no_acceptance r (sym e ∙ ap verdict_of accepted.1)
 
-    go : (v : Result ⊤ Refusal) → judged g ≡ v → (t : Bool) → area_fits area ≡ t → HoleWords g area (filled hole_numbers (replicate 3 (pos 0)) (hole_of g area))
+    go : (v : Result ⊤ Refusal) → judged g ≡ v → (t : Bool) → area_fits area ≡ t → HoleWords g area (left_by hole_numbers (replicate 3 (pos 0)) (hole_of g area))
     go (Err r) e t f = absurd (taken r ((refuses_alike g area).judges.group r e))
     go (Ok tt) e false f = absurd (taken (refusal 10 0) ((refuses_alike g area).judges.area e f))
     go (Ok tt) e true f =
         let o = order_2 g area e f in
-        subst (λ (h : Result (Option Point) Refusal). HoleWords g area (filled hole_numbers (replicate 3 (pos 0)) h)) (sym o.1) (words g area o.0 o.2)
+        subst (λ (h : Result (Option Point) Refusal). HoleWords g area (left_by hole_numbers (replicate 3 (pos 0)) h)) (sym o.1) (words g area o.0 o.2)

@@ -20,7 +20,7 @@ use Rattle.inforce.specs.Demand3.{GridsInForce}
 use Rattle.inforce.proofs.StageLaws.{accepted_area, in_force_refused}
 use Rattle.inforce.proofs.Demand3.{demand_3}
 use Rattle.group.proofs.RefusalLaws.{no_answer, ok_same}
-use Rattle.capi.specs.Answers.{filled}
+use Rattle.capi.specs.Answers.{left_by}
 use Rattle.abi.specs.Abi.{joined}
 use Rattle.abi.proofs.NumberLaws.{as_it_is}
 use Rattle.capi.specs.InForce.{list_words, entry_numbers, stored_entry, list_numbers, stored_list}
@@ -52,12 +52,12 @@ whole r h =
     λ i. (c i ∷ []) ++ es i
 
 pub in_force_stored : (g : Group) (a : Area) (f : Result InForce Refusal) → f ≡ in_force_of g a
-    → filled stored_list (replicate list_words (pos 0)) f ≡ filled list_numbers (replicate list_words (pos 0)) f
+    → left_by stored_list (replicate list_words (pos 0)) f ≡ left_by list_numbers (replicate list_words (pos 0)) f
 in_force_stored g a (Err r) e = refl
 in_force_stored g a (Ok l) e = whole l (go (area_judged g a) refl)
   where
     go : (v : Result ⊤ Refusal) → area_judged g a ≡ v → Small l
-    go (Err r) q = absurd (no_answer r l (sym (in_force_refused g a r q) ∙ sym e))
+    go (Err r) q = absurd (no_answer l r (sym (in_force_refused g a r q) ∙ sym e))
     go (Ok tt) q =
         let j = accepted_area g a q in let d = demand_3 g a j.0 j.1 in
         listed_small g a l (accepted_head g j.0).grids (subst (GridsInForce g a) (ok_same d.0 l (sym d.1 ∙ sym e)) d.2)

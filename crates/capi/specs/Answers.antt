@@ -15,6 +15,7 @@ use Rattle.lookup.specs.Answer.{answer_record}
 use Rattle.lookup.specs.Lookup.{looked}
 use Rattle.exercise.specs.Exercise.{many_verdict, results_after}
 use Rattle.logs.specs.declared.Fault.{Fault}
+use Rattle.logs.specs.Kinds.{kind_number}
 use Rattle.logs.specs.Line.{position_of}
 use Rattle.logs.specs.Log.{log_judged}
 use Rattle.logs.specs.Writing.{line_written, line_after}
@@ -34,12 +35,12 @@ abbrev pub left : {A : Type 0} → ℕ → ℕ → A → Answer A
 left number place lent = record { refusal = refusal number place; lent = lent }
 
 -- what a call answers: what its answer fills in, and beside a refusal what is given for it
-abbrev pub filled : {A B : Type 0} → (A → B) → B → Result A Refusal → B
-filled fill beside (Ok x) = fill x
-filled fill beside (Err r) = beside
+abbrev pub left_by : {A B : Type 0} → (A → B) → B → Result A Refusal → B
+left_by fill beside (Ok x) = fill x
+left_by fill beside (Err r) = beside
 
 abbrev pub answered : {A B : Type 0} → (A → B) → B → Result A Refusal → Answer B
-answered fill beside a = record { refusal = refusal_of a; lent = filled fill beside a }
+answered fill beside a = record { refusal = refusal_of a; lent = left_by fill beside a }
 
 -- ---- judging
 
@@ -102,15 +103,16 @@ abbrev pub lent_text : ℕ → List ℕ → Text
 lent_text count bytes = record { count = count; bytes = bytes }
 
 abbrev pub written_answer : Result ℕ Refusal → List ℕ → Answer Text
-written_answer w bytes = record { refusal = refusal_of w; lent = lent_text (filled (λ n. n) 0 w) bytes }
+written_answer w bytes = record { refusal = refusal_of w; lent = lent_text (left_by (λ n. n) 0 w) bytes }
 
 unfoldable pub write_answer : List ℤ → List ℕ → Answer Text
 write_answer group out = written_answer (written (group_of_words group) (length out)) (bytes_after (group_of_words group) out)
 
 -- ---- judging a log: the first bad line and its kind, 0 and 0 where the log passes and beside a refusal
 
-abbrev pub fault_numbers : Fault → List ℕ
-fault_numbers f = f.line ∷ f.kind ∷ []
+abbrev pub fault_numbers : Option Fault → List ℕ
+fault_numbers (Some f) = f.line ∷ kind_number f.kind ∷ []
+fault_numbers None = replicate 2 0
 
 unfoldable pub log_answer : (group nodes : List ℤ) → List ℕ → Answer (List ℕ)
 log_answer group nodes log = answered fault_numbers (replicate 2 0) (log_judged (group_of_words group) nodes log)

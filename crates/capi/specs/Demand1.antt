@@ -47,7 +47,7 @@ pub record Writes (group : List ℤ) (out : List ℕ) : Type 0 where
   pub kept : LeftBeside (lent_text 0 out) (write_answer group out)
 
 pub record JudgesLog (group nodes : List ℤ) (log : List ℕ) : Type 0 where
-  pub told : Told ((f : Fault) × (log_judged (group_of_words group) nodes log ≡ Ok f)) (log_answer group nodes log).refusal
+  pub told : Told ((f : Option Fault) × (log_judged (group_of_words group) nodes log ≡ Ok f)) (log_answer group nodes log).refusal
   pub zeros : LeftBeside (replicate 2 0) (log_answer group nodes log)
 
 pub record WritesLine (group nodes position : List ℤ) (out : List ℕ) : Type 0 where

@@ -8,7 +8,7 @@ ghost use Rattle.group.specs.Refusals.{refusal, refusal_of};
 ghost use Rattle.inforce.specs.InForce.{blank_entry};
 ghost use Rattle.screen.specs.Screen.{shifts_of};
 ghost use Rattle.abi.specs.Abi.{joined};
-ghost use Rattle.capi.specs.Answers.{version, left, filled, area_of, hole_numbers, fault_numbers, lent_text, field_part};
+ghost use Rattle.capi.specs.Answers.{version, left, left_by, area_of, hole_numbers, fault_numbers, lent_text, field_part};
 ghost use Rattle.capi.specs.Answers.{judge_answer, read_answer, write_answer, lookup_answer, many_answer, hole_answer, log_answer, line_answer, load_answer};
 ghost use Rattle.capi.specs.InForce.{entries_from, list_words, stored_entry, stored_list, in_force_answer};
 ghost use Rattle.capi.specs.Screen.{lookup_of, shown_of, shifts_answer, record_answer};
@@ -18,6 +18,7 @@ use extent::{LatSpan, LonSpan};
 use fix::Fix;
 use group::{GRIDS_MOST, Latitude, Longitude, Point, Position, Refusal};
 use inforce::{Area, GridInForce, InForce};
+use logs::Fault;
 use lookup::Answer;
 use screen::Shifts;
 
@@ -65,6 +66,7 @@ pub extern "C" fn bulhyemik_judge(group: &[i64; GROUP_WORDS], place: &mut u64) -
 
 // Reads a header text into a group, which stays as it was after a refusal: 1 or 2 at the first faulty line, then 3, 4, 5.
 #[unsafe(no_mangle)]
+#[tactic(auto, unfolding(crate::specs::Answers::read_answer))]
 pub extern "C" fn bulhyemik_read_header(
     text: &[u8],
     group: &mut [i64; GROUP_WORDS],
@@ -81,7 +83,7 @@ pub extern "C" fn bulhyemik_read_header(
 
 // The count of bytes of a writing, 0 beside a refusal.
 fn written_count(written: Result<usize, Refusal>) -> u64
-    ensures { result ≡ filled (λ n. n) 0 written }
+    ensures { result ≡ left_by (λ n. n) 0 written }
 {
     match written {
         Ok(n) => n as u64,
@@ -104,12 +106,13 @@ pub extern "C" fn bulhyemik_write_header(
     told(&written, place)
 }
 
-// The line and the kind of a judgement.
-fn fault_numbers(j: Result<Fault, Refusal>) -> [u64; 2]
-    ensures { result ≡ filled fault_numbers (replicate 2 0) j }
+// The line and the kind of a judgement, zeros where the log passes and beside a refusal.
+fn fault_numbers(judged: Result<Option<Fault>, Refusal>) -> [u64; 2]
+    ensures { result ≡ left_by fault_numbers (replicate 2 0) judged }
 {
-    match j {
-        Ok(fault) => [fault.line, fault.kind],
+    match judged {
+        Ok(Some(fault)) => [fault.line, fault.kind.number()],
+        Ok(None) => [0, 0],
         Err(_) => [0, 0],
     }
 }
@@ -226,7 +229,7 @@ fn store_entries(out: &mut [i64], entries: [GridInForce; GRIDS_MOST])
 
 // The same, zeros beside a refusal.
 fn listed(found: Result<InForce, Refusal>) -> [i64; LIST_WORDS]
-    ensures { result ≡ filled stored_list (replicate list_words (pos 0)) found }
+    ensures { result ≡ left_by stored_list (replicate list_words (pos 0)) found }
 {
     match found {
         Ok(list) => list_numbers(list),
@@ -270,7 +273,7 @@ pub extern "C" fn bulhyemik_grids_in_force(
 
 // The numbers of a hole: 1, its longitude and its latitude, or zeros where there is none and beside a refusal.
 fn hole_numbers(found: Result<Option<Point>, Refusal>) -> [i64; 3]
-    ensures { result ≡ filled hole_numbers (replicate 3 (pos 0)) found }
+    ensures { result ≡ left_by hole_numbers (replicate 3 (pos 0)) found }
 {
     match found {
         Ok(Some(p)) => [1, p.lon.0, p.lat.0],

@@ -32,7 +32,7 @@ use Rattle.fix.proofs.OffsetLaws.{cell_weighed, cell_i, cell_j}
 use Rattle.lookup.specs.Lookup.{offset_of, looked}
 use Rattle.lookup.proofs.OffsetLaws.{offset_inside}
 use Rattle.lookup.proofs.BestLaws.{chosen_is_best}
-use Rattle.lookup.proofs.FoundLaws.{no_fix, found}
+use Rattle.lookup.proofs.FoundLaws.{found}
 use Rattle.explain.specs.Explain.{Worked, none_worked, part_worked, worked_in, is_other, other_rank, pieces_of, pieces_numbers, explained_by}
 use Rattle.explain.specs.Flat.{Explainable}
 use Rattle.explain.specs.Rework.{Again, Reworks, Explains}
@@ -189,13 +189,13 @@ module _ (g : Group) (nodes : List ℤ) (p : Point) (t : ℤ) (f : Fix) (e : loo
 module _ (g : Group) (nodes : List ℤ) (p : Point) (t : ℤ) where
   refused : (x : Result Fix Refusal) (r : Refusal) → (explained_by g nodes p t x ≡ Err r) ↔ (x ≡ Err r)
   unfolding explained_by
-  refused (Ok f) r = (λ e. absurd (no_answer r _ (sym e)), λ e. absurd (no_fix f r (sym e)))
+  refused (Ok f) r = (λ e. absurd (no_answer _ r (sym e)), λ e. absurd (no_answer f r (sym e)))
   refused (Err s) r = (λ e. let same : s ≡ r = cc in ap Err same, λ e. let same : s ≡ r = cc in ap Err same)
 
   accepted : (x : Result Fix Refusal) → ((numbers : List ℤ) × (explained_by g nodes p t x ≡ Ok numbers)) ↔ ((f : Fix) × (x ≡ Ok f))
   unfolding explained_by
   accepted (Ok f) = (λ e. (f, refl), λ e. (pieces_numbers (pieces_of g nodes p t f.grid), refl))
-  accepted (Err s) = (λ e. absurd (no_answer s e.0 e.1), λ e. absurd (no_fix e.0 s e.1))
+  accepted (Err s) = (λ e. absurd (no_answer e.0 s e.1), λ e. absurd (no_answer e.0 s e.1))
 
 pub explains : (g : Group) (nodes : List ℤ) (p : Point) (t : ℤ) → Explains g nodes p t
 explains g nodes p t =

@@ -131,14 +131,14 @@ pub verdicts : Answers (λ (v : Result ⊤ Refusal). v ≡ Ok tt) refusal_of Err
 verdicts = record { back = λ r. refl; never = no_acceptance }
 
 -- so of any answer that is a result
-pub no_answer : {A : Type 0} (r : Refusal) (x : A) → ◌≡◌ {A = Result A Refusal} (Err r) (Ok x) → ⊥
-no_answer r x e = let z : ◌≡◌ {A = ℕ} 0 1 = cc in omega arith
+pub no_answer : {A : Type 0} (x : A) (r : Refusal) → ◌≡◌ {A = Result A Refusal} (Err r) (Ok x) → ⊥
+no_answer x r e = let z : ◌≡◌ {A = ℕ} 0 1 = cc in omega arith
 
 pub ok_same : {A : Type 0} (x y : A) → ◌≡◌ {A = Result A Refusal} (Ok x) (Ok y) → x ≡ y
 ok_same x y e = cc
 
 pub results : {A : Type 0} → Answers (λ (v : Result A Refusal). (x : A) × (v ≡ Ok x)) refusal_of Err
-results = record { back = λ r. refl; never = λ r e. no_answer r e.0 e.1 }
+results = record { back = λ r. refl; never = λ r e. no_answer e.0 r e.1 }
 
 -- each stage of a chain tells so where its number stands in the table and what follows tells so
 module _ {A : Type 0} {Accepts : A → Type 0} {refusalOf : A → Refusal} {refused : Refusal → A} (k : Answers Accepts refusalOf refused) where

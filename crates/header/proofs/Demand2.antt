@@ -12,13 +12,13 @@ use Rattle.group.specs.declared.Function.{Function}
 use Rattle.group.specs.declared.Grid.{Grid}
 use Rattle.group.specs.declared.Group.{Group}
 use Rattle.group.specs.declared.Refusal.{Refusal}
-use Rattle.group.proofs.RefusalLaws.{passed_if, passed_verdict, not_zero, lent_kept}
+use Rattle.group.proofs.RefusalLaws.{passed_if, passed_verdict, not_zero, lent_kept, no_answer}
 use Rattle.judge.specs.Judge.{judged}
 use Rattle.header.specs.Whole.{Header, stopped, header, read_lines, group_of_lines, header_text}
 use Rattle.header.specs.Header.{verdict_reading, judged_reading, read_header, written, written_count, bytes_after}
 use Rattle.header.specs.Demand2.{InFront, TextRead, TextWritten, Shaped, Formed, JudgedAsText}
 use Rattle.header.proofs.HeaderLaws.{count_answer}
-use Rattle.header.proofs.TableLaws.{no_count, written_told}
+use Rattle.header.proofs.TableLaws.{written_told}
 use Rattle.header.proofs.TripLaws.{same_bytes}
 use Rattle.header.proofs.FormedLaws.{as_text, same_group}
 use Rattle.std.specs.Prelude.{Result, Ok, Err, ⊤}
@@ -65,8 +65,8 @@ module _ (g : Group) (out : List ℕ) where
   counted : (n : ℕ) → written g (length out) ≡ Ok n → (judged g ≡ Ok tt) × (n ≡ length (header_text g)) × (length (header_text g) ≤ length out)
   unfolding written
   counted n e =
-      let a = passed_verdict Err (Ok n) (no_count n) (judged g) _ e in
-      let b = passed_if Err (Ok n) (no_count n) (ltb (length out) (length (header_text g))) 12 0 _ a.1 in
+      let a = passed_verdict Err (Ok n) (no_answer n) (judged g) _ e in
+      let b = passed_if Err (Ok n) (no_answer n) (ltb (length out) (length (header_text g))) 12 0 _ a.1 in
       (a.0, sym (ap written_count b.1), ltb-false (length out) (length (header_text g)) b.0)
 
   after_count : (n : ℕ) → written g (length out) ≡ Ok n → bytes_after g out ≡ put 0 (header_text g) out
@@ -76,7 +76,7 @@ module _ (g : Group) (out : List ℕ) where
   unfolding bytes_after
   unchanged q e =
       lent_kept (refusal_of (written g (length out))) (put 0 (header_text g) out) out
-      (not_zero _ ((written_told g (length out)).refused (λ c. no_count c.0 q (sym e ∙ c.1))))
+      (not_zero _ ((written_told g (length out)).refused (λ c. no_answer c.0 q (sym e ∙ c.1))))
 
   back : Shaped g → (n : ℕ) → written g (length out) ≡ Ok n → read_header (take n (bytes_after g out)) ≡ Ok g
   back s n e =

@@ -12,7 +12,7 @@ use Rattle.text.specs.Parts.{split}
 use Rattle.text.specs.Fields.{same, read_ints}
 use Rattle.group.specs.Refusals.{refusal, in_table, Told, refusal_of}
 use Rattle.group.specs.Shapes.{ramp_of, step_of, ramp2_of}
-use Rattle.group.proofs.RefusalLaws.{Answers, told_accepted, told_by, told_if, told_verdict}
+use Rattle.group.proofs.RefusalLaws.{told_accepted, told_by, told_if, told_verdict, results}
 use Rattle.group.specs.declared.Refusal.{Refusal}
 use Rattle.group.specs.declared.Shape.{Shape}
 use Rattle.group.specs.declared.Function.{Function}
@@ -127,12 +127,6 @@ module _ {R D : Type 0} (function : ℕ → List ℕ → Result R Refusal) (grid
 
 -- ---- reading and writing
 
-readings : Answers (λ (x : Result Group Refusal). (g : Group) × (x ≡ Ok g)) refusal_of Err
-readings = record { back = λ r. refl; never = λ r e. absurd (no_group e.0 r e.1) }
-  where
-    no_group : (g : Group) (r : Refusal) → Err r ≡ Ok g → ⊥
-    no_group g r e = let z : ◌≡◌ {A = ℕ} 0 1 = cc in omega arith
-
 pub read_told : (t : List ℕ) → Told ((g : Group) × (read_header t ≡ Ok g)) (refusal_of (read_header t))
 unfolding read_header
 read_told t =
@@ -140,16 +134,9 @@ read_told t =
     (lines_in function_line grid_lines kinds_in (λ h ls. line_in 1 8 grid_texts grid_fit grid_of grid_keyword) t)
   where
     in_lines : (x : Header Function Grid) → HeaderIn x → Told ((g : Group) × (judged_reading x ≡ Ok g)) (refusal_of (judged_reading x))
-    in_lines (stopped r) p = told_by readings r p
-    in_lines (header h rs ds) p = told_verdict readings (judged (group_of_lines h rs ds)) (judged_told (group_of_lines h rs ds)) (told_accepted (_, refl))
-
--- a refusal is no count
-pub no_count : (n : ℕ) (r : Refusal) → Err r ≡ Ok n → ⊥
-no_count n r e = let z : ◌≡◌ {A = ℕ} 0 1 = cc in omega arith
-
-pub writings : Answers (λ (w : Result ℕ Refusal). (n : ℕ) × (w ≡ Ok n)) refusal_of Err
-writings = record { back = λ r. refl; never = λ r e. no_count e.0 r e.1 }
+    in_lines (stopped r) p = told_by results r p
+    in_lines (header h rs ds) p = told_verdict results (judged (group_of_lines h rs ds)) (judged_told (group_of_lines h rs ds)) (told_accepted (_, refl))
 
 pub written_told : (g : Group) (room : ℕ) → Told ((n : ℕ) × (written g room ≡ Ok n)) (refusal_of (written g room))
 unfolding written
-written_told g room = told_verdict writings (judged g) (judged_told g) (told_if writings _ 12 0 refl (told_accepted (_, refl)))
+written_told g room = told_verdict results (judged g) (judged_told g) (told_if results _ 12 0 refl (told_accepted (_, refl)))

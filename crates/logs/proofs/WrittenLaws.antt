@@ -12,7 +12,7 @@ use Rattle.group.specs.declared.Group.{Group}
 use Rattle.group.specs.declared.Position.{Position}
 use Rattle.group.specs.declared.Refusal.{Refusal}
 use Rattle.group.specs.Refusals.{refusal, no_refusal, lent_after, refusal_of}
-use Rattle.group.proofs.RefusalLaws.{if_here, if_past, not_zero, lent_new, lent_kept}
+use Rattle.group.proofs.RefusalLaws.{if_here, if_past, not_zero, lent_new, lent_kept, no_answer}
 use Rattle.abi.specs.Abi.{group_of_words, numbers_of, MachineGroup}
 use Rattle.judge.specs.Judge.{judged}
 use Rattle.judge.proofs.StoredLaws.{stored_judged, stored_back}
@@ -51,10 +51,7 @@ module _ (g : Group) (nodes : List ℤ) (p : Position) (r : Refusal) (e : looked
   refused_number : r.number ≡ 0 → ⊥
   refused_number z =
       let w = (demand_2 g nodes (point_at p) p.day).zero.0 (ap (λ (l : Result Fix Refusal). (refusal_of l).number) e ∙ z) in
-      no_fix w.0 (sym e ∙ w.1)
-    where
-      no_fix : (f : Fix) → Err r ≡ Ok f → ⊥
-      no_fix f h = let o : ◌≡◌ {A = ℕ} 0 1 = cc in omega arith
+      no_answer w.0 r (sym e ∙ w.1)
 
   pub lookup_refused : (out : List ℕ) → (Err r ≡ line_written g nodes p (length out)) × (out ≡ line_after g nodes p out)
   unfolding line_written line_after

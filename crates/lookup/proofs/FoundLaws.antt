@@ -11,7 +11,7 @@ use Rattle.group.specs.declared.Group.{Group}
 use Rattle.group.specs.declared.Point.{Point}
 use Rattle.group.specs.declared.Refusal.{Refusal}
 use Rattle.group.specs.Record.{grid_at}
-use Rattle.group.proofs.RefusalLaws.{passed_if, passed_first, passed_verdict}
+use Rattle.group.proofs.RefusalLaws.{passed_if, passed_first, passed_verdict, no_answer, ok_same}
 use Rattle.judge.specs.Judge.{judged}
 use Rattle.ingroup.specs.InGroup.{chosen_in}
 use Rattle.group.specs.Numbers.{is_mark, day_fits}
@@ -24,14 +24,10 @@ use Rattle.fix.specs.Fix.{corner_some, result_at, fix_in}
 use Rattle.lookup.specs.Lookup.{point_fits, ends_early, offset_of, fix_at, looked_in, looked, LookupReady}
 use Rattle.std.specs.Prelude.{Result, Ok, Err}
 
--- a refusal is no fix
-pub no_fix : (f : Fix) (r : Refusal) → Err r ≡ Ok f → ⊥
-no_fix f r e = let z : ◌≡◌ {A = ℕ} 0 1 = cc in omega arith
-
 choice_stage : (c : ℕ) (offset : ℕ → Offset) (nodes : List ℤ) (factor : ℤ) (f : Fix) → fix_at c offset nodes factor ≡ Ok f
     → (k : ℕ) × ((c ≡ suc k) × (fix_in (offset k) nodes factor (suc k) ≡ Ok f))
 unfolding fix_at
-choice_stage zero offset nodes factor f e = absurd (no_fix f _ e)
+choice_stage zero offset nodes factor f e = absurd (no_answer f _ e)
 choice_stage (suc k) offset nodes factor f e = (k, (refl, e))
 
 -- what is known of an accepted lookup: grid k, from 0, is chosen, and no used corner is the mark or beyond the limits
@@ -44,9 +40,6 @@ pub record Found (g : Group) (nodes : List ℤ) (p : Point) (t : ℤ) (f : Fix) 
   pub number : f.grid ≡ suc k
   pub results : (q : ℕ) → q < 3 → result_in f q ≡ result_at (offset_of (grid_at g k) g.parameters p) nodes (factor_of g.function g.functions t) q
 
-same_fix : (e f : Fix) → ◌≡◌ {A = Result Fix Refusal} (Ok e) (Ok f) → e ≡ f
-same_fix e f h = cc
-
 each : (f : Fix) (r : ℕ → ℤ) (n : ℕ) → ◌≡◌ {A = Fix} (record { grid = n; first = r 0; second = r 1; third = r 2 }) f → (q : ℕ) → q < 3 → result_in f q ≡ r q
 each f r n w zero h = ap (λ (x : Fix). x.first) (sym w)
 each f r n w (suc zero) h = ap (λ (x : Fix). x.second) (sym w)
@@ -56,15 +49,15 @@ each f r n w (suc (suc (suc q))) h = absurd (omega arith)
 pub found : (g : Group) (nodes : List ℤ) (p : Point) (t : ℤ) (f : Fix) → looked g nodes p t ≡ Ok f → Found g nodes p t f
 unfolding looked looked_in fix_in
 found g nodes p t f e =
-    let a = passed_verdict Err (Ok f) (no_fix f) (judged g) (looked_in g nodes p t) e in
-    let b = passed_if Err (Ok f) (no_fix f) (not (point_fits p)) 6 0 _ a.1 in
-    let c = passed_if Err (Ok f) (no_fix f) (not (day_fits t)) 9 0 _ b.1 in
-    let d = passed_first Err (Ok f) (no_fix f) (ends_early g (length nodes)) g.grids 13 1 _ c.1 in
+    let a = passed_verdict Err (Ok f) (no_answer f) (judged g) (looked_in g nodes p t) e in
+    let b = passed_if Err (Ok f) (no_answer f) (not (point_fits p)) 6 0 _ a.1 in
+    let c = passed_if Err (Ok f) (no_answer f) (not (day_fits t)) 9 0 _ b.1 in
+    let d = passed_first Err (Ok f) (no_answer f) (ends_early g (length nodes)) g.grids 13 1 _ c.1 in
     let s = choice_stage (chosen_in g p.lon.0 p.lat.0) (λ k. offset_of (grid_at g k) g.parameters p) nodes (factor_of g.function g.functions t) f d.1 in
     let k = s.0 in let l = offset_of (grid_at g k) g.parameters p in
-    let m = passed_if Err (Ok f) (no_fix f) (corner_some is_mark l nodes) 8 0 _ s.1.1 in
-    let n = passed_if Err (Ok f) (no_fix f) (corner_some is_beyond l nodes) 11 0 _ m.1 in
-    let w = same_fix _ f n.1 in
+    let m = passed_if Err (Ok f) (no_answer f) (corner_some is_mark l nodes) 8 0 _ s.1.1 in
+    let n = passed_if Err (Ok f) (no_answer f) (corner_some is_beyond l nodes) 11 0 _ m.1 in
+    let w = ok_same _ f n.1 in
     record {
       k = k;
       ready =

@@ -13,7 +13,7 @@ use Rattle.numbers.specs.First.{some}
 use Rattle.numbers.proofs.FirstLaws.{none_at}
 use Rattle.numbers.proofs.Lists.{map_at}
 use Rattle.group.specs.Numbers.{quantum_most, value_most}
-use Rattle.group.proofs.RefusalLaws.{passed_if, passed_first, lent_new, lent_kept}
+use Rattle.group.proofs.RefusalLaws.{passed_if, passed_first, lent_new, lent_kept, no_acceptance}
 use Rattle.nodes.specs.Load.{marks, steps, refused_float, node_of, loaded, nodes_after}
 use Rattle.nodes.specs.Size.{size_of}
 use Rattle.nodes.specs.Demand2.{IsNode, NodesLoaded}
@@ -21,7 +21,7 @@ use Rattle.nodes.proofs.Fields.{sign}
 use Rattle.nodes.proofs.Signed.{size_signed}
 use Rattle.nodes.proofs.Steps.{size_limit, node_size}
 use Rattle.nodes.proofs.LoadLaws.{steps_nearest, marked_node, only_marked}
-use Rattle.nodes.proofs.TableLaws.{loaded_told, not_done}
+use Rattle.nodes.proofs.TableLaws.{loaded_told}
 use Rattle.group.specs.Refusals.{refusal_of}
 
 stepped : (q : ℕ) (flag x : Float) → marks flag x ≡ false → node_of q flag x ≡ steps q x
@@ -45,9 +45,9 @@ module _ (q : ℕ) (flag : Float) (floats : List Float) (nodes : List ℤ) where
       → (length floats ≡ length nodes) × (some (λ i. refused_float q flag (get_or floats i nan)) (length floats) ≡ false)
   unfolding loaded
   passed e =
-      let a = passed_if Err (Ok tt) not_done (ltb quantum_most q) 2 0 _ e in
-      let b = passed_if Err (Ok tt) not_done (not (eqb (length floats) (length nodes))) 12 0 _ a.1 in
-      let c = passed_first Err (Ok tt) not_done (λ i. refused_float q flag (get_or floats i nan)) (length floats) 11 1 (Ok tt) b.1 in
+      let a = passed_if Err (Ok tt) no_acceptance (ltb quantum_most q) 2 0 _ e in
+      let b = passed_if Err (Ok tt) no_acceptance (not (eqb (length floats) (length nodes))) 12 0 _ a.1 in
+      let c = passed_first Err (Ok tt) no_acceptance (λ i. refused_float q flag (get_or floats i nan)) (length floats) 11 1 (Ok tt) b.1 in
       (eqb-true (length floats) (length nodes) (not-false _ b.0), c.0)
 
   module _ (z : (refusal_of (loaded q flag floats (length nodes))).number ≡ 0) where

@@ -6,6 +6,7 @@ use Rattle.group.specs.declared.Point.{Point}
 use Rattle.group.specs.declared.Refusal.{Refusal}
 use Rattle.group.specs.Numbers.{mas_in_degree, quantum_most, parameters_most}
 use Rattle.group.specs.Refusals.{refusal, no_refusal, in_table, refuse_if}
+use Rattle.fix.specs.declared.Fix.{Fix}
 use Rattle.screen.specs.declared.Shifts.{Shifts}
 use Rattle.screen.specs.declared.ScreenRecord.{ScreenRecord}
 
@@ -37,12 +38,12 @@ abbrev pub handed_on : Refusal → Refusal
 handed_on r = cond (in_table r.number) r (refusal 2 0)
 
 -- a lookup's answer for the screen
-unfoldable pub shown : Lookup → ℕ → ℕ → Result Shifts Refusal
+unfoldable pub shown : Result Fix Refusal → ℕ → ℕ → Result Shifts Refusal
 shown (Ok f) q np = Ok (record { first = shown_shift q np 0 f.first; second = shown_shift q np 1 f.second; third = shown_shift q np 2 f.third })
 shown (Err r) q np = Err (handed_on r)
 
 -- the same, with Q and NP judged first: 2 with place 0
-unfoldable pub answer_of : Lookup → ℕ → ℕ → Result Shifts Refusal
+unfoldable pub answer_of : Result Fix Refusal → ℕ → ℕ → Result Shifts Refusal
 answer_of found q np =
     refuse_if Err (not (admitted q np)) 2 0
     (shown found q np)
