@@ -77,7 +77,7 @@ fn read_each<T: Entry>(
     ensures { Are text.now (read_items T.read_line (length entries.old) first (split 10 (drop at text.now))) entries.new result }
 {
     let mut next = at;
-    for k in 0..entries.len() {
+    for (k, entry) in entries.iter_mut().enumerate() {
         let n = first + k as u64;
         let e = text::find_from(text, next, 10);
         if e == text.len() {
@@ -86,7 +86,7 @@ fn read_each<T: Entry>(
                 place: n,
             });
         }
-        entries[k] = T::read(&text[next..e], n)?;
+        *entry = T::read(&text[next..e], n)?;
         next = e + 1;
     }
     Ok(next)

@@ -16,6 +16,7 @@ use Rattle.numbers.proofs.Nearest.{three_ways}
 use Rattle.text.specs.Decimal.{read_int}
 use Rattle.text.specs.Number.{clamp, number_of}
 use Rattle.text.specs.Fields.{read_ints}
+use Rattle.std.specs.Bool.{then_some}
 use Rattle.std.specs.Prelude as R
 use Rattle.text.proofs.FieldLaws.{Numbers, numbers_read, ints_bad, length_ints, malformed}
 use Rattle.line.specs.Numbers.{read_count, numbers_of, NumbersRead}
@@ -66,9 +67,10 @@ module _ (ps : List (List ℕ)) (first n : ℕ) (h : first + n ≤ length ps) wh
   pub numbers_read_bad : (ys : List ℤ) (k : ℕ) → k < n → number_of (read_int (get_or ps (first + k) [])) ≡ R.None → NumbersRead (read_ints taken) false ys
   numbers_read_bad ys k l f = record { good = λ e. absurd (true_false e refl); bad = λ e. numbers_bad k l f }
 
--- numbers that are read
-pub numbers_given : {read : M.Option (List ℤ)} {r : Bool} {ys : List ℤ} → NumbersRead read r ys → r ≡ true → R.Some ys ≡ numbers_of read
-numbers_given w e = let g = w.good e in sym (ap numbers_of g.1 ∙ ap R.Some g.2)
+-- what the reading of numbers tells, as an answer
+pub numbers_given : {read : M.Option (List ℤ)} {ys : List ℤ} (r : Bool) → NumbersRead read r ys → then_some r ys ≡ numbers_of read
+numbers_given true w = let g = w.good refl in sym (ap numbers_of g.1 ∙ ap R.Some g.2)
+numbers_given false w = sym (ap numbers_of (w.bad refl))
 
 -- one number more
 pub numbers_more : (ps : List (List ℕ)) (first k : ℕ) (ys : List ℤ) (y : ℤ) → k < length ys → NumbersTo ps first k ys

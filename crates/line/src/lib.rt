@@ -78,7 +78,8 @@ pub fn cut_as(line: &[u8], cuts: &mut [usize; text::CUTS], word: &[u8], count: u
     keyed & (n == count)
 }
 
-// Reads the fields from `first` on: whether each is a number, and then the numbers.
+// Reads the fields from `first` on: whether each is a number, and then the numbers. They go to the caller's part, since how many
+// they are is known only there, and nothing is on a heap.
 pub fn read_numbers(
     line: &[u8],
     cuts: &[usize; text::CUTS],
@@ -88,11 +89,11 @@ pub fn read_numbers(
     requires { Cuts line.now cuts.now × (first + length numbers.old ≤ fields_most) × (first + length numbers.old ≤ length (split 9 line.now)) }
     ensures { NumbersRead (read_ints (take (length numbers.old) (drop first (split 9 line.now)))) result numbers.new }
 {
-    for k in 0..numbers.len() {
+    for (k, number) in numbers.iter_mut().enumerate() {
         let Some(z) = text::read_number(text::cut_field(line, cuts, first + k)) else {
             return false;
         };
-        numbers[k] = z;
+        *number = z;
     }
     true
 }
@@ -107,11 +108,7 @@ fn numbers_from<const N: usize>(
     ensures { result ≡ numbers_of (read_ints (take N (drop first (split 9 line.now)))) }
 {
     let mut numbers = [0; N];
-    if read_numbers(line, cuts, first, &mut numbers) {
-        Some(numbers)
-    } else {
-        None
-    }
+    read_numbers(line, cuts, first, &mut numbers).then_some(numbers)
 }
 
 // All fields behind a line's first as numbers, where they are N and each is one.

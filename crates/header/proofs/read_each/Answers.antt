@@ -22,19 +22,19 @@ returns-then-e-text g c =
 pub slice_bounds-read-end : goal.slice_bounds-read-end
 slice_bounds-read-end g c = omega (arith, end_le c.args.text.now c.loop-k.next _ c.find_from-e.ensures c.loop-k.invariant.room)
 
-pub returns-in_err-entries : goal.returns-in_err-entries
-returns-in_err-entries g c =
+pub returns-in_err-entry : goal.returns-in_err-entry
+returns-in_err-entry g c =
     let a = c.args in let l = c.loop-k in
-    let refused : c.from_residual.result ≡ Err c.in_err-entries.field-0.0 = search rules in
-    subst (Are a.text.now (read_items g.T.Entry.read_line (length a.entries.now) a.first (split 10 (drop a.at a.text.now))) l.entries) (sym refused)
+    let refused : c.from_residual.result ≡ Err c.in_err-entry.field-0.0 = search rules in
+    subst (Are a.text.now (read_items g.T.Entry.read_line (length a.entries.now) a.first (split 10 (drop a.at a.text.now))) _) (sym refused)
     (loop_refuses g.T.Entry.read_line (length a.entries.now) a.first a.text.now a.at l.entries l.next l.k l.invariant _ c.find_from-e.ensures c.loop-k-test.true c.if-e-text.false
-    _ (sym c.in_err-entries.ensures))
+    _ (sym c.in_err-entry.ensures))
 
 pub loop-k-preserved : goal.loop-k-preserved
 loop-k-preserved g c =
     let a = c.args in let l = c.loop-k in
     loop_reads g.T.Entry.read_line (length a.entries.now) a.first a.text.now a.at l.entries l.next l.k l.invariant _ c.find_from-e.ensures c.loop-k-test.true c.if-e-text.false
-    c.in_ok-entries.field-0 l.auto.entries (sym c.in_ok-entries.ensures)
+    c.in_ok-entry.field-0 l.auto.entries (sym c.in_ok-entry.ensures)
 
 pub returns : goal.returns
 returns g c =

@@ -9,7 +9,7 @@ use Rattle.line.specs.Numbers.{numbers_of}
 use Rattle.line.proofs.NumberLaws.{numbers_given}
 use Rattle.line.proofs.numbers_from.Goals as goal
 
-pub returns-then-read_numbers : goal.returns-then-read_numbers
-returns-then-read_numbers g c =
-    numbers_given c.read_numbers.ensures c.if-read_numbers.true
+pub returns : goal.returns
+returns g c =
+    c.then_some.ensures ∙ numbers_given _ c.read_numbers.ensures
     ∙ ap (λ (n : ℕ). numbers_of (read_ints (take n (drop c.args.first (split 9 c.args.line.now))))) (length-replicate g.row.N (pos 0))
