@@ -124,16 +124,11 @@ fn rank_beside(sides: &[u64], ranks: &[u64], grids: usize, c: u64, x: u64, y: u6
     requires { Room sides.now ranks.now grids × (lon_turn ≤ x) × (x + lon_turn < 2 ^ 64) × ((i : ℕ) → i < grids → at ranks.now i ≤ rank_most) }
     ensures { (result ≡ rank_beside sides.now ranks.now grids c x y k) × (result ≤ rank_most) }
 {
-    if grids <= k {
-        return 0;
+    if k < grids && k as u64 + 1 != c && choice::turn_holds(sides, k, LON_TURN, x, y) {
+        ranks[k]
+    } else {
+        0
     }
-    if k as u64 + 1 == c {
-        return 0;
-    }
-    if choice::turn_holds(sides, k, LON_TURN, x, y) {
-        return ranks[k];
-    }
-    0
 }
 
 // Those of all grids.
