@@ -1,11 +1,16 @@
 -- What the judge's loops rely on and show; and the flat comparison of grids as the comparison that document 01 asks for.
-use Prim.Native.Nat.{ℕ, ◌≤◌}
+use Prim.Native.Nat.{ℕ, ◌<◌, ◌≤◌}
 use mathlib.Core.Path.{◌≡◌, refl, sym, ◌∙◌, ap}
 use mathlib.Core.Bool.{Bool, true, false, cond, not, ◌&&◌}
 use mathlib.Core.List.{List}
 use native.Mathlib.Omega.{arith}
-use borrow.Author.Tests.{not-false}
-use lib.Dec.{leb}
+use borrow.Author.Tests.{lt-ltb, le-ltb, ltb-false, not-false}
+use native.Mathlib.Decide.{dec_lt}
+use Rattle.std.specs.Prelude.{Result, Ok, Err, ⊤}
+use Rattle.group.specs.declared.Refusal.{Refusal}
+use Rattle.group.specs.Refusals.{refusal, refuse_if}
+use Rattle.group.proofs.RefusalLaws.{no_acceptance, if_here, if_past, passed_if}
+use lib.Dec.{ltb, leb}
 use lib.IntN.{ℤ}
 use Rattle.numbers.specs.First.{first, some}
 use Rattle.numbers.proofs.FirstLaws.{none_at, first_same, some_same}
@@ -43,6 +48,34 @@ module _ (ns : List ℤ) where
   bad_functions {m} e h f =
       f ∙ first_same _ (bad_function (group_of_words ns)) m (λ k l. ap (λ (r : Function). not (function_fits r)) (sym (function_of_words_lem ns k (omega arith))))
       ∙ ap (first (bad_function (group_of_words ns))) e
+
+-- what a refusal says of the first index i of n that a test named: where it refuses, where it does not, and in both cases
+module _ (number place i n : ℕ) where
+  abbrev stage : Result ⊤ Refusal
+  stage = refuse_if Err (ltb i n) number place (Ok tt)
+
+  pub stage_here : i < n → stage ≡ Err (refusal number place)
+  stage_here l = if_here Err (ltb i n) number place (Ok tt) (lt-ltb i n l)
+
+  pub stage_past : n ≤ i → stage ≡ Ok tt
+  stage_past l = if_past Err (ltb i n) number place (Ok tt) (le-ltb i n l)
+
+  pub refused_at : {r : Refusal} {v : Result ⊤ Refusal} → Err r ≡ stage → (i < n → Err (refusal number place) ≡ v) → Err r ≡ v
+  refused_at {r} e f =
+      elim (dec_lt i n) [
+        | yes l ↦ e ∙ stage_here l ∙ f l
+        | no l ↦ absurd (no_acceptance r (e ∙ stage_past (omega arith)))
+      ]
+
+  pub passed_at : Ok tt ≡ stage → n ≤ i
+  passed_at e = ltb-false i n (passed_if Err (Ok tt) no_acceptance (ltb i n) number place (Ok tt) (sym e)).0
+
+  pub last_at : {v : Result ⊤ Refusal} → (i < n → Err (refusal number place) ≡ v) → (n ≤ i → Ok tt ≡ v) → stage ≡ v
+  last_at f g =
+      elim (dec_lt i n) [
+        | yes l ↦ stage_here l ∙ f l
+        | no l ↦ stage_past (omega arith) ∙ g (omega arith)
+      ]
 
 -- where no grid is outside the limits, the sides are true distances
 pub comparable : (g : Group) → GridLimits g → (i : ℕ) → i ≡ first (outside g) g.grids → g.grids ≤ i → Comparable S.Turn g

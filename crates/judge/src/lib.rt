@@ -1,9 +1,10 @@
 // The judge of a group handed over as a record or as a list of numbers: refusals 2 to 5.
 #![tactic(auto)]
 
-ghost use Rattle.std.specs.Prelude.{◌≡◌, true, false, cond, not, ◌&&◌, ◌||◌, ℕ, ◌+◌, ◌-◌, ◌*◌, ◌<◌, ◌≤◌, leb, eqb, length, set};
+ghost use Rattle.std.specs.Prelude.{◌≡◌, true, false, cond, not, ◌&&◌, ◌||◌, ℕ, ◌+◌, ◌-◌, ◌*◌, ◌^◌, ◌<◌, ◌≤◌, ltb, leb, eqb, length, set, Ok, Err};
 ghost use Rattle.numbers.specs.First.{first, some};
 ghost use Rattle.group.specs.Numbers.{parameters_most, functions_most, grids_most};
+ghost use Rattle.group.specs.Refusals.{refuse_if};
 ghost use Rattle.group.specs.Limits.{function_fits, function_blank, grid_fits, grid_blank, head_fits};
 ghost use Rattle.abi.specs.Abi.{function_of_words, grid_of_words, group_of_words};
 ghost use Rattle.extent.specs.Extent.{inside};
@@ -29,7 +30,7 @@ const GRIDS: u64 = group::GRIDS_MOST as u64;
 const FOURS: usize = group::GRIDS_MOST * 4;
 
 // What two grids may not share: a name; or a rank, where they hold a coordinate in common: where their extents share one as they are
-// written, or round the earth.
+// written, or round the earth. An enum and no closure, since which of them ranks are compared by is known only at run time.
 #[derive(Clone, Copy)]
 enum Shared {
     Name,
@@ -210,6 +211,13 @@ fn lons_meet(w: u64, e: u64, v: u64, f: u64) -> bool
     first | second
 }
 
+// Whether the ranges from w to e and from v to f share a number.
+fn ranges_meet(w: u64, e: u64, v: u64, f: u64) -> bool
+    ensures { result ≡ (leb w f && leb v e) }
+{
+    (w <= f) & (v <= e)
+}
+
 // Whether the keys of grids j and k agree.
 fn keys_agree(shared: Shared, fours: &[u64], j: usize, k: usize) -> bool
     requires { (j * 4 + 3 < length fours.now) × (k * 4 + 3 < length fours.now) }
@@ -225,13 +233,14 @@ fn keys_agree(shared: Shared, fours: &[u64], j: usize, k: usize) -> bool
                 & (fours[p + 3] == fours[q + 3])
         }
         Shared::Rank => {
-            (fours[p] <= fours[q + 1])
-                & (fours[q] <= fours[p + 1])
-                & ((fours[p + 2] <= fours[q + 3]) & (fours[q + 2] <= fours[p + 3]))
+            let lons = ranges_meet(fours[p], fours[p + 1], fours[q], fours[q + 1]);
+            let lats = ranges_meet(fours[p + 2], fours[p + 3], fours[q + 2], fours[q + 3]);
+            lons & lats
         }
         Shared::Turn => {
             let lons = lons_meet(fours[p], fours[p + 1], fours[q], fours[q + 1]);
-            lons & ((fours[p + 2] <= fours[q + 3]) & (fours[q + 2] <= fours[p + 3]))
+            let lats = ranges_meet(fours[p + 2], fours[p + 3], fours[q + 2], fours[q + 3]);
+            lons & lats
         }
     }
 }
@@ -298,6 +307,20 @@ fn rank_rule(sides: &[u64], n: u64) -> Shared
     Shared::Rank
 }
 
+// Refuses the first of n that a test named, i, at its place counted from `base`; i is n where the test named none.
+fn refuse_at(number: u64, i: u64, n: u64, base: u64) -> Result<(), Refusal>
+    requires { n + base < 2 ^ 64 }
+    ensures { result ≡ refuse_if Err (ltb i n) number (i + base) (Ok tt) }
+{
+    if i < n {
+        return Err(Refusal {
+            number,
+            place: i + base,
+        });
+    }
+    Ok(())
+}
+
 // Refusal 2 of the grid lines, of which the first is line `from`, then 3 to 5; what it leaves in the lists, `judge_into` says.
 fn judge_grids(
     words: &[i64; GROUP_WORDS],
@@ -315,33 +338,11 @@ fn judge_grids(
     let mut fours = [0u64; FOURS];
     let mut keys = [0u64; group::GRIDS_MOST];
     let found = scan_grids(words, n, np, &mut fours, &mut keys, sides, ranks, frames);
-    if found.bad < n {
-        return Err(Refusal {
-            number: 2,
-            place: found.bad + from,
-        });
-    }
-    let name = first_clash(Shared::Name, &fours, &keys, n);
-    if name < n {
-        return Err(Refusal {
-            number: 3,
-            place: name + 1,
-        });
-    }
-    if found.edge < n {
-        return Err(Refusal {
-            number: 4,
-            place: found.edge + 1,
-        });
-    }
-    let rank = first_clash(rank_rule(sides, n), sides, ranks, n);
-    if rank < n {
-        return Err(Refusal {
-            number: 5,
-            place: rank + 1,
-        });
-    }
-    Ok(())
+    refuse_at(2, found.bad, n, from)?;
+    refuse_at(3, first_clash(Shared::Name, &fours, &keys, n), n, 1)?;
+    refuse_at(4, found.edge, n, 1)?;
+    let rule = rank_rule(sides, n);
+    refuse_at(5, first_clash(rule, sides, ranks, n), n, 1)
 }
 
 // Whether a group's name is well formed and the numbers of its line are within their limits.
@@ -384,13 +385,7 @@ pub fn judge_into(
     if some_unused_grid(words, abi::grid_count(words)) {
         return Err(first_line);
     }
-    let function = first_bad_function(words, m);
-    if function < m {
-        return Err(Refusal {
-            number: 2,
-            place: function + 2,
-        });
-    }
+    refuse_at(2, first_bad_function(words, m), m, 2)?;
     judge_grids(words, m + 2, sides, ranks, frames)
 }
 

@@ -4,6 +4,7 @@ use mathlib.Core.Path.{◌≡◌, ◌∙◌, sym, ap}
 use mathlib.Core.Bool.{not}
 use native.Mathlib.Omega.{arith}
 use Rattle.std.specs.Prelude.{Result, Err, Ok, ⊤}
+use Rattle.std.proofs.lemmas.Result.{err_from_is_err_and}
 use Rattle.numbers.specs.First.{some}
 use Rattle.group.specs.declared.Group.{Group}
 use Rattle.group.specs.declared.Refusal.{Refusal}
@@ -14,7 +15,7 @@ use Rattle.abi.specs.Abi.{group_of_words}
 use Rattle.judge.specs.Judge.{unused_function, unused_grid, judged_lines, judged_limits, judged_grids, judged_ranks, judged}
 use Rattle.judge.specs.Rules.{HeadLimits, judged_from}
 use Rattle.judge.proofs.LimitLaws.{head_sized}
-use Rattle.judge.proofs.JudgeLaws.{unused_functions, bad_functions, unused_grids}
+use Rattle.judge.proofs.JudgeLaws.{unused_functions, bad_functions, unused_grids, refused_at, passed_at}
 use Rattle.judge.proofs.judge_into.Goals as goal
 use Rattle.judge.proofs.judge_into.Goals.{Else-not-head_fits, Else-some_unused_function, Else-some_unused_grid}
 
@@ -71,20 +72,23 @@ returns-then-some_unused_grid c =
       λ e. absurd (no_acceptance _ e),
     )
 
-pub first_bad_function-function-requires : goal.first_bad_function-function-requires
-first_bad_function-function-requires c =
-    let h = limits (goal.at.first_bad_function-function-requires c).Else-not-head_fits in omega (arith, c.function_count-m.ensures, h.functions)
+pub first_bad_function-requires : goal.first_bad_function-requires
+first_bad_function-requires c =
+    let h = limits (goal.at.first_bad_function-requires c).Else-not-head_fits in omega (arith, c.function_count-m.ensures, h.functions)
 
-pub overflow_add-result : goal.overflow_add-result
-overflow_add-result c =
-    let h = limits (goal.at.overflow_add-result c).Else-not-head_fits in omega (arith, c.function_count-m.ensures, h.functions, c.if-function-m.true)
+pub refuse_at-requires : goal.refuse_at-requires
+refuse_at-requires c =
+    let h = limits (goal.at.refuse_at-requires c).Else-not-head_fits in omega (arith, c.function_count-m.ensures, h.functions)
 
-pub returns-then-function-m : goal.returns-then-function-m
+pub returns-in_err-refuse_at : goal.returns-in_err-refuse_at
 unfolding judged_lines
-returns-then-function-m c =
-    let q = goal.at.returns-then-function-m c in let m = c.function_count-m.ensures in let h = limits q.Else-not-head_fits in (
-      at_here Err _ _ _ _ _ _ (bad_functions c.args.words.now m (omega (arith, m, h.functions)) c.first_bad_function-function.ensures) (omega (arith, m, c.if-function-m.true))
-          ∙ sym (past_head q.Else-not-head_fits ∙ past_functions q.Else-some_unused_function ∙ past_grids q.Else-some_unused_grid),
+returns-in_err-refuse_at c =
+    let q = goal.at.returns-in_err-refuse_at c in let m = c.function_count-m.ensures in let h = limits q.Else-not-head_fits in
+    let p = err_from_is_err_and c.from_residual.result c.from_residual.ensures.1 in
+    rw (p.1, p.2) (
+      refused_at _ _ _ _ c.in_err-refuse_at.ensures
+          (λ l. at_here Err _ _ _ _ _ _ (bad_functions c.args.words.now m (omega (arith, m, h.functions)) c.first_bad_function.ensures) (omega (arith, m, l))
+          ∙ sym (past_head q.Else-not-head_fits ∙ past_functions q.Else-some_unused_function ∙ past_grids q.Else-some_unused_grid)),
       λ e. absurd (no_acceptance _ e),
     )
 
@@ -104,6 +108,7 @@ returns c =
       j.0
           ∙ ap (λ (n : ℕ). judged_from (n + 2) g) m
           ∙ sym (past_head q.Else-not-head_fits ∙ past_functions q.Else-some_unused_function ∙ past_grids q.Else-some_unused_grid
-          ∙ at_past Err _ _ _ _ _ _ (bad_functions c.args.words.now m (omega (arith, m, h.functions)) c.first_bad_function-function.ensures) (omega (arith, m, c.if-function-m.false))),
+          ∙ at_past Err _ _ _ _ _ _ (bad_functions c.args.words.now m (omega (arith, m, h.functions)) c.first_bad_function.ensures)
+          (omega (arith, m, passed_at _ _ _ _ c.in_ok-refuse_at.ensures))),
       j.1,
     )
