@@ -246,6 +246,7 @@ fn keys_agree(shared: Shared, fours: &[u64], j: usize, k: usize) -> bool
 }
 
 // Whether grid j shares with grid k what it may not.
+#[tactic(auto, unfolding(crate::specs::Keys::clash))]
 fn grids_clash(shared: Shared, fours: &[u64], keys: &[u64], j: usize, k: usize) -> bool
     requires { (j * 4 + 3 < length fours.now) × (k * 4 + 3 < length fours.now) × (j < length keys.now) × (k < length keys.now) }
     ensures { result ≡ clash shared fours.now keys.now k j }
@@ -346,6 +347,7 @@ fn judge_grids(
 }
 
 // Whether a group's name is well formed and the numbers of its line are within their limits.
+#[tactic(auto, unfolding(group::specs::Limits::head_fits))]
 fn head_fits(words: &[i64; GROUP_WORDS]) -> bool
     ensures { result ≡ head_fits (group_of_words words.now) }
 {

@@ -1,20 +1,12 @@
 -- `first_bad_function` meets its contract, by the loop of FirstLaws.
 use mathlib.Core.Path.{◌≡◌, ◌∙◌, sym}
 use native.Mathlib.Omega.{arith}
-use Rattle.numbers.proofs.FirstLaws.{passed_none, passed_more, passed_end, passed_found}
+use Rattle.numbers.proofs.FirstLaws.{passed_end, passed_found}
 use Rattle.judge.proofs.first_bad_function.Goals as goal
-
-pub loop-k-init : goal.loop-k-init
-loop-k-init c = passed_none _ _
 
 pub returns-then-not-function_fits : goal.returns-then-not-function_fits
 returns-then-not-function_fits c =
     passed_found _ _ _ c.loop-k.invariant c.loop-k-test.true
-    (rw (sym c.function_of_words.ensures, sym c.if-not-function_fits.ensures))
-
-pub loop-k-preserved : goal.loop-k-preserved
-loop-k-preserved c =
-    passed_more _ _ _ c.loop-k.invariant c.loop-k-test.true
     (rw (sym c.function_of_words.ensures, sym c.if-not-function_fits.ensures))
 
 pub returns : goal.returns

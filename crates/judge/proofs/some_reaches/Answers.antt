@@ -1,17 +1,11 @@
 -- `some_reaches` meets its contract, by the loop of FirstLaws.
-use Rattle.numbers.proofs.FirstLaws.{passed_none, passed_more, passed_some, found_some}
+use Rattle.numbers.proofs.FirstLaws.{passed_some, found_some}
 use Rattle.judge.specs.Keys.{some_reaches}
 use Rattle.judge.proofs.some_reaches.Goals as goal
-
-pub loop-k-init : goal.loop-k-init
-loop-k-init c = passed_none _ _
 
 pub returns-then-sides-at : goal.returns-then-sides-at
 unfolding some_reaches
 returns-then-sides-at c = found_some _ _ _ c.loop-k.invariant c.loop-k-test.true c.if-sides-at.true
-
-pub loop-k-preserved : goal.loop-k-preserved
-loop-k-preserved c = passed_more _ _ _ c.loop-k.invariant c.loop-k-test.true c.if-sides-at.false
 
 pub returns : goal.returns
 unfolding some_reaches

@@ -1,11 +1,8 @@
 -- `some_unused_function` meets its contract, by the loop of FirstLaws.
 use mathlib.Core.Path.{sym}
-use borrow.Author.Tests.{le-leb, lt-leb}
+use borrow.Author.Tests.{le-leb}
 use Rattle.numbers.proofs.FirstLaws.{passed_some, found_some}
 use Rattle.judge.proofs.some_unused_function.Goals as goal
-
-pub loop-k-init : goal.loop-k-init
-loop-k-init c = record { bound = c.requires; clear = λ j l. rw (lt-leb c.args.from j l) }
 
 pub returns-then-not-function_blank : goal.returns-then-not-function_blank
 returns-then-not-function_blank c =

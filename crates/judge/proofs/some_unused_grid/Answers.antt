@@ -1,11 +1,8 @@
 -- `some_unused_grid` meets its contract, by the loop of FirstLaws.
 use mathlib.Core.Path.{sym}
-use borrow.Author.Tests.{le-leb, lt-leb}
+use borrow.Author.Tests.{le-leb}
 use Rattle.numbers.proofs.FirstLaws.{passed_some, found_some}
 use Rattle.judge.proofs.some_unused_grid.Goals as goal
-
-pub loop-k-init : goal.loop-k-init
-loop-k-init c = record { bound = c.requires; clear = λ j l. rw (lt-leb c.args.from j l) }
 
 pub returns-then-not-grid_clear : goal.returns-then-not-grid_clear
 returns-then-not-grid_clear c =
