@@ -1,5 +1,5 @@
 -- Document 01's marked cases M1 to M12: one statement over one table, in document 01's numbers.
-use Rattle.std.specs.Prelude.{ℕ, ◌-◌, ◌≡◌, List, [], ◌∷◌, ◌++◌, ℤ, pos, neg_ℤ, replicate, length, Result}
+use Rattle.std.specs.Prelude.{ℕ, ◌-◌, ◌≡◌, List, [], ◌∷◌, ◌++◌, ℤ, pos, neg_ℤ, replicate, length, Result, Ok, Err}
 use Rattle.group.specs.declared.Name.{Name}
 use Rattle.group.specs.declared.Unit.TheVariants.{Metre}
 use Rattle.group.specs.declared.Shape.TheVariants as S
@@ -91,8 +91,9 @@ pub record CaseList : Type 0 where
   pub count : ℕ
   pub entries : List GridInForce
 
-abbrev pub case_list_of : InForce → CaseList
-case_list_of r = record { refused = refusal_of r.verdict; count = r.count; entries = r.entries }
+abbrev pub case_list_of : Result InForce Refusal → CaseList
+case_list_of (Ok l) = record { refused = no_refusal; count = l.count; entries = l.entries }
+case_list_of (Err r) = record { refused = r; count = 0; entries = replicate 64 blank_entry }
 
 abbrev pub entry : (grid lon lat : ℕ) → GridInForce
 entry k x y = record { grid = k; lon = record { 0 = pos x }; lat = record { 0 = pos y } }

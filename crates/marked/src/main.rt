@@ -3,14 +3,13 @@
 #![tactic(auto)]
 
 use extent::{LatSpan, LonSpan};
-use fix::Lookup;
 use group::{Group, Latitude, Longitude, MARK, Point, Refusal};
 use inforce::{Area, InForce};
 use std::{fmt, io};
 
-// The group of an accepted header text.
+// The group of a header text, the blank one of a text that is refused.
 fn read(text: &[u8]) -> Group {
-    header::read_header(text).group
+    header::read_header(text).unwrap_or(group::blank_group())
 }
 
 // The header of document 01.
@@ -74,17 +73,16 @@ struct At(Longitude, Latitude);
 
 impl fmt::Display for At {
     fn fmt<W: fmt::Write>(&self, f: &mut fmt::Formatter<W>) -> fmt::Result {
-        let lon = self.0;
-        let lat = self.1;
-        write!(f, "({}, {})", lon.0, lat.0)
+        let At(Longitude(lon), Latitude(lat)) = *self;
+        write!(f, "({lon}, {lat})")
     }
 }
 
 // What reading a header text answers: accepted, or the refusal.
 fn header(rt: &impl Print, label: &str, text: &[u8]) -> io::Result<()> {
     print!(rt; "{label}: ")?;
-    match header::read_header(text).verdict {
-        Ok(()) => println!(rt; "accepted"),
+    match header::read_header(text) {
+        Ok(_) => println!(rt; "accepted"),
         Err(r) => println!(rt; "{}", Refused(r)),
     }
 }
@@ -130,9 +128,8 @@ fn say_list(rt: &impl Print, list: &InForce) -> io::Result<()> {
 // The grids in force in an area, or the refusal.
 fn in_force(rt: &impl Print, label: &str, group: Group, a: Area) -> io::Result<()> {
     print!(rt; "{label}: ")?;
-    let list = inforce::grids_in_force(group, a);
-    match list.verdict {
-        Ok(()) => say_list(rt, &list),
+    match inforce::grids_in_force(group, a) {
+        Ok(list) => say_list(rt, &list),
         Err(r) => println!(rt; "{}", Refused(r)),
     }
 }
@@ -140,15 +137,9 @@ fn in_force(rt: &impl Print, label: &str, group: Group, a: Area) -> io::Result<(
 // The hole in an area if there is one, or the refusal.
 fn hole(rt: &impl Print, label: &str, group: Group, a: Area) -> io::Result<()> {
     print!(rt; "{label}: ")?;
-    let hole = inforce::hole(group, a);
-    match hole.verdict {
-        Ok(()) => {
-            if hole.found {
-                println!(rt; "at {}", At(hole.lon, hole.lat))
-            } else {
-                println!(rt; "none")
-            }
-        }
+    match inforce::hole(group, a) {
+        Ok(Some(p)) => println!(rt; "at {}", At(p.lon, p.lat)),
+        Ok(None) => println!(rt; "none"),
         Err(r) => println!(rt; "{}", Refused(r)),
     }
 }
