@@ -9,7 +9,6 @@ use lib.Dec.{eqb}
 use lib.IntN.{ℤ}
 use lib.ListN.{length, get_or, take, drop, length-drop, length-map}
 use lib.Seq.{get_or-take, length-take-le, take_all}
-use Rattle.numbers.proofs.Bools.{true_false}
 use Rattle.text.specs.Parts.{split, field_of}
 use Rattle.text.specs.Cuts.{Cut}
 use Rattle.text.specs.Number.{clamp}
@@ -23,12 +22,9 @@ use Rattle.abi.specs.Abi.{byte_at, name_of_words, grid_of_words}
 use Rattle.abi.proofs.ListLaws.{length_list_of}
 use Rattle.line.proofs.ReadLaws.{kind_counted}
 use Rattle.logs.specs.Line.{fix_keyword, entry_with, read_entry}
-use Rattle.logs.specs.Reading.{EntryRead}
+use Rattle.logs.specs.Reading.{Said}
 
 -- ---- the form of a line
-
-pub entry_bad : {np : ℕ} {line cuts : List ℕ} {place values : List ℤ} → read_entry np line ≡ none → EntryRead np line false cuts place values
-entry_bad e = record { good = λ q. absurd (true_false q refl); bad = λ q. e }
 
 module _ (np : ℕ) (line : List ℕ) (keyed : Bool) (e : keyed ≡ (same (field_of line 0) fix_keyword && eqb (length (split 9 line)) (5 + np))) where
   abbrev fs : List (List ℕ)
@@ -69,27 +65,24 @@ module _ (np : ℕ) (line : List ℕ) (keyed : Bool) (e : keyed ≡ (same (field
           ap length (sym m) ∙ length-map vs clamp ∙ length_ints (take np (drop 5 fs)) vs r ∙ length-take-le np (drop 5 fs) (omega arith)
 
       -- what reading the three numbers, and then the shifts, tells
-      pub entry_placed : {cuts : List ℕ} {values : List ℤ} (r : Bool) (place : List ℤ) → NumbersRead (read_ints (take 3 (drop 1 fs))) r place → r ≡ false
-          → EntryRead np line false cuts place values
-      entry_placed r place n q = entry_bad (with_numbers none (read_ints (take np (drop 5 fs))) (n.bad q) refl)
+      pub entry_unplaced : (r : Bool) (place : List ℤ) → NumbersRead (read_ints (take 3 (drop 1 fs))) r place → r ≡ false → read_entry np line ≡ none
+      entry_unplaced r place n q = with_numbers none (read_ints (take np (drop 5 fs))) (n.bad q) refl
 
-      pub entry_valued : {cuts : List ℕ} {values : List ℤ} (r t : Bool) (place shifts : List ℤ) → NumbersRead (read_ints (take 3 (drop 1 fs))) r place → r ≡ true
-          → NumbersRead (read_ints (take np (drop 5 fs))) t shifts → Cut line cuts 4 → (length shifts ≡ np → shifts ≡ take np values)
-          → EntryRead np line t cuts place values
-      entry_valued r t place shifts n q m cut s =
-          record {
-            good = λ u.
-                let z = n.good q in let v = m.good u in
-                record {
-                  zs = z.0;
-                  vs = v.0;
-                  entry = with_numbers (some z.0) (some v.0) z.1 v.1;
-                  placed = z.2;
-                  valued = v.2 ∙ s (many v.0 shifts v.1 v.2);
-                  named = cut;
-                };
-            bad = λ u. with_numbers (some (n.good q).0) none (n.good q).1 (m.bad u);
-          }
+      module _ (r t : Bool) (place shifts : List ℤ) (n : NumbersRead (read_ints (take 3 (drop 1 fs))) r place) (q : r ≡ true) (m : NumbersRead (read_ints (take np (drop 5 fs))) t shifts) where
+        pub entry_unvalued : t ≡ false → read_entry np line ≡ none
+        entry_unvalued u = with_numbers (some (n.good q).0) none (n.good q).1 (m.bad u)
+
+        pub entry_said : {cuts : List ℕ} {values : List ℤ} → t ≡ true → Cut line cuts 4 → (length shifts ≡ np → shifts ≡ take np values) → Said np line cuts place values
+        entry_said u cut s =
+            let z = n.good q in let v = m.good u in
+            record {
+              zs = z.0;
+              vs = v.0;
+              entry = with_numbers (some z.0) (some v.0) z.1 v.1;
+              placed = z.2;
+              valued = v.2 ∙ s (many v.0 shifts v.1 v.2);
+              named = cut;
+            }
 
 -- ---- the name of grid k in a group's numbers, no longer than a name
 

@@ -1,5 +1,5 @@
 -- What the inner functions of the judge and of the writer answer, and may rely on.
-use Rattle.std.specs.Prelude.{ℕ, ◌≤◌, ◌<◌, ◌≡◌, Bool, true, false, List, map, ℤ, nat_abs, take, Result, Ok}
+use Rattle.std.specs.Prelude.{ℕ, ◌≤◌, ◌<◌, ◌≡◌, List, map, ℤ, nat_abs, take, Option, Some, None, Result, Ok}
 use Rattle.std.proofs.Math.Option.{none, some}
 use Rattle.text.specs.Parts.{field_of}
 use Rattle.text.specs.Cuts.{Cut}
@@ -13,6 +13,7 @@ use Rattle.fix.specs.Answers.{result_in}
 use Rattle.exercise.specs.declared.Scale.{Scale}
 use Rattle.exercise.specs.declared.Tables.{Tables}
 use Rattle.exercise.specs.Tables.{CallReady, scale_for}
+use Rattle.logs.specs.declared.Numbers.{Numbers}
 use Rattle.logs.specs.declared.Turn.{Turn}
 use Rattle.logs.specs.Line.{position_of, read_entry, line_kind}
 use Rattle.group.specs.declared.Refusal.{Refusal}
@@ -26,9 +27,9 @@ pub record Said (np : ℕ) (line cuts : List ℕ) (place values : List ℤ) : Ty
   pub valued : map clamp vs ≡ take np values
   pub named : Cut line cuts 4
 
-pub record EntryRead (np : ℕ) (line : List ℕ) (r : Bool) (cuts : List ℕ) (place values : List ℤ) : Type 0 where
-  pub good : r ≡ true → Said np line cuts place values
-  pub bad : r ≡ false → read_entry np line ≡ none
+abbrev pub EntryRead : ℕ → (line cuts : List ℕ) → Option Numbers → Type 0
+EntryRead np line cuts None = read_entry np line ≡ none
+EntryRead np line cuts (Some n) = Said np line cuts n.place n.shifts
 
 -- an accepted group, and a fix in one of its grids
 pub record FoundIn (g : Group) (l : Result Fix Refusal) : Type 0 where

@@ -76,27 +76,33 @@ const SHIFTS: usize = group::PARAMETERS_MOST as usize;
 // The most bytes of a written line.
 const LINE_MOST: usize = 102;
 
-// Reads a line with so many shifts: whether it is of the form, and then where its fields are cut and the numbers that it says.
-fn read_entry(
-    line: &[u8],
-    np: usize,
-    cuts: &mut [usize; CUTS],
-    place: &mut [i64],
-    values: &mut [i64],
-) -> bool
-    requires { (np ≤ parameters_most) × (length cuts.old ≡ fields_most + 1) × (length place.old ≡ 3) × (length values.old ≡ parameters_most) }
-    ensures { EntryRead np line.now result cuts.new place.new values.new }
+// The numbers of a line: its position's, and its shifts with zeros behind them.
+#[derive(Clone, Copy)]
+pub struct Numbers {
+    pub place: [i64; PLACE],
+    pub shifts: [i64; SHIFTS],
+}
+
+// Reads a line with so many shifts, where it is of the form, and cuts it into its fields.
+fn read_entry(line: &[u8], np: usize, cuts: &mut [usize; CUTS]) -> Option<Numbers>
+    requires { (np ≤ parameters_most) × (length cuts.old ≡ fields_most + 1) }
+    ensures { EntryRead np line.now cuts.new result }
 {
     if !line::cut_as(line, cuts, b"fix", SHIFT_FIELD + np) {
-        return false;
+        return None;
     }
     if !line::is_name(text::cut_field(line, cuts, GRID_FIELD)) {
-        return false;
+        return None;
     }
-    if !line::read_numbers(line, cuts, PLACE_FIELD, place) {
-        return false;
+    let mut place = [0i64; PLACE];
+    if !line::read_numbers(line, cuts, PLACE_FIELD, &mut place) {
+        return None;
     }
-    line::read_numbers(line, cuts, SHIFT_FIELD, &mut values[..np])
+    let mut shifts = [0i64; SHIFTS];
+    if !line::read_numbers(line, cuts, SHIFT_FIELD, &mut shifts[..np]) {
+        return None;
+    }
+    Some(Numbers { place, shifts })
 }
 
 // Whether grid k of a group's numbers has this name.
@@ -202,24 +208,22 @@ fn judge_line(
     ensures { TurnTaken (group_of_words words.now) nodes.now line.now result }
 {
     let mut cuts = [0; CUTS];
-    let mut place = [0i64; PLACE];
-    let mut shifts = [0i64; SHIFTS];
     let np = abi::parameter_count(words) as usize;
-    if !read_entry(line, np, &mut cuts, &mut place, &mut shifts) {
+    let Some(said) = read_entry(line, np, &mut cuts) else {
         return Turn {
             kind: Some(Kind::Form),
             scale,
         };
-    }
-    let point = Point {
-        lon: Longitude(place[0]),
-        lat: Latitude(place[1]),
     };
-    let next = exercise::scale_on(words, scale, place[2]);
+    let point = Point {
+        lon: Longitude(said.place[0]),
+        lat: Latitude(said.place[1]),
+    };
+    let next = exercise::scale_on(words, scale, said.place[2]);
     let found = look_at(words, tables, nodes, next, point);
     let name = text::cut_field(line, &cuts, GRID_FIELD);
     Turn {
-        kind: kind_of(words, found, name, &shifts),
+        kind: kind_of(words, found, name, &said.shifts),
         scale: next,
     }
 }

@@ -1,6 +1,7 @@
 -- `judge_line` meets its contract.
 use Prim.Native.Nat.{ℕ}
 use mathlib.Core.Path.{◌≡◌, refl, sym, ap, ◌∙◌, subst}
+use mathlib.Core.Option.{none}
 use native.Mathlib.Omega.{arith}
 use borrow.Author.Rules.{rules}
 use mir.Syntax.{w64}
@@ -11,19 +12,17 @@ use Rattle.lookup.specs.Lookup.{looked}
 use Rattle.exercise.specs.declared.Scale.{Scale}
 use Rattle.exercise.specs.Tables.{scale_for}
 use Rattle.exercise.proofs.ScaleLaws.{scale_day, scale_same}
-use Rattle.logs.specs.Line.{found_kind}
-use Rattle.logs.specs.Reading.{EntryRead, Scaled}
+use Rattle.logs.specs.Line.{found_kind, read_entry}
+use Rattle.logs.specs.Reading.{Said, EntryRead, Scaled}
 use Rattle.logs.proofs.PlaceLaws.{point_of}
 use Rattle.logs.proofs.TurnLaws.{line_unformed, line_formed, found_in}
 use Rattle.logs.proofs.judge_line.Goals as goal
-use Rattle.logs.proofs.judge_line.Goals.{After-read_entry, After-scale_on-next, After-look_at-found}
+use Rattle.logs.proofs.judge_line.Goals.{In-Some, After-scale_on-next, After-look_at-found}
 
--- the line is read with as many shifts as the group has parameters
-read : (c : After-read_entry)
-    → EntryRead (group_of_words c.args.words.now).parameters c.args.line.now c.read_entry.result c.read_entry.new.cuts c.read_entry.new.place c.read_entry.new.values
-read c =
-    subst (λ (n : ℕ). EntryRead n c.args.line.now c.read_entry.result c.read_entry.new.cuts c.read_entry.new.place c.read_entry.new.values)
-    c.parameter_count-np.ensures c.read_entry.ensures
+-- the line says so many shifts as the group has parameters
+said : (c : In-Some) → Said (group_of_words c.args.words.now).parameters c.args.line.now c.read_entry.new.cuts c.in-Some.said.place c.in-Some.said.shifts
+said c =
+    subst (λ (n : ℕ). Said n c.args.line.now c.read_entry.new.cuts c.in-Some.said.place c.in-Some.said.shifts) c.parameter_count-np.ensures c.in-Some.ensures
 
 scaled : (c : After-scale_on-next) → Scaled (group_of_words c.args.words.now) c.scale_on-next.result
 scaled c =
@@ -33,10 +32,10 @@ scaled c =
 -- what is looked up is the position that was read, whose numbers come by way of their bits
 found : (c : After-look_at-found)
     → c.look_at-found.result
-    ≡ looked (group_of_words c.args.words.now) c.args.nodes.now (point_of (number_at c.read_entry.new.place 0) (number_at c.read_entry.new.place 1)) (number_at c.read_entry.new.place 2)
+    ≡ looked (group_of_words c.args.words.now) c.args.nodes.now (point_of (number_at c.in-Some.said.place 0) (number_at c.in-Some.said.place 1)) (number_at c.in-Some.said.place 2)
 found c =
     let g = group_of_words c.args.words.now in
-    let place = c.read_entry.new.place in
+    let place = c.in-Some.said.place in
     let x = to_z-of_z w64 (number_at place 0) (search rules) in
     let y = to_z-of_z w64 (number_at place 1) (search rules) in
     let t = to_z-of_z w64 (number_at place 2) (search rules) in
@@ -47,13 +46,13 @@ pub read_entry-requires : goal.read_entry-requires
 read_entry-requires c =
     let e = c.parameter_count-np.ensures in
     let m = (accepted_head (group_of_words c.args.words.now) c.requires.call.accepted).parameters in
-    (omega arith, refl, refl, refl)
+    (omega arith, refl)
 
-pub returns-then-not-read_entry : goal.returns-then-not-read_entry
-returns-then-not-read_entry c =
-    let q = (goal.at.returns-then-not-read_entry c).After-read_entry in
+pub returns-in_default : goal.returns-in_default
+returns-in_default c =
+    let unread = subst (EntryRead c.parameter_count-np.result c.args.line.now c.read_entry.new.cuts) c.in_default.is c.read_entry.ensures in
     record {
-      kind = sym (line_unformed (group_of_words c.args.words.now) c.args.nodes.now c.args.line.now ((read q).bad c.if-not-read_entry.true));
+      kind = sym (line_unformed (group_of_words c.args.words.now) c.args.nodes.now c.args.line.now (subst (λ (n : ℕ). read_entry n c.args.line.now ≡ none) c.parameter_count-np.ensures unread));
       scale = c.requires.scale;
     }
 
@@ -64,8 +63,7 @@ pub look_at-found-requires : goal.look_at-found-requires
 look_at-found-requires c = record { call = c.requires.call; scale = scaled (goal.at.look_at-found-requires c).After-scale_on-next }
 
 pub cut_field-name-requires : goal.cut_field-name-requires
-cut_field-name-requires c =
-    (omega arith, ((read (goal.at.cut_field-name-requires c).After-read_entry).good c.if-not-read_entry.false).named)
+cut_field-name-requires c = (omega arith, (said (goal.at.cut_field-name-requires c).In-Some).named)
 
 pub kind_of-requires : goal.kind_of-requires
 kind_of-requires c =
@@ -78,7 +76,7 @@ returns c =
     let q = goal.at.returns c in
     record {
       kind = c.kind_of.ensures
-          ∙ (λ i. found_kind g (c.cut_field-name.ensures i) c.read_entry.new.values (found q.After-look_at-found i))
-          ∙ sym (line_formed g c.args.nodes.now c.args.line.now _ c.read_entry.new.place c.read_entry.new.values ((read q.After-read_entry).good c.if-not-read_entry.false));
+          ∙ (λ i. found_kind g (c.cut_field-name.ensures i) c.in-Some.said.shifts (found q.After-look_at-found i))
+          ∙ sym (line_formed g c.args.nodes.now c.args.line.now _ c.in-Some.said.place c.in-Some.said.shifts (said q.In-Some));
       scale = scaled q.After-scale_on-next;
     }
