@@ -27,6 +27,29 @@ use Rattle.lookup.proofs.BridgeLaws.{turn_room}
 use Rattle.lookup.proofs.FunctionLaws.{rows_fit, rows_factor}
 use Rattle.explain.proofs.PieceLaws.{pieces_told, few, some_parameter, others_told, distance_most, used_told, seen, lies}
 use Rattle.explain.proofs.found_numbers.Goals as goal
+use Rattle.explain.proofs.found_numbers.Goals.{After-offset_in-l}
+
+-- where the point lies, and the day's factor
+offset : (c : After-offset_in-l) → let a = c.args in let g = group_of_words a.words.now in
+    c.offset_in-l.result ≡ offset_in (frame_at a.frames.now (a.c - 1)) g.parameters c.used_at-used.result c.lat_from_least-y.result
+offset c = c.offset_in-l.ensures ∙ (λ i. offset_in (c.frame_at-frame.ensures i) (c.parameter_count.ensures i) c.used_at-used.result c.lat_from_least-y.result)
+
+is_seen : (c : After-offset_in-l) → let a = c.args in let g = group_of_words a.words.now in
+    c.offset_in-l.result ≡ offset_of (grid_at g (a.c - 1)) g.parameters a.point
+is_seen c =
+    let a = c.args in
+    offset c
+    ∙ seen (group_of_words a.words.now) a.nodes.now a.point a.day a.c c.requires.0 a.sides.now a.ranks.now a.frames.now c.requires.1.flat
+    c.lat_from_least-y.ensures c.lon_from_least-x.ensures c.used_at-used.ensures
+
+factor : (c : After-offset_in-l) → let a = c.args in let g = group_of_words a.words.now in
+    to_z w64 (of_z w64 c.factor_on-factor.result) ≡ factor_of g.function g.functions a.day
+factor c =
+    let a = c.args in
+    let fits : SFits w64 c.factor_on-factor.result = search rules in
+    to_z-of_z w64 c.factor_on-factor.result fits ∙ c.factor_on-factor.ensures
+    ∙ (λ i. factor_in (function_rows a.words.now) (c.function_count.ensures i) (to_z-of_z w64 a.day c.ranges.day i))
+    ∙ rows_factor a.words.now c.requires.0.ready.accepted a.day
 
 pub ranks_beside-others-requires : goal.ranks_beside-others-requires
 ranks_beside-others-requires c =
@@ -69,47 +92,26 @@ frame_at-frame-requires c =
 
 pub all_numbers-requires : goal.all_numbers-requires
 all_numbers-requires c =
-    let a = c.args in let g = group_of_words a.words.now in let r = c.requires.0 in let y = c.lat_from_least-y.result in
+    let a = c.args in let g = group_of_words a.words.now in let r = c.requires.0 in let q = (goal.at.all_numbers-requires c).After-offset_in-l in
     let room : g.grids * 7 ≤ length a.frames.now = omega (arith, (accepted_head g r.ready.accepted).grids, c.requires.1.room.frames_room) in
-    let offset : c.offset_in-l.result ≡ offset_in (frame_at a.frames.now (a.c - 1)) g.parameters c.used_at-used.result y =
-    c.offset_in-l.ensures ∙ (λ i. offset_in (c.frame_at-frame.ensures i) (c.parameter_count.ensures i) c.used_at-used.result y) in
-    let is_seen : c.offset_in-l.result ≡ offset_of (grid_at g (a.c - 1)) g.parameters a.point =
-    offset
-    ∙ seen g a.nodes.now a.point a.day a.c r a.sides.now a.ranks.now a.frames.now c.requires.1.flat
-    c.lat_from_least-y.ensures c.lon_from_least-x.ensures c.used_at-used.ensures in
-    let fits : SFits w64 c.factor_on-factor.result = search rules in
-    let factor : to_z w64 (of_z w64 c.factor_on-factor.result) ≡ factor_of g.function g.functions a.day =
-    to_z-of_z w64 c.factor_on-factor.result fits ∙ c.factor_on-factor.ensures
-    ∙ (λ i. factor_in (function_rows a.words.now) (c.function_count.ensures i) (to_z-of_z w64 a.day c.ranges.day i))
-    ∙ rows_factor a.words.now r.ready.accepted a.day in
     let h = lies g a.nodes.now a.point a.day a.c r a.sides.now a.ranks.now a.frames.now c.requires.1.flat
     c.lat_from_least-y.ensures c.lon_from_least-x.ensures c.used_at-used.ensures room in (
-      subst InsideGrid (sym offset) (h.inside r.some),
-      subst (λ (l : Offset). RangeListed l (length a.nodes.now)) (sym offset) (h.listed r.some),
-      omega (arith, some_parameter g a.nodes.now a.point a.day a.c r, ap (λ (l : Offset). l.np) offset),
+      subst InsideGrid (sym (offset q)) (h.inside r.some),
+      subst (λ (l : Offset). RangeListed l (length a.nodes.now)) (sym (offset q)) (h.listed r.some),
+      omega (arith, some_parameter g a.nodes.now a.point a.day a.c r, ap (λ (l : Offset). l.np) (offset q)),
       few g a.nodes.now a.point a.day a.c r,
-      subst (λ (z : ℤ). nat_abs z ≤ factor_most) (sym factor)
+      subst (λ (z : ℤ). nat_abs z ≤ factor_most) (sym (factor q))
           (factor_bound g.function a.day g.functions (accepted_head g r.ready.accepted).functions (accepted g r.ready.accepted).function),
-      ap (λ (l : Offset). corner_some is_beyond l a.nodes.now) is_seen ∙ r.small,
+      ap (λ (l : Offset). corner_some is_beyond l a.nodes.now) (is_seen q) ∙ r.small,
     )
 
 pub returns : goal.returns
 returns c =
-    let a = c.args in let g = group_of_words a.words.now in let r = c.requires.0 in let y = c.lat_from_least-y.result in
-    let is_seen : c.offset_in-l.result ≡ offset_of (grid_at g (a.c - 1)) g.parameters a.point =
-    c.offset_in-l.ensures
-    ∙ (λ i. offset_in (c.frame_at-frame.ensures i) (c.parameter_count.ensures i) c.used_at-used.result y)
-    ∙ seen g a.nodes.now a.point a.day a.c r a.sides.now a.ranks.now a.frames.now c.requires.1.flat
-    c.lat_from_least-y.ensures c.lon_from_least-x.ensures c.used_at-used.ensures in
-    let fits : SFits w64 c.factor_on-factor.result = search rules in
-    let factor : to_z w64 (of_z w64 c.factor_on-factor.result) ≡ factor_of g.function g.functions a.day =
-    to_z-of_z w64 c.factor_on-factor.result fits ∙ c.factor_on-factor.ensures
-    ∙ (λ i. factor_in (function_rows a.words.now) (c.function_count.ensures i) (to_z-of_z w64 a.day c.ranges.day i))
-    ∙ rows_factor a.words.now r.ready.accepted a.day in
+    let a = c.args in let g = group_of_words a.words.now in let r = c.requires.0 in let q = (goal.at.returns c).After-offset_in-l in
     let lon_fits : SFits w64 c.lowered-lon.result = search rules in
     c.all_numbers.ensures
     ∙ pieces_told g a.nodes.now a.point a.day a.c
     (to_z-of_z w64 c.lowered-lon.result lon_fits
     ∙ used_told g a.nodes.now a.point a.day a.c r a.sides.now a.ranks.now a.frames.now c.requires.1.flat c.lat_from_least-y.ensures c.lon_from_least-x.ensures c.used_at-used.ensures c.lowered-lon.ensures)
-    is_seen factor
+    (is_seen q) (factor q)
     (others_told g a.nodes.now a.point a.day a.c r a.sides.now a.ranks.now a.frames.now c.requires.1.flat c.lat_from_least-y.ensures c.lon_from_least-x.ensures c.grid_count.ensures c.ranks_beside-others.ensures)
