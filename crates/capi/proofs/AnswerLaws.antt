@@ -35,7 +35,7 @@ use Rattle.logs.specs.Line.{position_of}
 use Rattle.logs.specs.Log.{log_judged}
 use Rattle.logs.specs.Writing.{line_written, line_after}
 use Rattle.numbers.specs.Order.{count_of}
-use Rattle.abi.specs.Abi.{group_of_words, numbers_of, count_at, number_at, stored, joined}
+use Rattle.abi.specs.Abi.{group_of_words, count_at, number_at, stored, joined}
 use Rattle.abi.proofs.ListLaws.{sets_append, sets_whole, length_joined}
 use Rattle.capi.specs.Answers.{left, left_by, answered, judge_answer, fix_numbers, found_answer, point_of, lookup_answer, many_answer, area_of, hole_numbers, hole_answer, lent_text, written_answer, write_answer, fault_numbers, log_answer, line_answer, loaded_by, load_answer}
 use Rattle.capi.specs.InForce.{entries_from, entry_words, list_words, stored_entry, stored_list, list_numbers, in_force_answer}

@@ -36,14 +36,13 @@ use Rattle.logs.specs.Log.{log_judged}
 use Rattle.logs.specs.Writing.{line_written}
 use Rattle.logs.proofs.TableLaws.{log_told, line_told, line_kept}
 use Rattle.numbers.specs.Order.{count_of}
-use Rattle.abi.specs.Abi.{group_of_words, numbers_of, joined}
+use Rattle.abi.specs.Abi.{group_of_words, numbers_of}
 use Rattle.capi.specs.Answers.{left_by, point_of, lent_text, judge_answer, read_answer, write_answer, fix_numbers, lookup_answer, many_answer, hole_numbers, hole_answer, fault_numbers, log_answer, line_answer, load_answer}
 use Rattle.capi.specs.InForce.{list_words, list_numbers, in_force_answer}
 use Rattle.capi.specs.Screen.{lookup_of, shown_of, record_floats}
 use Rattle.capi.specs.Demand1.{Judges, Reads, Writes, JudgesLog, WritesLine, Looks, LooksMany, Lists, FindsHole, Loads, Shows}
-use Rattle.std.specs.Prelude.{Result, Ok, Err, ⊤}
+use Rattle.std.specs.Prelude.{Result, Ok, Err}
 use Rattle.fix.specs.declared.Fix.{Fix}
-use Rattle.logs.specs.declared.Fault.{Fault}
 
 pub judges : (group : List ℤ) → Judges group
 unfolding judge_answer

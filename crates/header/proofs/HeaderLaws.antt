@@ -21,7 +21,7 @@ use Rattle.judge.specs.Judge.{judged}
 use Rattle.judge.proofs.TableLaws.{judged_table}
 use Rattle.header.specs.Whole.{Header, stopped, header, read_lines, group_of_lines, lines_reading, head_of_group, header_text}
 use Rattle.header.specs.Header.{verdict_reading, judged_reading, read_header, written, bytes_after}
-use Rattle.std.specs.Prelude.{Result, Ok, Err, ⊤}
+use Rattle.std.specs.Prelude.{Result, Ok, Err}
 
 module _ (t : List ℕ) (q : Result Group Refusal) (e : q ≡ lines_reading (read_lines t)) where
   pub lines_refused : (r : Refusal) → q ≡ Err r → Err r ≡ read_header t

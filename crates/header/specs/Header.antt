@@ -6,7 +6,7 @@ use Rattle.group.specs.declared.Grid.{Grid}
 use Rattle.group.specs.declared.Group.{Group}
 use Rattle.judge.specs.Judge.{judged}
 use Rattle.group.specs.declared.Refusal.{Refusal}
-use Rattle.group.specs.Refusals.{no_refusal, refuse_if, unless_refused, lent_after, refusal_of}
+use Rattle.group.specs.Refusals.{refuse_if, unless_refused, lent_after, refusal_of}
 use Rattle.header.specs.Whole.{Header, stopped, header, read_lines, group_of_lines, header_text}
 
 -- a group that was read: its judge's refusal, else the group

@@ -9,7 +9,6 @@ use lib.IntN.{ℤ}
 use lib.ListN.{length}
 use Rattle.group.specs.declared.Group.{Group}
 use Rattle.group.specs.declared.Point.{Point}
-use Rattle.group.specs.declared.Refusal.{Refusal}
 use Rattle.group.specs.Record.{grid_at}
 use Rattle.group.proofs.RefusalLaws.{passed_if, passed_first, passed_verdict, no_answer, ok_same}
 use Rattle.judge.specs.Judge.{judged}
@@ -22,7 +21,7 @@ use Rattle.fix.specs.declared.Fix.{Fix}
 use Rattle.fix.specs.Answers.{result_in}
 use Rattle.fix.specs.Fix.{corner_some, result_at, fix_in}
 use Rattle.lookup.specs.Lookup.{point_fits, ends_early, offset_of, fix_at, looked_in, looked, LookupReady}
-use Rattle.std.specs.Prelude.{Result, Ok, Err}
+use Rattle.std.specs.Prelude.{Ok, Err}
 
 choice_stage : (c : ℕ) (offset : ℕ → Offset) (nodes : List ℤ) (factor : ℤ) (f : Fix) → fix_at c offset nodes factor ≡ Ok f
     → (k : ℕ) × ((c ≡ suc k) × (fix_in (offset k) nodes factor (suc k) ≡ Ok f))

@@ -3,7 +3,6 @@ use Prim.Native.Nat.{ℕ, zero, suc}
 use mathlib.Core.Path.{◌≡◌, refl, ap}
 use mathlib.Core.List.{List}
 use mathlib.Core.Logic.{◌↔◌}
-use native.Mathlib.Omega.{arith}
 use lib.IntN.{ℤ}
 use Rattle.group.specs.declared.Group.{Group}
 use Rattle.group.specs.declared.Point.{Point}
@@ -16,7 +15,7 @@ use Rattle.fix.specs.declared.Fix.{Fix}
 use Rattle.fix.specs.declared.Offset.{Offset}
 use Rattle.fix.specs.Fix.{fix_in}
 use Rattle.lookup.specs.Lookup.{fix_at, looked_in, looked}
-use Rattle.std.specs.Prelude.{Result, Ok, Err}
+use Rattle.std.specs.Prelude.{Ok}
 
 in_choice : (c : ℕ) (offset : ℕ → Offset) (nodes : List ℤ) (factor : ℤ)
     → Told ((f : Fix) × (fix_at c offset nodes factor ≡ Ok f)) (refusal_of (fix_at c offset nodes factor))

@@ -1,5 +1,4 @@
 -- `store_entries` meets its contract.
-use Prim.Native.Nat.{◌-◌}
 use lib.ListN.{get_or}
 use Rattle.group.specs.Numbers.{grids_most}
 use Rattle.inforce.specs.InForce.{blank_entry}
