@@ -24,8 +24,7 @@ use Rattle.logs.specs.Log.{log_judged}
 use Rattle.logs.specs.Writing.{line_written}
 use Rattle.numbers.specs.Order.{count_of}
 use Rattle.abi.specs.Abi.{group_of_words}
-use Rattle.capi.specs.Answers.{Answer, point_of, lent_text}
-use Rattle.capi.specs.Answers.{judge_answer, read_answer, write_answer, log_answer, line_answer, lookup_answer, many_answer, hole_answer, load_answer}
+use Rattle.capi.specs.Answers.{Answer, point_of, lent_text, judge_answer, read_answer, write_answer, log_answer, line_answer, lookup_answer, many_answer, hole_answer, load_answer}
 use Rattle.capi.specs.InForce.{list_words, in_force_answer}
 use Rattle.capi.specs.Screen.{shown_of, shifts_answer, record_answer}
 

@@ -20,8 +20,7 @@ use Rattle.group.specs.declared.Group.{Group}
 use Rattle.judge.specs.Judge.{judged}
 use Rattle.judge.proofs.TableLaws.{judged_told}
 use Rattle.line.specs.declared.Head.{Head}
-use Rattle.line.specs.Lines.{keyed, formed, fields, line_of, group_keyword, head_texts, head_fit, head_of, head_line, grid_keyword, grid_texts, grid_fit, grid_of}
-use Rattle.line.specs.Lines.{ramp_keyword, step_keyword, ramp2_keyword, no_texts, of_shape, shape_fit, shape_fields, function_line}
+use Rattle.line.specs.Lines.{keyed, formed, fields, line_of, group_keyword, head_texts, head_fit, head_of, head_line, grid_keyword, grid_texts, grid_fit, grid_of, ramp_keyword, step_keyword, ramp2_keyword, no_texts, of_shape, shape_fit, shape_fields, function_line}
 use Rattle.header.specs.Items.{Items, refused, items, on_line, read_items}
 use Rattle.header.specs.Whole.{Header, stopped, header, ending, after_grids, after_functions_of, after_head_of, read_lines_of, grid_lines, read_lines, group_of_lines}
 use Rattle.header.specs.Header.{judged_reading, read_header, written}

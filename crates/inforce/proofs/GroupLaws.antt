@@ -8,7 +8,7 @@ use native.Mathlib.Omega.{arith}
 use lib.IntN.{ℤ}
 use lib.ListN.{length}
 use lib.Signed.{◌≤ℤ◌, ◌<ℤ◌}
-use Rattle.std.specs.Prelude.{Some}
+use Rattle.std.specs.Prelude.{Some, Ok}
 use Rattle.numbers.proofs.Machine.{lowered_size, lowered_raised, raised_lowered}
 use Rattle.group.specs.declared.Group.{Group}
 use Rattle.group.specs.Numbers.{grids_most, rank_most, lon_zero, lat_zero}
@@ -38,7 +38,6 @@ use Rattle.inforce.specs.Hole.{hole_in}
 use Rattle.inforce.specs.Demand3.{IsFirstChosen}
 use Rattle.inforce.specs.Handed.{Narrow, NarrowSpot}
 use Rattle.inforce.proofs.AreaLaws.{lowered_<, lowered_≤, area_size, area_lon, area_inside, inside_most, inside_area}
-use Rattle.std.specs.Prelude.{Ok}
 
 module _ (g : Group) (e : judged g ≡ Ok tt) where
   -- the grids by rank are an order of all of them

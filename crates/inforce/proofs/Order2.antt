@@ -6,7 +6,7 @@ use mathlib.Core.Logic.{◌⊎◌, inl, inr}
 use native.Mathlib.Omega.{arith}
 use native.Mathlib.Decide.{dec_lt}
 use lib.IntN.{ℤ}
-use Rattle.std.specs.Prelude.{Option, Some, None}
+use Rattle.std.specs.Prelude.{Option, Some, None, Result, Ok, Err, ⊤}
 use Rattle.group.specs.declared.Group.{Group}
 use Rattle.group.specs.declared.Point.{Point}
 use Rattle.group.specs.declared.Refusal.{Refusal}
@@ -24,7 +24,6 @@ use Rattle.inforce.specs.Order2.{HoleInArea, Order2, RefusesAlike, NamedOnce, Ho
 use Rattle.inforce.proofs.GroupLaws.{hole_first, hole_found}
 use Rattle.inforce.proofs.StageLaws.{area_group, area_10, area_accepted, in_force_refused, in_force_listed, hole_refused, hole_answered}
 use Rattle.inforce.proofs.Demand3.{demand_3}
-use Rattle.std.specs.Prelude.{Result, Ok, Err, ⊤}
 
 -- ---- the answer
 

@@ -24,8 +24,7 @@ use Rattle.group.specs.declared.Grid.{Grid}
 use Rattle.line.specs.declared.Head.{Head}
 use Rattle.line.specs.Names.{name_text, read_name, unit_text, read_unit}
 use Rattle.group.specs.Refusals.{refusal}
-use Rattle.line.specs.Lines.{fields, group_keyword, head_texts, paired, head_fit, head_of, head_ints, head_line, head_text, grid_keyword, grid_texts, grid_fit, grid_of, grid_ints, grid_line, grid_text}
-use Rattle.line.specs.Lines.{ramp_keyword, step_keyword, ramp2_keyword, no_texts, of_shape, shape_fit, shape_fields, function_fields, function_line, shape_keyword, function_text}
+use Rattle.line.specs.Lines.{fields, group_keyword, head_texts, paired, head_fit, head_of, head_ints, head_line, head_text, grid_keyword, grid_texts, grid_fit, grid_of, grid_ints, grid_line, grid_text, ramp_keyword, step_keyword, ramp2_keyword, no_texts, of_shape, shape_fit, shape_fields, function_fields, function_line, shape_keyword, function_text}
 use Rattle.line.proofs.LineLaws.{three_of, four_of_lem, eight_of, WellFormed, fielded_free, fields_good, fields_back, fields_same, limited, Kind, Body, Parted, keyed_same, none_same, parted_kind, body_kind}
 use Rattle.line.proofs.NameLaws.{fits_is_name, read_name_text, name_read, name_free, read_unit_text, unit_read, unit_free}
 use Rattle.line.proofs.LimitLaws.{head_sizes, counts_sizes}

@@ -13,7 +13,6 @@ use Rattle.screen.specs.Shown.{below_zero, Times, nearest_to, shift_at, ShowsRes
 use Rattle.screen.proofs.Exact.{div_at, cast_exact, like, shift_exact}
 use Rattle.screen.proofs.TableLaws.{answer_told}
 use Rattle.std.specs.Prelude.{Result, Ok}
-use Rattle.group.specs.declared.Refusal.{Refusal}
 use Rattle.group.specs.Refusals.{refusal_of}
 
 -- ---- results
