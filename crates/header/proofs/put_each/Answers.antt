@@ -4,7 +4,7 @@ use mathlib.Core.Path.{sym, subst}
 use mathlib.Core.List.{[], ◌∷◌, ◌++◌}
 use lib.ListN.{length}
 use Rattle.text.specs.Wrote.{Wrote}
-use Rattle.header.proofs.WriteLaws.{writes_none, writes_room, writes_more, writes_all}
+use Rattle.header.proofs.WriteLaws.{writes_none, writes_room, writes_more}
 use Rattle.header.proofs.put_each.Goals as goal
 
 pub loop-entry-init : goal.loop-entry-init
@@ -23,8 +23,3 @@ loop-entry-preserved g c =
     let a = c.args in let l = c.loop-entry in let e = c.entry-item in let p = c.put-next in
     writes_more g.T.Entry.text e.result a.entries.now a.at a.out.now c.requires.room l.next l.entry-index l.out l.invariant c.loop-entry-test.true p.result p.new.out
     (subst (λ x. Wrote l.next (g.T.Entry.text x ++ (10 ∷ [])) l.out p.result p.new.out) e.is p.ensures)
-
-pub returns : goal.returns
-returns g c =
-    let a = c.args in let l = c.loop-entry in
-    writes_all g.T.Entry.text a.entries.now a.at a.out.now l.next l.entry-index l.out l.invariant c.loop-entry-test.false

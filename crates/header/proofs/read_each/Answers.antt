@@ -6,13 +6,8 @@ use lib.ListN.{length, drop}
 use Rattle.std.specs.Prelude.{Err}
 use Rattle.text.specs.Parts.{split}
 use Rattle.header.specs.Items.{read_items, Are}
-use Rattle.header.proofs.ItemLaws.{loop_enters, loop_unclosed, loop_refuses, loop_reads, loop_leaves, end_le}
+use Rattle.header.proofs.ItemLaws.{loop_unclosed, loop_refuses, loop_reads, loop_leaves, end_le}
 use Rattle.header.proofs.read_each.Goals as goal
-
-pub loop-k-init : goal.loop-k-init
-loop-k-init g c =
-    let a = c.args in
-    loop_enters g.T.Entry.read_line (length a.entries.now) a.first a.text.now a.at a.entries.now c.requires.0
 
 pub returns-then-e-text : goal.returns-then-e-text
 returns-then-e-text g c =

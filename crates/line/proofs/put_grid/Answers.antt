@@ -58,17 +58,6 @@ module _ {at p q : ℕ} {text out m n : List ℕ} (g : Grid) where
   left₁₀ : Left at text out (numbers 7 g) p m → Wrote p (9 ∷ int_text (pos g.start)) m q n → Left at text out (numbers 8 g) q n
   left₁₀ l w = left_more (9 ∷ int_text (pos g.start)) (numbers 8 g) l w
 
-pub put_name-q-requires : goal.put_name-q-requires
-put_name-q-requires c =
-    let g = c.args.grid in
-    (c.requires.0, left_room (9 ∷ name_text g.name) (numbers 0 g) (left₁ g c.requires.1 c.put_bytes-p.ensures))
-
-pub put_number-r-requires : goal.put_number-r-requires
-put_number-r-requires c =
-    let g = c.args.grid in
-    int_room g.lon.0 (numbers 1 g) (search rules)
-    (left₂ g (left₁ g c.requires.1 c.put_bytes-p.ensures) c.put_name-q.ensures)
-
 pub put_number-s-requires : goal.put_number-s-requires
 put_number-s-requires c =
     let g = c.args.grid in

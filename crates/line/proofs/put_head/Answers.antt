@@ -1,12 +1,11 @@
 -- `line::put_head` meets its contract.
 use Prim.Native.Nat.{ℕ, ◌+◌, ◌≤◌}
 use mathlib.Core.List.{List, [], ◌∷◌, ◌++◌, map}
-use native.Mathlib.Omega.{arith}
 use lib.ListN.{length, drop}
 use lib.IntN.{pos}
 use Rattle.text.specs.Decimal.{int_text}
 use Rattle.text.specs.Wrote.{Wrote}
-use Rattle.text.proofs.PutLaws.{Left, left_all, left_none, left_room, left_more, pieces, line_pieces}
+use Rattle.text.proofs.PutLaws.{Left, left_all, left_none, left_more, pieces, line_pieces}
 use Rattle.line.specs.Names.{name_text, unit_text}
 use Rattle.line.specs.Lines.{group_keyword, head_ints, head_text}
 use Rattle.line.specs.declared.Head.{Head}
@@ -48,47 +47,6 @@ module _ {at p q : ℕ} {text out m n : List ℕ} (h : Head) where
 
   left₇ : Left at text out (numbers 3 h) p m → Wrote p (9 ∷ int_text (pos h.grids)) m q n → Left at text out (numbers 4 h) q n
   left₇ l w = left_more (9 ∷ int_text (pos h.grids)) (numbers 4 h) l w
-
-pub put_name-q-requires : goal.put_name-q-requires
-put_name-q-requires c =
-    let h = c.args.head in
-    (c.requires.0, left_room (9 ∷ name_text h.name) (from_unit h) (left₁ h c.requires.1 c.put_bytes-p.ensures))
-
-pub put_unit-r-requires : goal.put_unit-r-requires
-put_unit-r-requires c =
-    let h = c.args.head in
-    left_room (9 ∷ unit_text h.unit) (numbers 0 h)
-    (left₂ h (left₁ h c.requires.1 c.put_bytes-p.ensures) c.put_name-q.ensures)
-
-pub put_count-s-requires : goal.put_count-s-requires
-put_count-s-requires c =
-    let h = c.args.head in
-    left_room (9 ∷ int_text (pos h.quantum)) (numbers 1 h)
-    (left₃ h (left₂ h (left₁ h c.requires.1 c.put_bytes-p.ensures) c.put_name-q.ensures) c.put_unit-r.ensures)
-
-pub put_count-t-requires : goal.put_count-t-requires
-put_count-t-requires c =
-    let h = c.args.head in
-    left_room (9 ∷ int_text (pos h.parameters)) (numbers 2 h)
-    (left₄ h (left₃ h (left₂ h (left₁ h c.requires.1 c.put_bytes-p.ensures) c.put_name-q.ensures) c.put_unit-r.ensures) c.put_count-s.ensures)
-
-pub put_count-u-requires : goal.put_count-u-requires
-put_count-u-requires c =
-    let h = c.args.head in
-    left_room (9 ∷ int_text (pos h.functions)) (numbers 3 h)
-    (left₅ h (left₄ h (left₃ h (left₂ h (left₁ h c.requires.1 c.put_bytes-p.ensures) c.put_name-q.ensures) c.put_unit-r.ensures) c.put_count-s.ensures) c.put_count-t.ensures)
-
-pub put_count-v-requires : goal.put_count-v-requires
-put_count-v-requires c =
-    let h = c.args.head in
-    left_room (9 ∷ int_text (pos h.grids)) (numbers 4 h)
-    (left₆ h (left₅ h (left₄ h (left₃ h (left₂ h (left₁ h c.requires.1 c.put_bytes-p.ensures) c.put_name-q.ensures) c.put_unit-r.ensures) c.put_count-s.ensures) c.put_count-t.ensures) c.put_count-u.ensures)
-
-pub put_byte-requires : goal.put_byte-requires
-put_byte-requires c =
-    let h = c.args.head in
-    let room = left_room (10 ∷ []) []
-    (left₇ h (left₆ h (left₅ h (left₄ h (left₃ h (left₂ h (left₁ h c.requires.1 c.put_bytes-p.ensures) c.put_name-q.ensures) c.put_unit-r.ensures) c.put_count-s.ensures) c.put_count-t.ensures) c.put_count-u.ensures) c.put_count-v.ensures) in omega arith
 
 pub returns : goal.returns
 returns c =
