@@ -197,9 +197,6 @@ module _ {A : Type 0} (read : ℕ → List ℕ → Result A Refusal) (count n : 
   abbrev is : Items A
   is = read_items read count n (split 10 (drop at text))
 
-  pub loop_enters : (entries : List A) → at ≤ length text → Loop read count n text at entries at 0
-  loop_enters entries r = record { room = r; state = loop_start read count n (split 10 (drop at text)) }
-
   module _ (entries : List A) (next k : ℕ) (l : Loop read count n text at entries next k) where
     module _ (e : ℕ) (found : e ≡ next + up_to 10 (drop next text)) (h : k < count) where
       pub loop_unclosed : e ≡ length text → is ≡ refused (refusal 1 (n + k))

@@ -5,7 +5,7 @@ use mathlib.Core.List.{List, [], ◌∷◌, ◌++◌, append_assoc}
 use native.Mathlib.Numerals.{add-one}
 use native.Mathlib.Omega.{arith}
 use lib.ListN.{length, take, drop, get_or, take-append-drop}
-use lib.Seq.{drop-cons, take-suc, take_all}
+use lib.Seq.{drop-cons, take-suc}
 use Rattle.text.specs.Wrote.{Wrote}
 use Rattle.text.proofs.PutLaws.{put_nil, room_first, room_next, wrote_both}
 use Rattle.header.specs.Items.{closed}
@@ -53,6 +53,3 @@ module _ {A : Type 0} (text : A → List ℕ) where
           let r : at + length (closed text (take k xs) ++ line) ≤ length out =
           room_first at (closed text (take k xs) ++ line) behind out (subst (λ (l : List ℕ). at + length l ≤ length out) (sym (append_assoc (closed text (take k xs)) line behind)) whole_room) in
           subst (λ (t : List ℕ). Wrote at t out p after) (sym e) (wrote_both at (closed text (take k xs)) line out next bytes p after w v r)
-
-  pub writes_all : (xs : List A) (at : ℕ) (out : List ℕ) (next k : ℕ) (bytes : List ℕ) → Writes xs at out next k bytes → length xs ≤ k → Wrote at (closed text xs) out next bytes
-  writes_all xs at out next k bytes w h = subst (λ (ys : List A). Wrote at (closed text ys) out next bytes) (take_all k xs h) w
