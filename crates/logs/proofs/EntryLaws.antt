@@ -10,7 +10,6 @@ use lib.IntN.{ℤ}
 use lib.ListN.{length, get_or, take, drop, length-drop, length-map}
 use lib.Seq.{get_or-take, length-take-le, take_all}
 use Rattle.text.specs.Parts.{split, field_of}
-use Rattle.text.specs.Cuts.{Cut}
 use Rattle.text.specs.Number.{clamp}
 use Rattle.text.specs.Fields.{same, read_ints}
 use Rattle.text.proofs.PartLaws.{field_split}
@@ -21,7 +20,7 @@ use Rattle.line.specs.Numbers.{NumbersRead}
 use Rattle.abi.specs.Abi.{byte_at, name_of_words, grid_of_words}
 use Rattle.abi.proofs.ListLaws.{length_list_of}
 use Rattle.line.proofs.ReadLaws.{kind_counted}
-use Rattle.logs.specs.Line.{fix_keyword, entry_with, read_entry}
+use Rattle.logs.specs.Line.{fix_keyword, position_of, entry_with, read_entry}
 use Rattle.logs.specs.Reading.{Said}
 
 -- ---- the form of a line
@@ -72,16 +71,15 @@ module _ (np : ℕ) (line : List ℕ) (keyed : Bool) (e : keyed ≡ (same (field
         pub entry_unvalued : t ≡ false → read_entry np line ≡ none
         entry_unvalued u = with_numbers (some (n.good q).0) none (n.good q).1 (m.bad u)
 
-        pub entry_said : {cuts : List ℕ} {values : List ℤ} → t ≡ true → Cut line cuts 4 → (length shifts ≡ np → shifts ≡ take np values) → Said np line cuts place values
-        entry_said u cut s =
+        pub entry_said : {name : List ℕ} {values : List ℤ} → t ≡ true → name ≡ field_of line 4 → (length shifts ≡ np → shifts ≡ take np values) → Said np line place name values
+        entry_said {name} {values} u e s =
             let z = n.good q in let v = m.good u in
             record {
               zs = z.0;
               vs = v.0;
-              entry = with_numbers (some z.0) (some v.0) z.1 v.1;
+              entry = with_numbers (some z.0) (some v.0) z.1 v.1 ∙ ap (λ (n : List ℕ). some (record { position = position_of z.0; name = n; shifts = v.0 })) (sym e);
               placed = z.2;
               valued = v.2 ∙ s (many v.0 shifts v.1 v.2);
-              named = cut;
             }
 
 -- ---- the name of grid k in a group's numbers, no longer than a name

@@ -9,7 +9,6 @@ use lib.Dec.{leb}
 use lib.IntN.{ℤ, pos}
 use lib.Seq.{get_or-take}
 use Rattle.numbers.proofs.FirstLaws.{first_same}
-use Rattle.text.specs.Parts.{field_of}
 use Rattle.text.specs.Number.{clamp}
 use Rattle.text.specs.Fields.{same}
 use Rattle.group.specs.declared.Grid.{Grid}
@@ -97,7 +96,7 @@ pub line_unformed : (g : Group) (nodes : List ℤ) (line : List ℕ) → read_en
 unfolding line_kind
 line_unformed g nodes line e = ap (entry_kind g nodes) e
 
-module _ (g : Group) (nodes : List ℤ) (line cuts : List ℕ) (place values : List ℤ) (s : Said g.parameters line cuts place values) where
+module _ (g : Group) (nodes : List ℤ) (line : List ℕ) (place : List ℤ) (name : List ℕ) (values : List ℤ) (s : Said g.parameters line place name values) where
   abbrev at : Result Fix Refusal
   at = looked g nodes (point_of (number_at place 0) (number_at place 1)) (number_at place 2)
 
@@ -117,14 +116,14 @@ module _ (g : Group) (nodes : List ℤ) (line cuts : List ℕ) (place values : L
       let m = (fix_found g nodes (record { lon = record { 0 = number_at place 0 }; lat = record { 0 = number_at place 1 }; day = number_at place 2 }) f e).results q in
       ap not (sym (equal_clamped (int_at s.vs q) (result_in f q) (omega arith)) ∙ ap (λ (z : ℤ). equal z (result_in f q)) (value_at q l))))
 
-  found_told : (l : Result Fix Refusal) → at ≡ l → found_kind g (field_of line 4) s.vs l ≡ found_kind g (field_of line 4) values l
+  found_told : (l : Result Fix Refusal) → at ≡ l → found_kind g name s.vs l ≡ found_kind g name values l
   unfolding found_kind
   found_told (Err r) e = refl
-  found_told (Ok f) e = ap (λ (t : Bool). cond (same (field_of line 4) (grid_name g f.grid)) (cond t passes shift_fault) grid_fault) (shifts_told f e)
+  found_told (Ok f) e = ap (λ (t : Bool). cond (same name (grid_name g f.grid)) (cond t passes shift_fault) grid_fault) (shifts_told f e)
 
-  pub line_formed : line_kind g nodes line ≡ found_kind g (field_of line 4) values at
+  pub line_formed : line_kind g nodes line ≡ found_kind g name values at
   unfolding line_kind
-  line_formed = ap (entry_kind g nodes) s.entry ∙ ap (found_kind g (field_of line 4) s.vs) at_is ∙ found_told at refl
+  line_formed = ap (entry_kind g nodes) s.entry ∙ ap (found_kind g name s.vs) at_is ∙ found_told at refl
 
 -- a fix is in one of an accepted group's grids
 pub found_in : (g : Group) (nodes : List ℤ) (x y t : ℤ) (l : Result Fix Refusal) → judged g ≡ Ok tt → l ≡ looked g nodes (point_of x y) t → FoundIn g l

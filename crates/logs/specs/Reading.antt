@@ -1,8 +1,6 @@
 -- What the inner functions of the judge and of the writer answer, and may rely on.
 use Rattle.std.specs.Prelude.{ℕ, ◌≤◌, ◌<◌, ◌≡◌, List, map, ℤ, nat_abs, take, Option, Some, None, Result, Ok}
 use Rattle.std.proofs.Math.Option.{none, some}
-use Rattle.text.specs.Parts.{field_of}
-use Rattle.text.specs.Cuts.{Cut}
 use Rattle.text.specs.Number.{clamp}
 use Rattle.group.specs.declared.Group.{Group}
 use Rattle.group.specs.declared.Position.{Position}
@@ -13,23 +11,22 @@ use Rattle.fix.specs.Answers.{result_in}
 use Rattle.exercise.specs.declared.Scale.{Scale}
 use Rattle.exercise.specs.declared.Tables.{Tables}
 use Rattle.exercise.specs.Tables.{CallReady, scale_for}
-use Rattle.logs.specs.declared.Numbers.{Numbers}
+use Rattle.logs.specs.declared.Entry.{Entry}
 use Rattle.logs.specs.declared.Turn.{Turn}
 use Rattle.logs.specs.Line.{position_of, read_entry, line_kind}
 use Rattle.group.specs.declared.Refusal.{Refusal}
 
 -- what a line of the form says: the numbers of its position and its shifts, and its name's field
-pub record Said (np : ℕ) (line cuts : List ℕ) (place values : List ℤ) : Type 0 where
+pub record Said (np : ℕ) (line : List ℕ) (place : List ℤ) (name : List ℕ) (values : List ℤ) : Type 0 where
   pub zs : List ℤ
   pub vs : List ℤ
-  pub entry : read_entry np line ≡ some (record { position = position_of zs; name = field_of line 4; shifts = vs })
+  pub entry : read_entry np line ≡ some (record { position = position_of zs; name = name; shifts = vs })
   pub placed : map clamp zs ≡ place
   pub valued : map clamp vs ≡ take np values
-  pub named : Cut line cuts 4
 
-abbrev pub EntryRead : ℕ → (line cuts : List ℕ) → Option Numbers → Type 0
-EntryRead np line cuts None = read_entry np line ≡ none
-EntryRead np line cuts (Some n) = Said np line cuts n.place n.shifts
+abbrev pub EntryRead : ℕ → List ℕ → Option Entry → Type 0
+EntryRead np line None = read_entry np line ≡ none
+EntryRead np line (Some e) = Said np line e.place e.name.now e.shifts
 
 -- an accepted group, and a fix in one of its grids
 pub record FoundIn (g : Group) (l : Result Fix Refusal) : Type 0 where

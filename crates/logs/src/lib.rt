@@ -1,10 +1,7 @@
 // Logs: the judge of other people's, and the writer of our own lines.
 #![tactic(auto)]
 
-ghost use Rattle.std.specs.Prelude.{◌≡◌, map, ◌+◌, ◌≤◌, ◌<◌, length, take, drop, Ok};
-ghost use Rattle.text.specs.Parts.{split, led};
-ghost use Rattle.text.specs.Cuts.{fields_most, Cuts};
-ghost use Rattle.text.specs.Decimal.{int_text};
+ghost use Rattle.std.specs.Prelude.{◌≡◌, ◌≤◌, ◌<◌, length, Ok};
 ghost use Rattle.text.specs.Fields.{same};
 ghost use Rattle.text.specs.Wrote.{Wrote};
 ghost use Rattle.group.specs.Numbers.{name_most, parameters_most, grids_most};
@@ -56,9 +53,9 @@ pub struct Fault {
 
 // A line that was judged: the first test that it fails, or none, and the scale of the day last looked up.
 #[derive(Clone, Copy)]
-pub struct Turn {
-    pub kind: Option<Kind>,
-    pub scale: Scale,
+struct Turn {
+    kind: Option<Kind>,
+    scale: Scale,
 }
 
 // The fields of a line: `fix`, LON LAT DAY from here, GRID here, the shifts from here.
@@ -76,33 +73,40 @@ const SHIFTS: usize = group::PARAMETERS_MOST as usize;
 // The most bytes of a written line.
 const LINE_MOST: usize = 102;
 
-// The numbers of a line: its position's, and its shifts with zeros behind them.
+// What a line says: the numbers of its position, the name of its grid, and its shifts with zeros behind them.
 #[derive(Clone, Copy)]
-pub struct Numbers {
-    pub place: [i64; PLACE],
-    pub shifts: [i64; SHIFTS],
+struct Entry<'a> {
+    place: [i64; PLACE],
+    name: &'a [u8],
+    shifts: [i64; SHIFTS],
 }
 
-// Reads a line with so many shifts, where it is of the form, and cuts it into its fields.
-fn read_entry(line: &[u8], np: usize, cuts: &mut [usize; CUTS]) -> Option<Numbers>
-    requires { (np ≤ parameters_most) × (length cuts.old ≡ fields_most + 1) }
-    ensures { EntryRead np line.now cuts.new result }
+// Reads a line with so many shifts, where it is of the form.
+fn read_entry(line: &[u8], np: usize) -> Option<Entry<'_>>
+    requires { np ≤ parameters_most }
+    ensures { EntryRead np line.now result }
 {
-    if !line::cut_as(line, cuts, b"fix", SHIFT_FIELD + np) {
+    let mut cuts = [0; CUTS];
+    if !line::cut_as(line, &mut cuts, b"fix", SHIFT_FIELD + np) {
         return None;
     }
-    if !line::is_name(text::cut_field(line, cuts, GRID_FIELD)) {
+    let name = text::cut_field(line, &cuts, GRID_FIELD);
+    if !line::is_name(name) {
         return None;
     }
     let mut place = [0i64; PLACE];
-    if !line::read_numbers(line, cuts, PLACE_FIELD, &mut place) {
+    if !line::read_numbers(line, &cuts, PLACE_FIELD, &mut place) {
         return None;
     }
     let mut shifts = [0i64; SHIFTS];
-    if !line::read_numbers(line, cuts, SHIFT_FIELD, &mut shifts[..np]) {
+    if !line::read_numbers(line, &cuts, SHIFT_FIELD, &mut shifts[..np]) {
         return None;
     }
-    Some(Numbers { place, shifts })
+    Some(Entry {
+        place,
+        name,
+        shifts,
+    })
 }
 
 // Whether grid k of a group's numbers has this name.
@@ -207,9 +211,8 @@ fn judge_line(
     requires { TurnReady (group_of_words words.now) (length nodes.now) tables.now scale }
     ensures { TurnTaken (group_of_words words.now) nodes.now line.now result }
 {
-    let mut cuts = [0; CUTS];
     let np = abi::parameter_count(words) as usize;
-    let Some(said) = read_entry(line, np, &mut cuts) else {
+    let Some(said) = read_entry(line, np) else {
         return Turn {
             kind: Some(Kind::Form),
             scale,
@@ -221,9 +224,8 @@ fn judge_line(
     };
     let next = exercise::scale_on(words, scale, said.place[2]);
     let found = look_at(words, tables, nodes, next, point);
-    let name = text::cut_field(line, &cuts, GRID_FIELD);
     Turn {
-        kind: kind_of(words, found, name, &said.shifts),
+        kind: kind_of(words, found, said.name, &said.shifts),
         scale: next,
     }
 }

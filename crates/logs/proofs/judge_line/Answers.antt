@@ -1,6 +1,6 @@
 -- `judge_line` meets its contract.
 use Prim.Native.Nat.{ℕ}
-use mathlib.Core.Path.{◌≡◌, refl, sym, ap, ◌∙◌, subst}
+use mathlib.Core.Path.{◌≡◌, sym, ap, ◌∙◌, subst}
 use mathlib.Core.Option.{none}
 use native.Mathlib.Omega.{arith}
 use borrow.Author.Rules.{rules}
@@ -20,9 +20,9 @@ use Rattle.logs.proofs.judge_line.Goals as goal
 use Rattle.logs.proofs.judge_line.Goals.{In-Some, After-scale_on-next, After-look_at-found}
 
 -- the line says so many shifts as the group has parameters
-said : (c : In-Some) → Said (group_of_words c.args.words.now).parameters c.args.line.now c.read_entry.new.cuts c.in-Some.said.place c.in-Some.said.shifts
+said : (c : In-Some) → Said (group_of_words c.args.words.now).parameters c.args.line.now c.in-Some.said.place c.in-Some.said.name.now c.in-Some.said.shifts
 said c =
-    subst (λ (n : ℕ). Said n c.args.line.now c.read_entry.new.cuts c.in-Some.said.place c.in-Some.said.shifts) c.parameter_count-np.ensures c.in-Some.ensures
+    subst (λ (n : ℕ). Said n c.args.line.now c.in-Some.said.place c.in-Some.said.name.now c.in-Some.said.shifts) c.parameter_count-np.ensures c.in-Some.ensures
 
 scaled : (c : After-scale_on-next) → Scaled (group_of_words c.args.words.now) c.scale_on-next.result
 scaled c =
@@ -46,11 +46,11 @@ pub read_entry-requires : goal.read_entry-requires
 read_entry-requires c =
     let e = c.parameter_count-np.ensures in
     let m = (accepted_head (group_of_words c.args.words.now) c.requires.call.accepted).parameters in
-    (omega arith, refl)
+    omega arith
 
 pub returns-in_default : goal.returns-in_default
 returns-in_default c =
-    let unread = subst (EntryRead c.parameter_count-np.result c.args.line.now c.read_entry.new.cuts) c.in_default.is c.read_entry.ensures in
+    let unread = subst (EntryRead c.parameter_count-np.result c.args.line.now) c.in_default.is c.read_entry.ensures in
     record {
       kind = sym (line_unformed (group_of_words c.args.words.now) c.args.nodes.now c.args.line.now (subst (λ (n : ℕ). read_entry n c.args.line.now ≡ none) c.parameter_count-np.ensures unread));
       scale = c.requires.scale;
@@ -61,9 +61,6 @@ scale_on-next-requires c = (c.requires.call.accepted, c.requires.scale)
 
 pub look_at-found-requires : goal.look_at-found-requires
 look_at-found-requires c = record { call = c.requires.call; scale = scaled (goal.at.look_at-found-requires c).After-scale_on-next }
-
-pub cut_field-name-requires : goal.cut_field-name-requires
-cut_field-name-requires c = (omega arith, (said (goal.at.cut_field-name-requires c).In-Some).named)
 
 pub kind_of-requires : goal.kind_of-requires
 kind_of-requires c =
@@ -76,7 +73,7 @@ returns c =
     let q = goal.at.returns c in
     record {
       kind = c.kind_of.ensures
-          ∙ (λ i. found_kind g (c.cut_field-name.ensures i) c.in-Some.said.shifts (found q.After-look_at-found i))
-          ∙ sym (line_formed g c.args.nodes.now c.args.line.now _ c.in-Some.said.place c.in-Some.said.shifts (said q.In-Some));
+          ∙ ap (found_kind g c.in-Some.said.name.now c.in-Some.said.shifts) (found q.After-look_at-found)
+          ∙ sym (line_formed g c.args.nodes.now c.args.line.now c.in-Some.said.place c.in-Some.said.name.now c.in-Some.said.shifts (said q.In-Some));
       scale = scaled q.After-scale_on-next;
     }
