@@ -165,6 +165,7 @@ fn edge_after(edge: u64, i: u64, inside: bool) -> u64
 }
 
 // One pass over n grids, to the first whose line is outside its limits: judges 2 and 4 and fills the lists.
+// The lists stay apart: the caller lends three of them, and `flat` fills these as they are lent.
 fn scan_grids(
     words: &[i64; GROUP_WORDS],
     n: u64,
