@@ -4,7 +4,8 @@ use Rattle.std.specs.Prelude.{ℕ, Bool, false, ◌&&◌, ◌||◌, leb, ltb, eq
 use Rattle.std.specs.Int.Signed.{le_z, lt_z}
 use Rattle.numbers.specs.First.{every}
 use Rattle.numbers.specs.Order.{between}
-use Rattle.group.specs.Numbers.{lon_edge_fits, lat_edge_fits, day_fits, function_factor_fits, is_zero, name_most, quantum_most, parameters_most, functions_most, grids_most, spacing_most, nodes_least, nodes_most, rank_most, start_most}
+use Rattle.group.specs.Numbers.{lon_edge_fits, lat_edge_fits, day_fits, function_factor_fits, is_zero}
+use Rattle.group.specs.Numbers.{name_most, quantum_most, parameters_most, functions_most, grids_most, spacing_most, nodes_least, nodes_most, rank_most, start_most}
 use Rattle.group.specs.declared.Name.{Name}
 use Rattle.group.specs.declared.Ramp.{Ramp}
 use Rattle.group.specs.declared.Shape.{Shape}
