@@ -71,7 +71,7 @@ pub fn is_blocker(ranks: &[u64], j: usize, k: usize) -> bool
     ranks[j] < ranks[k - 1]
 }
 
-// The better of grid i, where it holds the point, and the grid numbered c, one of those before it or 0 for none.
+// The better of grid i, where it holds the point, and the grid numbered c, one of those before it or 0 for none, as `chosen` has it.
 fn better_of(sides: &[u64], ranks: &[u64], turn: u64, x: u64, y: u64, i: usize, c: u64) -> u64
     requires { (i < pair_count sides.now ranks.now) × (c ≤ i) × (turn ≤ x) × (x + turn < 2 ^ 64) }
     ensures { result ≡ better_of (turn_holds turn sides.now i x y) (at ranks.now) i c }

@@ -32,7 +32,7 @@ pub struct Tables {
     pub frames: [u64; flat::FRAMES],
 }
 
-// A day outside the limit, which stands for none.
+// A day outside the limit, which stands for none: its scale is a true one, so that no Option is needed.
 const NO_DAY: i64 = group::DAY_MOST + 1;
 
 // A day and its factor, in millionths, which is 0 on a day outside the limit.

@@ -69,13 +69,12 @@ pub fn corners_at(l: Offset, nodes: &[i32], a: u64, p: u64) -> Corners
     requires { InsideGrid l × RangeListed l (length nodes.now) × (a ≡ position l (cell_of l).i (cell_of l).j 0) × (p < l.np) }
     ensures { result ≡ corners_of l nodes.now p }
 {
-    let np = l.np;
     let low = a + p;
-    let high = low + l.ni * np;
+    let high = low + l.ni * l.np;
     let i = low as usize;
-    let j = (low + np) as usize;
+    let j = (low + l.np) as usize;
     let k = high as usize;
-    let m = (high + np) as usize;
+    let m = (high + l.np) as usize;
     Corners {
         v00: nodes[i],
         v10: nodes[j],

@@ -199,7 +199,8 @@ pub struct Group {
     pub grid: [Grid; GRIDS_MOST],
 }
 
-// A refusal of document 01: its number, and the line, grid or position that it names, 0 if none.
+// A refusal of document 01: its number, and the line, grid or position that it names, 0 if none. The number is no enum: C hands back any to the screen,
+// which answers to one outside the table too.
 #[derive(Clone, Copy)]
 pub struct Refusal {
     pub number: u64,
@@ -210,7 +211,7 @@ pub struct Refusal {
 pub fn in_table(number: u64) -> bool
     ensures { result ≡ in_table number }
 {
-    (1 <= number) & (number <= 13)
+    (1..=13).contains(&number)
 }
 
 // Whether a byte may stand in a name.

@@ -77,7 +77,7 @@ pub fn offset_in(f: Frame, np: u64, x: u64, y: u64) -> Offset
     }
 }
 
-// The fix of a point (x, y) in the grid numbered c, from 1; refusal 7 where c is 0, for none.
+// The fix of a point (x, y) in the grid numbered c, from 1; refusal 7 where c is 0, for none, as `chosen` has it.
 pub fn fix_chosen(
     frames: &[u64],
     c: u64,
@@ -101,7 +101,7 @@ pub fn fix_chosen(
     fix::fix_in(l, nodes, factor, c)
 }
 
-// The number of the grid chosen at a point (x, y), from 1, by the lists of so many grids; 0 for none.
+// The number of the grid chosen at a point (x, y), from 1, by the lists of so many grids; 0 for none, as `chosen` has it.
 fn chosen_flat(sides: &[u64], ranks: &[u64], grids: usize, x: u64, y: u64) -> u64
     requires { Room sides.now ranks.now grids × (lon_turn ≤ x) × (x + lon_turn < 2 ^ 64) }
     ensures { result ≡ chosen (λ i. turn_holds lon_turn sides.now i x y) (at ranks.now) grids }
@@ -109,7 +109,7 @@ fn chosen_flat(sides: &[u64], ranks: &[u64], grids: usize, x: u64, y: u64) -> u6
     choice::chosen_at(&sides[..grids * 4], &ranks[..grids], LON_TURN, x, y)
 }
 
-// The longitude that the grid numbered c, from 1, uses of a point (x, y); x itself where c is 0, for none.
+// The longitude that the grid numbered c, from 1, uses of a point (x, y); x itself where c is 0, for none, as `chosen` has it.
 pub fn used_at(sides: &[u64], c: u64, x: u64, y: u64) -> u64
     requires { (c * 4 ≤ length sides.now) × (lon_turn ≤ x) × (x + lon_turn < 2 ^ 64) }
     ensures { result ≡ used_at sides.now c x y }

@@ -6,7 +6,8 @@ ghost use Rattle.numbers.specs.Round.{gain, nearest};
 ghost use Rattle.numbers.specs.Order.{raised, count_of};
 ghost use Rattle.numbers.specs.Lists.{Indices, Kept};
 
-// What stands for a number below zero where numbers are unsigned: beyond every limit.
+// What stands for a number below zero where numbers are unsigned: beyond every limit, so that what C hands over is judged by its limit and never has
+// to be an Option.
 pub const BEYOND: u64 = u64::MAX;
 
 // A quotient q that left r over from a division by d, rounded: one more above half, at a tie the even one.
