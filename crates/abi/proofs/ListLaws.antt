@@ -7,8 +7,8 @@ use native.Mathlib.Numerals.{add-one}
 use native.Mathlib.Nat.{suc-mul, mul-le-mul_right, eq-or-lt_of_le}
 use native.Mathlib.Omega.{arith}
 use borrow.Author.Count.{below_more, below_none}
-use lib.ListN.{length, get_or, set, take, length-append, length-set, drop_of_length-le, get_or-append}
-use lib.Seq.{ext_get_or, get_or-set_same, get_or-set_other, get_or-append-add, take-suc, length-take-le, sets, length-sets, sets-eq}
+use lib.ListN.{length, get_or, set, length-append, length-set, drop_of_length-le, get_or-append}
+use lib.Seq.{ext_get_or, get_or-set_same, get_or-set_other, get_or-append-add, sets, length-sets, sets-eq}
 use Rattle.std.specs.Array.{IsFromFnResult, IsFromFnResultFrom}
 use denote.Param.Members.{Mut, Called}
 use Rattle.abi.specs.Abi.{list_of, joined}
@@ -79,14 +79,6 @@ module _ {A : Type 0} where
       let e = length_joined f m n h in
       ap (λ (k : ℕ). sets (sets l i (joined f n)) k (f n)) (omega arith) ∙ sets_append l i (joined f n) (f n)
       ∙ ap (λ (k : List A). sets l i k) (joined_more f n)
-
-  -- one value more in a run of stores
-  pub sets_more : (l : List A) (k : ℕ) (xs : List A) (i : ℕ) (d : A) → i < length xs
-      → set (sets l k (take i xs)) (k + i) (get_or xs i d) ≡ sets l k (take (i + 1) xs)
-  sets_more l k xs i d h =
-      ap (λ (j : ℕ). set (sets l k (take i xs)) (k + j) (get_or xs i d)) (sym (length-take-le i xs (omega arith)))
-      ∙ sets_append l k (take i xs) (get_or xs i d ∷ [])
-      ∙ ap (λ (ys : List A). sets l k ys) (sym (take-suc xs i d h) ∙ ap (λ (j : ℕ). take j xs) (sym (add-one i)))
 
   -- the first i of n lists stored one behind the other from place at on
   pub record Run (f : ℕ → List A) (n : ℕ) (l : List A) (at i : ℕ) (out : List A) : Type 0 where

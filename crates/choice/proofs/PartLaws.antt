@@ -7,8 +7,8 @@ use lib.ListN.{length, get_or, take, length-take}
 use lib.Seq.{get_or-take}
 use Rattle.numbers.specs.Lists.{at}
 use Rattle.numbers.specs.Circle.{turns, turned_by}
-use Rattle.numbers.proofs.FirstLaws.{first_same, some_same}
-use Rattle.choice.specs.Rect.{rect_holds, turn_holds, turn_used, pair_count}
+use Rattle.numbers.proofs.FirstLaws.{some_same}
+use Rattle.choice.specs.Rect.{rect_holds, turn_holds, pair_count}
 use Rattle.choice.specs.Choice.{chosen}
 use Rattle.choice.proofs.ChoiceLaws.{chosen_agree}
 
@@ -35,13 +35,6 @@ module _ (sides : List ℕ) (n turn x y : ℕ) (s : n * 4 ≤ length sides) wher
   part_turn_holds i l =
       some_same (λ k. rect_holds (take (n * 4) sides) i (turned_by turn k x) y) (λ k. rect_holds sides i (turned_by turn k x) y) turns
       (λ k m. turned i k l)
-
-  pub part_used : (i : ℕ) → i < n → turn_used turn (take (n * 4) sides) i x y ≡ turn_used turn sides i x y
-  unfolding turn_used
-  part_used i l =
-      ap (λ (k : ℕ). turned_by turn k x)
-      (first_same (λ k. rect_holds (take (n * 4) sides) i (turned_by turn k x) y) (λ k. rect_holds sides i (turned_by turn k x) y) turns
-      (λ k m. turned i k l))
 
 module _ (sides ranks : List ℕ) (n turn x y : ℕ) (s : n * 4 ≤ length sides) (r : n ≤ length ranks) where
   pub chosen_part : chosen (λ i. turn_holds turn (take (n * 4) sides) i x y) (at (take n ranks)) (pair_count (take (n * 4) sides) (take n ranks))

@@ -61,13 +61,6 @@ module _ {A : Type 0} (refused : Refusal → A) where
     pub at_past : n ≤ i → refuse_first refused test n number base next ≡ next
     at_past l = first_past test n number base next (some_past l)
 
-    -- the same where the place is fixed
-    pub fixed_here : i < n → refused (refusal number base) ≡ refuse_if refused (some test n) number base next
-    fixed_here l = sym (if_here (some test n) number base next (some_here l))
-
-    pub fixed_past : n ≤ i → refuse_if refused (some test n) number base next ≡ next
-    fixed_past l = if_past (some test n) number base next (some_past l)
-
   -- by what the chain answers: where that is no refusal, no stage before it refused
   module _ (x : A) (apart : (r : Refusal) → refused r ≡ x → ⊥) where
     pub passed_if : (t : Bool) (number place : ℕ) (next : A) → refuse_if refused t number place next ≡ x → (t ≡ false) × (next ≡ x)

@@ -128,11 +128,6 @@ module _ {A : Type 0} (read : ℕ → List ℕ → Result A Refusal) (count n : 
   abbrev pub State : ℕ → List A → List (List ℕ) → Type 0
   State k xs ls = after xs (read_items read (count - k) (n + k) ls) ≡ whole
 
-  pub loop_start : State 0 [] ls₀
-  loop_start =
-      let a : count - 0 ≡ count = omega arith in
-      let b : n + 0 ≡ n = omega arith in cc
-
   module _ (k : ℕ) (xs : List A) (h : k < count) where
     one_more : (ls : List (List ℕ)) → read_items read (count - k) (n + k) ls ≡ read_items read (suc (count - (k + 1))) (n + k) ls
     one_more ls = let a : count - k ≡ suc (count - (k + 1)) = omega arith in ap (λ (m : ℕ). read_items read m (n + k) ls) a

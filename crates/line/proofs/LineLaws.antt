@@ -19,7 +19,7 @@ use Rattle.std.specs.Prelude.{Option, Some, None, Result, Ok, Err}
 use Rattle.text.proofs.PartLaws.{Free, AllFree, join_split, split_join, Free-join, first_part}
 use Rattle.text.proofs.FieldLaws.{same_refl, same_true, ints_text, text_ints, length_ints, ints_free, clamp_id}
 use Rattle.line.specs.Lines.{keyed, with_limits, formed, fields}
-use Rattle.line.specs.Numbers.{numbers_of}
+use Rattle.line.specs.Numbers.{as_read}
 
 -- ---- numbers that the code tells apart
 
@@ -73,11 +73,11 @@ all_append c [] qs f g = g
 all_append c (p ∷ ps) qs f g = (f.0, all_append c ps qs f.1 g)
 
 -- what the reading of numbers tells
-pub numbers_none : (o : M.Option (List ℤ)) → numbers_of o ≡ None → o ≡ M.none
+pub numbers_none : (o : M.Option (List ℤ)) → as_read o ≡ None → o ≡ M.none
 numbers_none M.none e = refl
 numbers_none (M.some zs) e = cc
 
-pub numbers_some : (o : M.Option (List ℤ)) (ys : List ℤ) → numbers_of o ≡ Some ys → (zs : List ℤ) × (o ≡ M.some zs) × (map clamp zs ≡ ys)
+pub numbers_some : (o : M.Option (List ℤ)) (ys : List ℤ) → as_read o ≡ Some ys → (zs : List ℤ) × (o ≡ M.some zs) × (map clamp zs ≡ ys)
 numbers_some M.none ys e = cc
 numbers_some (M.some zs) ys e = (zs, refl, (cc))
 
@@ -163,11 +163,11 @@ module _ {B A : Type 0} (texts numbers : ℕ) (read : List (List ℕ) → Option
       pub fields_text : read (drop 1 ps) ≡ None → of (drop 1 ps) ≡ Err form
       fields_text r = opened ∙ ap (λ (o : Option B). form_of o (read_ints (drop (suc texts) ps))) r
 
-      module _ (o : Option (List ℤ)) (told : o ≡ numbers_of (read_ints (take numbers (drop (suc texts) ps)))) where
-        all_told : o ≡ numbers_of (read_ints (drop (suc texts) ps))
+      module _ (o : Option (List ℤ)) (told : o ≡ as_read (read_ints (take numbers (drop (suc texts) ps)))) where
+        all_told : o ≡ as_read (read_ints (drop (suc texts) ps))
         all_told =
             let d = length-drop (suc texts) ps in
-            told ∙ ap (λ (fs : List (List ℕ)). numbers_of (read_ints fs)) (take_all numbers (drop (suc texts) ps) (omega arith))
+            told ∙ ap (λ (fs : List (List ℕ)). as_read (read_ints fs)) (take_all numbers (drop (suc texts) ps) (omega arith))
 
         -- a field that is no number
         pub fields_unread : o ≡ None → of (drop 1 ps) ≡ Err form

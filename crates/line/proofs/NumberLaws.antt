@@ -19,7 +19,7 @@ use Rattle.text.specs.Fields.{read_ints}
 use Rattle.std.specs.Bool.{then_some}
 use Rattle.std.specs.Prelude as R
 use Rattle.text.proofs.FieldLaws.{Numbers, numbers_read, ints_bad, length_ints, malformed}
-use Rattle.line.specs.Numbers.{read_count, numbers_of, NumbersRead}
+use Rattle.line.specs.Numbers.{read_count, as_read, NumbersRead}
 
 -- ---- n fields from `first` on
 
@@ -68,9 +68,9 @@ module _ (ps : List (List ℕ)) (first n : ℕ) (h : first + n ≤ length ps) wh
   numbers_read_bad ys k l f = record { good = λ e. absurd (true_false e refl); bad = λ e. numbers_bad k l f }
 
 -- what the reading of numbers tells, as an answer
-pub numbers_given : {read : M.Option (List ℤ)} {ys : List ℤ} (r : Bool) → NumbersRead read r ys → then_some r ys ≡ numbers_of read
-numbers_given true w = let g = w.good refl in sym (ap numbers_of g.1 ∙ ap R.Some g.2)
-numbers_given false w = sym (ap numbers_of (w.bad refl))
+pub numbers_given : {read : M.Option (List ℤ)} {ys : List ℤ} (r : Bool) → NumbersRead read r ys → then_some r ys ≡ as_read read
+numbers_given true w = let g = w.good refl in sym (ap as_read g.1 ∙ ap R.Some g.2)
+numbers_given false w = sym (ap as_read (w.bad refl))
 
 -- one number more
 pub numbers_more : (ps : List (List ℕ)) (first k : ℕ) (ys : List ℤ) (y : ℤ) → k < length ys → NumbersTo ps first k ys
@@ -84,8 +84,8 @@ numbers_more ps first k ys y l f e j h =
 -- ---- all fields
 
 module _ (n : ℕ) (fs : List (List ℕ)) where
-  pub count_other : (length fs ≡ n → ⊥) → R.None ≡ numbers_of (read_count n fs)
-  count_other h = sym (ap (λ (t : Bool). numbers_of (cond t (read_ints fs) none)) (ne_eqb (length fs) n h))
+  pub count_other : (length fs ≡ n → ⊥) → R.None ≡ as_read (read_count n fs)
+  count_other h = sym (ap (λ (t : Bool). as_read (cond t (read_ints fs) none)) (ne_eqb (length fs) n h))
 
   pub count_same : length fs ≡ n → read_ints fs ≡ read_count n fs
   count_same e = sym (ap (λ (t : Bool). cond t (read_ints fs) none) (eq-eqb (length fs) n e))

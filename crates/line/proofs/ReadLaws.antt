@@ -28,7 +28,7 @@ use Rattle.group.specs.declared.Function.{Function}
 use Rattle.group.specs.declared.Refusal.{Refusal}
 use Rattle.line.specs.Names.{read_name, read_unit}
 use Rattle.line.specs.Lines.{formed, fields, line_of, head_texts, no_texts, of_shape, shape_fit, shape_fields, grid_texts, paired}
-use Rattle.line.specs.Numbers.{read_count, numbers_of}
+use Rattle.line.specs.Numbers.{read_count, as_read}
 use Rattle.line.proofs.LineLaws.{Small, keyed_miss, keyed_hit, clamped, fields_count, fields_text, fields_unread, fields_read, limited, numbers_none, numbers_some}
 use Rattle.line.proofs.LimitLaws.{shape_small}
 use Rattle.line.proofs.NumberLaws.{count_length}
@@ -78,7 +78,7 @@ module _ {B A E : Type 0} (texts numbers : ℕ) (read : List (List ℕ) → Opti
   pub kind_textless : read (drop 1 (split 9 line)) ≡ None → Err form ≡ whole
   kind_textless q = sym (opened ∙ fields_text texts numbers read fits make form limit (split 9 line) counted q)
 
-  module _ (o : Option (List ℤ)) (told : o ≡ numbers_of (read_ints (take numbers (drop (suc texts) (split 9 line))))) where
+  module _ (o : Option (List ℤ)) (told : o ≡ as_read (read_ints (take numbers (drop (suc texts) (split 9 line))))) where
     pub kind_unread : o ≡ None → Err form ≡ whole
     kind_unread q = sym (opened ∙ fields_unread texts numbers read fits make form limit (split 9 line) counted o told q)
 
@@ -129,13 +129,13 @@ number_told (z ∷ zs) zero = to_z-of_z {w = w64} (clamp_fits z)
 number_told (z ∷ zs) (suc k) = number_told zs k
 
 -- and those of a line come as they are
-pub numbers_told : (read : M.Option (List ℤ)) (ys : List ℤ) → numbers_of read ≡ Some ys → (k : ℕ) → bits (get_or ys k (pos 0)) ≡ get_or ys k (pos 0)
+pub numbers_told : (read : M.Option (List ℤ)) (ys : List ℤ) → as_read read ≡ Some ys → (k : ℕ) → bits (get_or ys k (pos 0)) ≡ get_or ys k (pos 0)
 numbers_told read ys e k = let g = numbers_some read ys e in subst (λ (zs : List ℤ). bits (get_or zs k (pos 0)) ≡ get_or zs k (pos 0)) g.2 (number_told g.0 k)
 
 -- ---- a function line, by what the reading of its numbers tells
 
 module _ {word : List ℕ} {numbers : ℕ} {make : List ℤ → Shape} (k : ShapeKind word numbers make)
-    (n : ℕ) (fs : List (List ℕ)) (o : Option (List ℤ)) (told : o ≡ numbers_of (read_count numbers fs)) where
+    (n : ℕ) (fs : List (List ℕ)) (o : Option (List ℤ)) (told : o ≡ as_read (read_count numbers fs)) where
   abbrev made : M.Option (List ℤ) → Result Function Refusal
   made = formed 0 numbers no_texts (shape_fit make) (of_shape make) (refusal 1 n) (refusal 2 n) (Some tt)
 

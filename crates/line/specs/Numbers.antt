@@ -10,9 +10,9 @@ abbrev pub read_count : ℕ → List (List ℕ) → Option (List ℤ)
 read_count n fs = cond (eqb (length fs) n) (read_ints fs) none
 
 -- the numbers as the code tells them apart
-abbrev pub numbers_of : Option (List ℤ) → R.Option (List ℤ)
-numbers_of none = R.None
-numbers_of (some zs) = R.Some (map clamp zs)
+abbrev pub as_read : Option (List ℤ) → R.Option (List ℤ)
+as_read none = R.None
+as_read (some zs) = R.Some (map clamp zs)
 
 -- whether numbers are read, and then the numbers as the code tells them apart
 pub record NumbersRead (read : Option (List ℤ)) (r : Bool) (numbers : List ℤ) : Type 0 where

@@ -12,7 +12,7 @@ ghost use Rattle.group.specs.Limits.{shape_fits};
 ghost use Rattle.line.specs.Names.{is_name, name_of, name_text, read_name, read_unit, unit_text};
 ghost use Rattle.group.specs.Refusals.{refusal};
 ghost use Rattle.line.specs.Lines.{head_line, head_text, function_line, function_text, grid_line, grid_text};
-ghost use Rattle.line.specs.Numbers.{read_count, numbers_of, NumbersRead};
+ghost use Rattle.line.specs.Numbers.{read_count, as_read, NumbersRead};
 
 use group::{Function, Grid, Latitude, Longitude, Name, Ramp, Ramp2, Refusal, Shape, Step, Unit};
 
@@ -105,7 +105,7 @@ fn numbers_from<const N: usize>(
     first: usize,
 ) -> Option<[i64; N]>
     requires { Cuts line.now cuts.now × (first + N ≤ fields_most) × (first + N ≤ length (split 9 line.now)) }
-    ensures { result ≡ numbers_of (read_ints (take N (drop first (split 9 line.now)))) }
+    ensures { result ≡ as_read (read_ints (take N (drop first (split 9 line.now)))) }
 {
     let mut numbers = [0; N];
     read_numbers(line, cuts, first, &mut numbers).then_some(numbers)
@@ -118,7 +118,7 @@ fn numbers_behind<const N: usize>(
     count: usize,
 ) -> Option<[i64; N]>
     requires { Cuts line.now cuts.now × (count ≡ length (split 9 line.now)) × (N < fields_most) }
-    ensures { result ≡ numbers_of (read_count N (drop 1 (split 9 line.now))) }
+    ensures { result ≡ as_read (read_count N (drop 1 (split 9 line.now))) }
 {
     if count != 1 + N {
         return None;

@@ -1,7 +1,7 @@
 -- The estimate of a quotient's digit, which `digit` lowers until it is the digit: laws over the divisor's two digits.
 use Prim.Native.Nat.{ℕ, ◌+◌, ◌-◌, ◌*◌, ◌/◌, ◌%◌, ◌^◌, ◌≤◌, ◌<◌}
 use mathlib.Core.Path.{◌≡◌, sym, ap, ◌∙◌}
-use native.Mathlib.Nat.{mul-le-mul, mul-le-mul_right, mul_assoc, mul-add, add-mul, one-mul, zero-mul, div-add-mod', mod-lt, lt_of_mul-lt-mul_right}
+use native.Mathlib.Nat.{mul-le-mul_right, mul_assoc, mul-add, add-mul, one-mul, zero-mul, div-add-mod', mod-lt, lt_of_mul-lt-mul_right}
 use native.Mathlib.Decide.{dec_lt}
 use native.Mathlib.Omega.{arith}
 
@@ -37,10 +37,6 @@ spread q d =
 -- and one time more
 one_more : (q d : ℕ) → (q + 1) * d ≡ q * d + d
 one_more q d = add-mul q 1 d ∙ ap (λ (y : ℕ). q * d + y) (one-mul d)
-
--- an estimate times the lower digit fits a word
-pub lower_fits : (q d : ℕ) → q ≤ 2 ^ 32 + 1 → q * lower d < 2 ^ 64
-lower_fits q d h = let m = mul-le-mul {m₁ = lower d} {n₂ = 2 ^ 32 + 1} {m₂ = 2 ^ 32 - 1} h (omega arith) in omega arith
 
 module _ (r x d : ℕ) (g : Divides r x d) where
   pub upper_pos : 0 < upper d

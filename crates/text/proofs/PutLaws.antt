@@ -115,13 +115,6 @@ pub left_all : (at : ℕ) (text out rest : List ℕ) → text ≡ rest → at + 
 left_all at text out rest e r = record { done = []; whole = sym e; wrote = record { place = omega arith; holds = sym (put_nil at out) }; room = r }
 
 module _ {at : ℕ} {text out : List ℕ} {p : ℕ} {mid : List ℕ} where
-  pub left_length : {rest : List ℕ} → Left at text out rest p mid → length mid ≡ length out
-  left_length {rest} l =
-      let e = length-append l.done rest in
-      let f = ap length l.whole in
-      let r = l.room in
-      wrote_length l.wrote (omega arith)
-
   pub left_none : Left at text out [] p mid → Wrote at text out p mid
   left_none l = subst (λ (t : List ℕ). Wrote at t out p mid) (sym (append-nil l.done) ∙ l.whole) l.wrote
 

@@ -20,7 +20,7 @@ use Rattle.group.specs.declared.Refusal.{Refusal}
 use Rattle.line.specs.Names.{read_name}
 use Rattle.line.specs.Lines.{grid_keyword, grid_texts, grid_fit, grid_of, grid_line}
 use Rattle.line.specs.Counted.{counted_grid}
-use Rattle.line.specs.Numbers.{numbers_of}
+use Rattle.line.specs.Numbers.{as_read}
 use Rattle.line.proofs.NameLaws.{read_name_fits}
 use Rattle.line.proofs.LimitLaws.{grid_small, grid_judged, grid_made}
 use Rattle.line.proofs.ReadLaws.{kind_miss, kind_textless, kind_unread, kind_read, grid_texts_lem, numbers_told}
@@ -34,7 +34,7 @@ module _ (line : List ℕ) (n : ℕ) (r : Bool) (e : r ≡ (same (field_of line 
     unnamed : read_name (field_of line 1) ≡ None → Err (refusal 1 n) ≡ grid_line n line
     unnamed q = kind_textless 1 8 grid_texts grid_fit grid_of (refusal 1 n) (refusal 2 n) grid_keyword line r e t (grid_texts_lem line ∙ q)
 
-    module _ (o : Option (List ℤ)) (told : o ≡ numbers_of (read_ints (take 8 (drop 2 (split 9 line))))) where
+    module _ (o : Option (List ℤ)) (told : o ≡ as_read (read_ints (take 8 (drop 2 (split 9 line))))) where
       unread : o ≡ None → Err (refusal 1 n) ≡ grid_line n line
       unread = kind_unread 1 8 grid_texts grid_fit grid_of (refusal 1 n) (refusal 2 n) grid_keyword line r e t o told
 

@@ -21,7 +21,7 @@ use Rattle.line.specs.declared.Head.{Head}
 use Rattle.line.specs.Names.{read_name, read_unit}
 use Rattle.line.specs.Lines.{group_keyword, head_texts, head_fit, head_of, head_line}
 use Rattle.line.specs.Counted.{counted_head}
-use Rattle.line.specs.Numbers.{numbers_of}
+use Rattle.line.specs.Numbers.{as_read}
 use Rattle.line.proofs.LimitLaws.{head_small, head_counted, head_made}
 use Rattle.line.proofs.ReadLaws.{kind_miss, kind_textless, kind_unread, kind_read, head_unnamed, head_unitless, head_named, numbers_told}
 use Rattle.line.proofs.group_line.Goals as goal
@@ -34,7 +34,7 @@ module _ (line : List ℕ) (r : Bool) (e : r ≡ (same (field_of line 0) group_k
     textless : head_texts (drop 1 (split 9 line)) ≡ None → Err (refusal 1 1) ≡ head_line 1 line
     textless = kind_textless 2 4 head_texts head_fit head_of (refusal 1 1) (refusal 2 1) group_keyword line r e t
 
-    module _ (o : Option (List ℤ)) (told : o ≡ numbers_of (read_ints (take 4 (drop 3 (split 9 line))))) where
+    module _ (o : Option (List ℤ)) (told : o ≡ as_read (read_ints (take 4 (drop 3 (split 9 line))))) where
       unread : o ≡ None → Err (refusal 1 1) ≡ head_line 1 line
       unread = kind_unread 2 4 head_texts head_fit head_of (refusal 1 1) (refusal 2 1) group_keyword line r e t o told
 
