@@ -56,9 +56,6 @@ returns-in_default c =
       scale = c.requires.scale;
     }
 
-pub scale_on-next-requires : goal.scale_on-next-requires
-scale_on-next-requires c = (c.requires.call.accepted, c.requires.scale)
-
 pub look_at-found-requires : goal.look_at-found-requires
 look_at-found-requires c = record { call = c.requires.call; scale = scaled (goal.at.look_at-found-requires c).After-scale_on-next }
 

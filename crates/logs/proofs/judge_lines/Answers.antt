@@ -1,21 +1,15 @@
 -- `judge_lines` meets its contract.
-use Prim.Native.Nat.{◌+◌, ◌≤◌}
+use Prim.Native.Nat.{◌≤◌}
 use mathlib.Core.Path.{sym, ◌∙◌, subst}
 use native.Mathlib.Omega.{arith}
 use lib.ListN.{length}
-use mir.Syntax.{w64}
-use mir.Val.{Fits}
 use Rattle.abi.specs.Abi.{group_of_words}
 use Rattle.exercise.proofs.ScaleLaws.{scale_none}
 use Rattle.header.proofs.ItemLaws.{end_le}
 use Rattle.logs.specs.Reading.{Scaled}
 use Rattle.logs.proofs.LoopLaws.{passed_none, passed_all, line_unclosed, line_bad, line_good}
 use Rattle.logs.proofs.judge_lines.Goals as goal
-use Rattle.logs.proofs.judge_lines.Goals.{In-loop-next, After-find_from-e}
-
--- the lines that have passed are no more than the bytes
-counted : (c : In-loop-next) → Fits w64 (c.loop-next.n + 1)
-counted c = let p = c.loop-next.invariant.0 in omega (arith, p.below, p.room)
+use Rattle.logs.proofs.judge_lines.Goals.{After-find_from-e}
 
 ends : (c : After-find_from-e) → c.find_from-e.result ≤ length c.args.log.now
 ends c = end_le c.args.log.now c.loop-next.next c.find_from-e.result c.find_from-e.ensures c.loop-next.invariant.0.room
@@ -25,20 +19,11 @@ loop-next-init c =
     let a = c.args in let g = group_of_words a.words.now in
     (passed_none g a.nodes.now a.log.now, subst (Scaled g) (sym c.no_scale-scale.ensures) (scale_none g))
 
-pub overflow_add-result : goal.overflow_add-result
-overflow_add-result c = counted (goal.at.overflow_add-result c).In-loop-next
-
 pub returns-then-e-log : goal.returns-then-e-log
 returns-then-e-log c = line_unclosed c.loop-next.invariant.0 _ c.find_from-e.ensures c.loop-next-test.true c.if-e-log.true
 
 pub slice_bounds-judge_line-end : goal.slice_bounds-judge_line-end
 slice_bounds-judge_line-end c = omega (arith, ends (goal.at.slice_bounds-judge_line-end c).After-find_from-e)
-
-pub judge_line-turn-requires : goal.judge_line-turn-requires
-judge_line-turn-requires c = record { call = c.requires; scale = c.loop-next.invariant.1 }
-
-pub overflow_add-result-in-Some : goal.overflow_add-result-in-Some
-overflow_add-result-in-Some c = counted (goal.at.overflow_add-result-in-Some c).In-loop-next
 
 pub returns-in-Some : goal.returns-in-Some
 returns-in-Some c =
@@ -46,9 +31,6 @@ returns-in-Some c =
 
 pub overflow_add-next : goal.overflow_add-next
 overflow_add-next c = omega (arith, ends (goal.at.overflow_add-next c).After-find_from-e, c.well_formed)
-
-pub overflow_add-n : goal.overflow_add-n
-overflow_add-n c = counted (goal.at.overflow_add-n c).In-loop-next
 
 pub loop-next-smaller : goal.loop-next-smaller
 loop-next-smaller c =

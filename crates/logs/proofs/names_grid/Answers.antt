@@ -32,11 +32,6 @@ returns-then-name-grid_name_length c =
     let e = c.grid_name_length.ensures in let t = grid_name_length c.args.words.now c.args.k c.requires.1 in
     sym (same_unequal c.args.name.now (text c.args.words.now c.args.k) (λ q. c.if-name-grid_name_length.true (q ∙ t ∙ sym e)))
 
-pub grid_name_byte-requires : goal.grid_name_byte-requires
-grid_name_byte-requires c =
-    let e = c.grid_name_length.ensures in let q = c.if-name-grid_name_length.false in
-    (c.requires.0, omega (arith, c.requires.1, c.loop-i-test.true))
-
 pub returns-then-b-grid_name_byte : goal.returns-then-b-grid_name_byte
 returns-then-b-grid_name_byte c =
     let q = goal.at.returns-then-b-grid_name_byte c in
