@@ -21,7 +21,7 @@ use Rattle.judge.specs.Judge.{judged}
 use Rattle.judge.proofs.TableLaws.{judged_table}
 use Rattle.header.specs.Whole.{Header, stopped, header, read_lines, group_of_lines, lines_reading, head_of_group, header_text}
 use Rattle.header.specs.Header.{verdict_reading, judged_reading, read_header, written, bytes_after}
-use Rattle.std.specs.Prelude.{Result, Ok, Err}
+use Rattle.std.specs.Prelude.{Result, Ok, Err, ⊤}
 
 module _ (t : List ℕ) (q : Result Group Refusal) (e : q ≡ lines_reading (read_lines t)) where
   pub lines_refused : (r : Refusal) → q ≡ Err r → Err r ≡ read_header t
@@ -39,6 +39,13 @@ module _ (t : List ℕ) (q : Result Group Refusal) (e : q ≡ lines_reading (rea
       go : (x : Header Function Grid) → Ok g ≡ lines_reading x → judged_reading x ≡ verdict_reading g (judged g)
       go (stopped s) f = cc
       go (header h rs ds) f = let m : g ≡ group_of_lines h rs ds = cc in sym (λ i. verdict_reading (m i) (judged (m i)))
+
+  module _ (g : Group) (w : q ≡ Ok g) (v : Result ⊤ Refusal) (j : v ≡ judged g) where
+    pub header_refused : (r : Refusal) → v ≡ Err r → Err r ≡ read_header t
+    header_refused r f = sym (judged_as g w ∙ ap (verdict_reading g) (sym j ∙ f))
+
+    pub header_accepted : v ≡ Ok tt → q ≡ read_header t
+    header_accepted f = w ∙ sym (judged_as g w ∙ ap (verdict_reading g) (sym j ∙ f))
 
 -- ---- writing
 

@@ -1,10 +1,11 @@
 -- Laws of the number that two words say.
-use Prim.Native.Nat.{ℕ, ◌+◌, ◌*◌, ◌%◌, ◌^◌, ◌<◌}
+use Prim.Native.Nat.{ℕ, ◌+◌, ◌-◌, ◌*◌, ◌%◌, ◌^◌, ◌<◌}
 use mathlib.Core.Bool.{Bool, true, false}
 use mathlib.Core.Path.{◌≡◌, sym, ◌∙◌}
-use native.Mathlib.Nat.{lt_of_mul-lt-mul_right, lt_of_le_of_lt, mod-eq_of_lt}
+use native.Mathlib.Nat.{mul-le-mul, lt_of_mul-lt-mul_right, lt_of_le_of_lt, lt_trans, mod-eq_of_lt}
 use native.Mathlib.Omega.{arith}
 use mir.Val.{bool_byte}
+use lib.Dec.{lit<}
 use lib.Arith.{digits_lt}
 use lib.Pow.{low}
 use Rattle.std.specs.Bool.{FalseIff}
@@ -20,10 +21,17 @@ pub pair_low : (n : Pair) → pair_value n < 2 ^ 64 → n.low ≡ pair_value n
 unfolding pair_value
 pair_low n h = pair_low_word n (omega arith) ∙ mod-eq_of_lt h
 
--- two words hold less than 2 to the power 128
+-- two words hold less than 2 to the power 128, and with it what four products add to
 pub pair_below : (n : Pair) → n.high < 2 ^ 64 → n.low < 2 ^ 64 → pair_value n < 2 ^ 128
 unfolding pair_value
 pair_below n h l = digits_lt {q = n.high} {m = 2 ^ 64} {r = n.low} {c = 2 ^ 64} h l
+
+pub product_below : (a p : ℕ) → a < 2 ^ 64 → p < 2 ^ 32 → a * p < 2 ^ 96
+product_below a p h k =
+    let m = mul-le-mul {n₁ = a} {m₁ = p} {n₂ = 2 ^ 64 - 1} {m₂ = 2 ^ 32 - 1} (omega arith) (omega arith) in omega arith
+
+pub sum_below : {n : ℕ} → n < 2 ^ 98 → n < 2 ^ 128
+sum_below h = lt_trans h (lit< tt)
 
 -- the high words of two numbers that two words hold together, and what the low ones carry
 module _ (x y : Pair) (h : pair_value x + pair_value y < 2 ^ 128) where

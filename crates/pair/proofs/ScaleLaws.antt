@@ -38,7 +38,10 @@ module _ (low k : ℕ) (h : k < 64) where
 pub times : (high low m : ℕ) → (high * 2 ^ 64 + low) * m ≡ high * m * 2 ^ 64 + low * m
 times high low m = add-mul (high * 2 ^ 64) low m ∙ ap (λ (x : ℕ). x + low * m) (mul_right_comm high (2 ^ 64) m)
 
--- a high word below the divisor: shifted up it is below the divisor still
+-- a high word below the divisor: shifted up there is room for what leaves the low word, and it is below the divisor still
+pub room_above : (r d k : ℕ) → r < d → d * 2 ^ k < 2 ^ 64 → (r + 1) * 2 ^ k ≤ 2 ^ 64
+room_above r d k h f = let m = mul-le-mul_right {m = r + 1} {n = d} (2 ^ k) (omega arith) in omega arith
+
 pub high_under : (n m : Pair) (d k : ℕ) → n.high < d → n.low < 2 ^ 64 → pair_value m ≡ pair_value n * 2 ^ k → m.high < d * 2 ^ k
 unfolding pair_value
 high_under n m d k h l e =
