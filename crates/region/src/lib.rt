@@ -42,16 +42,16 @@ fn reaches(rs: &[u64], i: usize, x: u64, y: u64) -> bool
     (x <= rs[at + 1]) & ((rs[at + 2] <= y) & (y <= rs[at + 3]))
 }
 
-// In row y, the westmost longitude from west to east that no rectangle holds; or, where rectangles hold them all, how far north, up to
-// north, these same rectangles do. Goes once through a list from west to east; in another one it begins anew for a rectangle that it
+// In row y of an area, the westmost longitude that no rectangle holds; or, where rectangles hold them all, how far north, up to the
+// area's side, these same rectangles do. Goes once through a list from west to east; in another one it begins anew for a rectangle that it
 // passed because it lay ahead.
-fn first_in_row(rs: &[u64], y: u64, west: u64, east: u64, north: u64) -> Row
-    requires { (y ≤ north) × (west ≤ east) }
-    ensures { RowAnswer rs.now y west east north result }
+fn first_in_row(rs: &[u64], y: u64, a: Bounds) -> Row
+    requires { (y ≤ a.north) × (a.west ≤ a.east) }
+    ensures { RowAnswer rs.now y a.west a.east a.north result }
 {
     let n = rs.len() / 4;
-    let mut x = west;
-    let mut top = north;
+    let mut x = a.west;
+    let mut top = a.north;
     let mut ahead = false;
     let mut i = 0;
     // no `for`, since the walk may begin anew
@@ -65,7 +65,7 @@ fn first_in_row(rs: &[u64], y: u64, west: u64, east: u64, north: u64) -> Row
             } else {
                 top = top.min(rs[at + 3]);
                 let to = rs[at + 1];
-                if east <= to {
+                if a.east <= to {
                     return Row::Shut(top);
                 }
                 x = to + 1;
@@ -79,23 +79,22 @@ fn first_in_row(rs: &[u64], y: u64, west: u64, east: u64, north: u64) -> Row
     Row::Open(x)
 }
 
-// The southmost, then westmost point from west to east and from south to north that no rectangle holds; quickest if the rectangles
-// stand from west to east.
-pub fn first_free(rs: &[u64], west: u64, east: u64, south: u64, north: u64) -> Option<Spot>
-    ensures { result ≡ first_in (free rs.now) west east south north }
+// The southmost, then westmost point of an area that no rectangle holds; quickest if the rectangles stand from west to east.
+pub fn first_free(rs: &[u64], a: Bounds) -> Option<Spot>
+    ensures { result ≡ first_in (free rs.now) a.west a.east a.south a.north }
 {
-    if east < west {
+    if a.east < a.west {
         return None;
     }
-    let mut y = south;
+    let mut y = a.south;
     // no `for`, since rows that are shut together are passed at once
-    while y <= north {
-        match first_in_row(rs, y, west, east, north) {
+    while y <= a.north {
+        match first_in_row(rs, y, a) {
             Row::Open(x) => {
                 return Some(Spot { x, y });
             }
             Row::Shut(top) => {
-                if north <= top {
+                if a.north <= top {
                     return None;
                 }
                 y = top + 1;

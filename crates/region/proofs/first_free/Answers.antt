@@ -15,40 +15,40 @@ shut_on : {p : ℕ → ℕ → Bool} {west east south y top : ℕ}
     → (k j : ℕ) → west ≤ k → k ≤ east → south ≤ j → j ≤ top → p k j ≡ false
 shut_on {y = y} f g k j a b s t = elim (dec_lt j y) [ yes lt ↦ f k j a b s lt | no ge ↦ g k j a b (omega arith) t ]
 
-pub returns-then-east-west : goal.returns-then-east-west
-returns-then-east-west c =
-    let a = c.args in
-    sym (first_none (free a.rs.now) a.west a.east a.south a.north (λ i j p q r o. absurd (omega arith)))
+pub returns-then-a : goal.returns-then-a
+returns-then-a c =
+    let r = c.args in let a = r.a in
+    sym (first_none (free r.rs.now) a.west a.east a.south a.north (λ i j p q r o. absurd (omega arith)))
 
 pub loop-y-init : goal.loop-y-init
 loop-y-init c = (omega arith, λ k j p q r s. absurd (omega arith))
 
 pub returns-in-Open : goal.returns-in-Open
 returns-in-Open c =
-    let a = c.args in let l = c.loop-y in
+    let r = c.args in let a = r.a in let l = c.loop-y in
     let s = c.in-Open.ensures in
-    sym (first_at (free a.rs.now) a.west a.east a.south a.north
+    sym (first_at (free r.rs.now) a.west a.east a.south a.north
     (record { west≤ = s.0; ≤east = s.1; south≤ = l.invariant.0; ≤north = c.loop-y-test.true; here = s.3; below = l.invariant.1; left = s.2 }))
 
-pub returns-then-north-top : goal.returns-then-north-top
-returns-then-north-top c =
-    let a = c.args in let l = c.loop-y in
+pub returns-then-a-top : goal.returns-then-a-top
+returns-then-a-top c =
+    let r = c.args in let a = r.a in let l = c.loop-y in
     let s = c.in-Shut.ensures in
-    sym (first_none (free a.rs.now) a.west a.east a.south a.north (λ i j p q r o. shut_on l.invariant.1 s.1 i j p q r (omega arith)))
+    sym (first_none (free r.rs.now) a.west a.east a.south a.north (λ i j p q r o. shut_on l.invariant.1 s.1 i j p q r (omega arith)))
 
 pub loop-y-smaller : goal.loop-y-smaller
 loop-y-smaller c =
-    let a = c.args in let l = c.loop-y in
+    let l = c.loop-y in
     let s = c.in-Shut.ensures in
     omega (arith, s.0)
 
 pub loop-y-preserved : goal.loop-y-preserved
 loop-y-preserved c =
-    let a = c.args in let l = c.loop-y in
+    let l = c.loop-y in
     let s = c.in-Shut.ensures in
     (omega (arith, s.0), λ k j p q r o. shut_on l.invariant.1 s.1 k j p q r (omega arith))
 
 pub returns : goal.returns
 returns c =
-    let a = c.args in
-    sym (first_none (free a.rs.now) a.west a.east a.south a.north (λ i j p q r o. c.loop-y.invariant.1 i j p q r (omega arith)))
+    let r = c.args in let a = r.a in
+    sym (first_none (free r.rs.now) a.west a.east a.south a.north (λ i j p q r o. c.loop-y.invariant.1 i j p q r (omega arith)))

@@ -7,7 +7,7 @@ use Rattle.region.proofs.first_free.Given as goal
 
 abbrev pub invariant-loop-y : goal.invariant-loop-y
 invariant-loop-y l =
-    (l.south ≤ l.y) × ((k j : ℕ) → l.west ≤ k → k ≤ l.east → l.south ≤ j → j < l.y → free l.rs k j ≡ false)
+    (l.a.south ≤ l.y) × ((k j : ℕ) → l.a.west ≤ k → k ≤ l.a.east → l.a.south ≤ j → j < l.y → free l.rs k j ≡ false)
 
 abbrev pub decreases-loop-y : goal.decreases-loop-y
-decreases-loop-y l = l.north + 1 - l.y
+decreases-loop-y l = l.a.north + 1 - l.y

@@ -9,7 +9,7 @@ use Rattle.region.proofs.first_in_row.Goals as goal
 pub loop-i-init : goal.loop-i-init
 loop-i-init c =
     let a = c.args in
-    (refl, omega arith, omega arith, c.requires.1, c.requires.0, (λ k j p q. absurd (omega arith)), walked_none a.rs.now a.west a.y false)
+    (refl, omega arith, omega arith, c.requires.1, c.requires.0, (λ k j p q. absurd (omega arith)), walked_none a.rs.now a.a.west a.y false)
 
 pub loop-i-preserved-then-x-rs : goal.loop-i-preserved-then-x-rs
 loop-i-preserved-then-x-rs c =
@@ -18,8 +18,8 @@ loop-i-preserved-then-x-rs c =
     let v = l.invariant in
     (v.0, omega arith, v.2, v.3, v.4, v.5, walked_ahead a.rs.now l.x a.y l.i l.ahead v.6 c.if-x-rs.true)
 
-pub returns-then-east-to : goal.returns-then-east-to
-returns-then-east-to c =
+pub returns-then-a-to : goal.returns-then-a-to
+returns-then-a-to c =
     let a = c.args in let l = c.loop-i in
     let s =
     shut_more _ _ _ _ _ _ _ (omega arith) (sym c.reaches-reached.ensures ∙ c.if-reached.true) (omega arith) c.min-top.ensures
