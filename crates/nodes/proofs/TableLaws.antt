@@ -1,10 +1,9 @@
 -- Loading tells 0 exactly where it is done, else a number of the table of refusals.
-use Rattle.std.specs.Prelude.{Result, Ok, Err, ⊤}
+use Rattle.std.specs.Prelude.{Ok}
 use Prim.Native.Nat.{ℕ}
 use mathlib.Core.Path.{◌≡◌, refl}
 use mathlib.Core.List.{List}
 use lib.Ieee.{Float}
-use Rattle.group.specs.declared.Refusal.{Refusal}
 use Rattle.group.specs.Refusals.{refuse_first, Told, refusal_of}
 use Rattle.group.proofs.RefusalLaws.{told_accepted, told_if, verdicts}
 use Rattle.nodes.specs.Load.{loaded}

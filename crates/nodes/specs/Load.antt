@@ -6,7 +6,7 @@ use Rattle.numbers.specs.Round.{round_z}
 use Rattle.numbers.specs.First.{first}
 use Rattle.group.specs.declared.Refusal.{Refusal}
 use Rattle.group.specs.Numbers.{quantum_most, mark, value_fits}
-use Rattle.group.specs.Refusals.{no_refusal, refuse_if, refuse_first, lent_after, refusal_of}
+use Rattle.group.specs.Refusals.{refuse_if, refuse_first, lent_after, refusal_of}
 
 -- n, below zero where s is true
 abbrev pub signed : Bool → ℕ → ℤ

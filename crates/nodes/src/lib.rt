@@ -121,11 +121,13 @@ fn greatest(q: u32) -> f32
     f32::from_bits(GREATEST - q * FIRST_DIGIT)
 }
 
-// Whether the floats from a to e are all no farther from 0 than hi, and none has the flag's value: no branch in the loop, for speed.
-fn all_plain(floats: &[f32], a: usize, e: usize, flag: f32, hi: f32) -> bool
-    requires { (a ≤ e) × (e ≤ length floats.now) }
-    ensures { result ≡ true → AllPlain hi flag floats.now a e }
+// Whether the floats from a to e are all no farther from 0 than the greatest that is loaded, and none has the flag's value: no branch in
+// the loop, for speed.
+fn all_plain(floats: &[f32], a: usize, e: usize, flag: f32, q: u32) -> bool
+    requires { (q ≤ quantum_most) × (a ≤ e) × (e ≤ length floats.now) }
+    ensures { result ≡ true → AllPlain (greatest q) flag floats.now a e }
 {
+    let hi = greatest(q);
     let lo = -hi;
     let mut all = true;
     for i in a..e {
@@ -136,11 +138,11 @@ fn all_plain(floats: &[f32], a: usize, e: usize, flag: f32, hi: f32) -> bool
 }
 
 // The index of the first float from a to e that is refused, and e where none is.
-fn refused_from(floats: &[f32], a: usize, e: usize, flag: f32, q: u32, hi: f32) -> usize
-    requires { (q ≤ quantum_most) × (hi ≡ greatest q) × (a ≤ e) × (e ≤ length floats.now) }
+fn refused_from(floats: &[f32], a: usize, e: usize, flag: f32, q: u32) -> usize
+    requires { (q ≤ quantum_most) × (a ≤ e) × (e ≤ length floats.now) }
     ensures { FirstFrom q flag floats.now a e result }
 {
-    if all_plain(floats, a, e, flag, hi) {
+    if all_plain(floats, a, e, flag, q) {
         return e;
     }
     for j in a..e {
@@ -152,13 +154,13 @@ fn refused_from(floats: &[f32], a: usize, e: usize, flag: f32, q: u32, hi: f32) 
 }
 
 // The index of the first float that is refused, and the count of floats where none is.
-fn first_refused(floats: &[f32], flag: f32, q: u32, hi: f32) -> usize
-    requires { (q ≤ quantum_most) × (hi ≡ greatest q) }
+fn first_refused(floats: &[f32], flag: f32, q: u32) -> usize
+    requires { q ≤ quantum_most }
     ensures { result ≡ first_refused q flag floats.now }
 {
     for a in (0..floats.len()).step_by(BLOCK) {
         let e = (a + BLOCK).min(floats.len());
-        let i = refused_from(floats, a, e, flag, q, hi);
+        let i = refused_from(floats, a, e, flag, q);
         if i < e {
             return i;
         }
@@ -167,12 +169,12 @@ fn first_refused(floats: &[f32], flag: f32, q: u32, hi: f32) -> usize
 }
 
 // Writes the nodes of the floats from a to e. `plain` is the same for all of them, so the compiler takes its test out of the loop.
-fn fill_block(floats: &[f32], a: usize, e: usize, flag: f32, q: u32, hi: f32, nodes: &mut [i32])
-    requires limits { (q ≤ quantum_most) × (hi ≡ greatest q) × (a ≤ e) × (e ≤ length floats.now) }
+fn fill_block(floats: &[f32], a: usize, e: usize, flag: f32, q: u32, nodes: &mut [i32])
+    requires limits { (q ≤ quantum_most) × (a ≤ e) × (e ≤ length floats.now) }
     requires filled { Filled q flag floats.now a nodes.old × (first_refused q flag floats.now ≡ length floats.now) }
     ensures { Filled q flag floats.now e nodes.new }
 {
-    let plain = all_plain(floats, a, e, flag, hi);
+    let plain = all_plain(floats, a, e, flag, q);
     for k in a..e {
         let x = floats[k];
         nodes[k] = if plain {
@@ -184,14 +186,14 @@ fn fill_block(floats: &[f32], a: usize, e: usize, flag: f32, q: u32, hi: f32, no
 }
 
 // Writes the node of each float.
-fn fill(floats: &[f32], flag: f32, q: u32, hi: f32, nodes: &mut [i32])
-    requires limits { (q ≤ quantum_most) × (hi ≡ greatest q) × (length floats.now ≡ length nodes.old) }
+fn fill(floats: &[f32], flag: f32, q: u32, nodes: &mut [i32])
+    requires limits { (q ≤ quantum_most) × (length floats.now ≡ length nodes.old) }
     requires none_refused { first_refused q flag floats.now ≡ length floats.now }
     ensures { nodes.new ≡ map (node_of q flag) floats.now }
 {
     for a in (0..floats.len()).step_by(BLOCK) {
         let e = (a + BLOCK).min(floats.len());
-        fill_block(floats, a, e, flag, q, hi, nodes);
+        fill_block(floats, a, e, flag, q, nodes);
     }
 }
 
@@ -216,14 +218,13 @@ pub fn load_nodes(floats: &[f32], flag: f32, quantum: u64, nodes: &mut [i32]) ->
         });
     }
     let q = quantum as u32;
-    let hi = greatest(q);
-    let i = first_refused(floats, flag, q, hi);
+    let i = first_refused(floats, flag, q);
     if i < floats.len() {
         return Err(Refusal {
             number: 11,
             place: i as u64 + 1,
         });
     }
-    fill(floats, flag, q, hi, nodes);
+    fill(floats, flag, q, nodes);
     Ok(())
 }

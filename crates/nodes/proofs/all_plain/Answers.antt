@@ -25,7 +25,9 @@ pub loop-i-preserved : goal.loop-i-preserved
 unfolding plain_float
 loop-i-preserved c =
     let a = c.args in
-    (omega arith, omega arith, more a.hi a.flag a.floats.now a.a c.loop-i.i c.loop-i.all _ c.loop-i.invariant.2 refl)
+    (omega arith, omega arith, more c.greatest-hi.result a.flag a.floats.now a.a c.loop-i.i c.loop-i.all _ c.loop-i.invariant.2 refl)
 
 pub returns : goal.returns
-returns c = λ t k h l. c.loop-i.invariant.2 t k h (omega arith)
+returns c =
+    let a = c.args in
+    λ t k h l. subst (λ (hi : Float). plain_float hi a.flag (get_or a.floats.now k nan) ≡ true) c.greatest-hi.ensures (c.loop-i.invariant.2 t k h (omega arith))

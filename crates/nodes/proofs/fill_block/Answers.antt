@@ -1,5 +1,5 @@
 -- `fill_block`: node by node, or, where all floats are plain, by their bits.
-use mathlib.Core.Path.{◌≡◌, refl, ◌∙◌, subst}
+use mathlib.Core.Path.{◌≡◌, refl, ◌∙◌}
 use mathlib.Core.Bool.{true}
 use mathlib.Core.List.{List}
 use Prim.Native.Nat.{ℕ, ◌≤◌, ◌<◌}
@@ -20,16 +20,16 @@ use Rattle.nodes.proofs.fill_block.Goals as goal
 use Rattle.nodes.proofs.fill_block.Goals.{Then-plain, then-plain, else-plain}
 
 -- the float at k, of those from a to e, which are all plain, by its bits
-at_bits : (q : ℕ) (flag hi : Float) (l : List Float) (a e k : ℕ) → (q ≤ quantum_most) × (hi ≡ greatest q) × (a ≤ e) × (e ≤ length l)
-    → fits binary32 flag ≡ true → T (fits binary32 (get_or l k nan)) → AllPlain hi flag l a e → first_refused q flag l ≡ length l → a ≤ k → k < e
+at_bits : (q : ℕ) (flag : Float) (l : List Float) (a e k : ℕ) → (q ≤ quantum_most) × (a ≤ e) × (e ≤ length l)
+    → fits binary32 flag ≡ true → T (fits binary32 (get_or l k nan)) → AllPlain (greatest q) flag l a e → first_refused q flag l ≡ length l → a ≤ k → k < e
     → ByBits q flag (get_or l k nan)
-at_bits q flag hi l a e k r f x p n b t =
+at_bits q flag l a e k r f x p n b t =
     by_bits q flag (get_or l k nan) (is_true _ x)
-    (plain_unmarked q flag (get_or l k nan) r.0 (is_true _ x) f (subst (λ (y : Float). AllPlain y flag l a e) r.1 p k b t))
+    (plain_unmarked q flag (get_or l k nan) r.0 (is_true _ x) f (p k b t))
     (none_refused q flag l k n (omega arith))
 
 bits : (c : Then-plain) → ByBits c.args.q c.args.flag (get_or c.args.floats.now c.loop-k.k nan)
-bits c = at_bits _ _ _ _ c.args.a c.args.e _ c.requires.limits c.well_formed.1.1.1.0.1 (c.type_inv.floats _) (c.if-plain.ensures refl) c.requires.filled.1 c.loop-k.invariant.0 c.loop-k-test.true
+bits c = at_bits _ _ _ c.args.a c.args.e _ c.requires.limits c.well_formed.1.1.1.0.1 (c.type_inv.floats _) (c.if-plain.ensures refl) c.requires.filled.1 c.loop-k.invariant.0 c.loop-k-test.true
 
 pub float_to_bits-x : goal.float_to_bits-x
 float_to_bits-x c = (bits c).read.number
@@ -50,7 +50,7 @@ loop-k-preserved c =
       filled_more a.q a.flag a.floats.now c.loop-k.nodes c.loop-k.k _ c.loop-k.invariant.2 (omega arith)
           (elim c.if-plain.branch [
             | then-plain w ↦ w.nodes-is ∙ to_z-of_z w32 _ (record { sfits = w.bits_node.type_inv }) ∙ w.bits_node.ensures
-                ∙ (at_bits _ _ _ _ a.a a.e _ c.requires.limits c.well_formed.1.1.1.0.1 (c.type_inv.floats _) (w.if-plain.ensures refl) c.requires.filled.1 c.loop-k.invariant.0 c.loop-k-test.true).node
+                ∙ (at_bits _ _ _ a.a a.e _ c.requires.limits c.well_formed.1.1.1.0.1 (c.type_inv.floats _) (w.if-plain.ensures refl) c.requires.filled.1 c.loop-k.invariant.0 c.loop-k-test.true).node
             | else-plain w ↦ w.nodes-is ∙ to_z-of_z w32 _ (record { sfits = w.node.type_inv }) ∙ w.node.ensures
           ]),
     )

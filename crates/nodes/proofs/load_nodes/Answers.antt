@@ -71,11 +71,8 @@ returns-then-floats-nodes c =
     (by_count a.quantum a.flag a.floats.now a.nodes.now c.if-quantum-gt-QUANTUM_MOST.false c.if-floats-nodes.true) in
     record { value = e.0; nodes_after = e.1 }
 
-pub greatest-hi-requires : goal.greatest-hi-requires
-greatest-hi-requires c = c.if-quantum-gt-QUANTUM_MOST.false
-
 pub first_refused-i-requires : goal.first_refused-i-requires
-first_refused-i-requires c = (c.if-quantum-gt-QUANTUM_MOST.false, c.greatest-hi.ensures)
+first_refused-i-requires c = c.if-quantum-gt-QUANTUM_MOST.false
 
 pub returns-then-i-floats : goal.returns-then-i-floats
 unfolding lent_after
@@ -89,7 +86,7 @@ pub fill-requires : goal.fill-requires
 fill-requires c =
     let a = c.args in
     record {
-      limits = (c.if-quantum-gt-QUANTUM_MOST.false, c.greatest-hi.ensures, c.if-floats-nodes.false);
+      limits = (c.if-quantum-gt-QUANTUM_MOST.false, c.if-floats-nodes.false);
       none_refused = all_passed a.quantum a.flag a.floats.now c.first_refused-i.result c.first_refused-i.ensures c.if-i-floats.false;
     }
 

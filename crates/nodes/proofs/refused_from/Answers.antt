@@ -3,11 +3,10 @@ use mathlib.Core.Path.{◌≡◌, refl, sym, ◌∙◌, subst}
 use mathlib.Core.Bool.{false}
 use Prim.Native.Nat.{ℕ}
 use native.Mathlib.Omega.{arith}
-use lib.Ieee.{Float, nan}
+use lib.Ieee.{nan}
 use lib.ListN.{get_or}
 use Rattle.numbers.proofs.Nearest.{three_ways}
 use Rattle.nodes.specs.Load.{refused_float}
-use Rattle.nodes.specs.Plain.{AllPlain, greatest}
 use Rattle.nodes.proofs.Plain.{plain_passes}
 use Rattle.nodes.proofs.refused_from.Goals as goal
 
@@ -17,10 +16,9 @@ loop-j-init c = (omega arith, omega arith, λ k h l. absurd (omega arith))
 pub returns-then-all_plain : goal.returns-then-all_plain
 returns-then-all_plain c =
     let a = c.args in
-    let p : AllPlain (greatest a.q) a.flag a.floats.now a.a a.e
-    = subst (λ (hi : Float). AllPlain hi a.flag a.floats.now a.a a.e) c.requires.1 (c.if-all_plain.ensures refl) in
+    let p = c.if-all_plain.ensures refl in
     record {
-      from = c.requires.2;
+      from = c.requires.1;
       to = omega arith;
       clear = λ k h l. plain_passes a.q a.flag (get_or a.floats.now k nan) c.requires.0 (p k h l);
       found = λ l. absurd (omega arith);
@@ -43,4 +41,4 @@ loop-j-preserved c =
     )
 
 pub returns : goal.returns
-returns c = let v = c.loop-j.invariant.2 in record { from = c.requires.2; to = omega arith; clear = λ k h l. v k h (omega arith); found = λ l. absurd (omega arith) }
+returns c = let v = c.loop-j.invariant.2 in record { from = c.requires.1; to = omega arith; clear = λ k h l. v k h (omega arith); found = λ l. absurd (omega arith) }
