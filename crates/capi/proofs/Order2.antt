@@ -1,5 +1,4 @@
 -- Order 2 holds of what the C function leaves.
-use Prim.Native.Nat.{ℕ}
 use mathlib.Core.Path.{◌≡◌, refl, sym, ◌∙◌, ap, subst}
 use mathlib.Core.Bool.{Bool, true, false}
 use mathlib.Core.List.{List}
@@ -21,6 +20,7 @@ use Rattle.abi.specs.Abi.{number_at, group_of_words}
 use Rattle.capi.specs.Answers.{left_by, hole_numbers, hole_answer}
 use Rattle.capi.specs.Order2.{HoleWords, NamesHole}
 use Rattle.std.specs.Prelude.{Option, Some, None, Result, Ok, Err, ⊤}
+use Rattle.std.proofs.lemmas.Option.{none-some}
 use Rattle.group.specs.declared.Refusal.{Refusal}
 
 -- the first number says whether there is a hole
@@ -29,26 +29,20 @@ words g a (Some p) o =
     record {
       named = λ x y i c. refl;
       placed = λ e. o.placed p refl;
-      none = λ k. absurd (some_none p (o.none k));
+      none = λ k. absurd (none-some p (sym (o.none k)));
       held = λ e. absurd (one_zero (ap (λ (ns : List ℤ). number_at ns 0) e));
     }
   where
-    some_none : (p : Point) → ◌≡◌ {A = Option Point} (Some p) None → ⊥
-    some_none p e = let z : ◌≡◌ {A = ℕ} 0 1 = cc in omega arith
-
     one_zero : pos 1 ≡ pos 0 → ⊥
     one_zero e = omega (arith, ap nat_abs e)
 words g a None o =
     record {
-      named = λ x y i c. absurd (none_some (o.named x y i c).0 (o.named x y i c).1);
+      named = λ x y i c. absurd (none-some (o.named x y i c).0 (o.named x y i c).1);
       placed = λ e. absurd (zero_one e);
       none = λ k. refl;
       held = λ e. o.held refl;
     }
   where
-    none_some : (p : Point) → ◌≡◌ {A = Option Point} None (Some p) → ⊥
-    none_some p e = let z : ◌≡◌ {A = ℕ} 0 1 = cc in omega arith
-
     zero_one : pos 0 ≡ pos 1 → ⊥
     zero_one e = omega (arith, ap nat_abs e)
 

@@ -7,6 +7,7 @@ use native.Mathlib.Omega.{arith}
 use native.Mathlib.Decide.{dec_lt}
 use lib.IntN.{ℤ}
 use Rattle.std.specs.Prelude.{Option, Some, None, Result, Ok, Err, ⊤}
+use Rattle.std.proofs.lemmas.Option.{none-some}
 use Rattle.group.specs.declared.Group.{Group}
 use Rattle.group.specs.declared.Point.{Point}
 use Rattle.group.specs.declared.Refusal.{Refusal}
@@ -30,9 +31,6 @@ use Rattle.inforce.proofs.Demand3.{demand_3}
 some_same : (p q : Point) → ◌≡◌ {A = Option Point} (Some p) (Some q) → p ≡ q
 some_same p q e = cc
 
-some_none : (p : Point) → ◌≡◌ {A = Option Point} (Some p) None → ⊥
-some_none p e = let z : ◌≡◌ {A = ℕ} 0 1 = cc in omega arith
-
 module _ (g : Group) (a : Area) (f : area_fits a ≡ true) where
   -- a coordinate is held by a grid, or none is chosen there
   held : (x y : ℤ) → (chosen_in g x y ≡ 0 → ⊥) → Held g x y
@@ -53,19 +51,16 @@ module _ (g : Group) (a : Area) (f : area_fits a ≡ true) where
         placed = λ q t. subst (λ (r : Point). IsFirstChosen g a 0 r.lon.0 r.lat.0) (some_same (shown_hole s) q t) p;
         bare = λ q t. bare _ _ (subst (λ (r : Point). chosen_in g r.lon.0 r.lat.0 ≡ 0) (some_same (shown_hole s) q t) p.chosen);
         none = λ h. absurd (bare _ _ p.chosen (h _ _ p.inside));
-        held = λ t. absurd (some_none (shown_hole s) t);
+        held = λ t. absurd (none-some (shown_hole s) (sym t));
       }
   answers None e =
       record {
-        named = λ x y i c. let n = hole_found g a f x y i c in absurd (nowhere n.0 (sym e ∙ n.1));
-        placed = λ q t. absurd (some_none q (sym t));
-        bare = λ q t. absurd (some_none q (sym t));
+        named = λ x y i c. let n = hole_found g a f x y i c in absurd (none-some n.0 (sym e ∙ n.1));
+        placed = λ q t. absurd (none-some q t);
+        bare = λ q t. absurd (none-some q t);
         none = λ h. refl;
-        held = λ t x y i. held x y (λ c. let n = hole_found g a f x y i c in nowhere n.0 (sym e ∙ n.1));
+        held = λ t x y i. held x y (λ c. let n = hole_found g a f x y i c in none-some n.0 (sym e ∙ n.1));
       }
-    where
-      nowhere : (s : Spot) → None ≡ Some s → ⊥
-      nowhere s q = let z : ◌≡◌ {A = ℕ} 0 1 = cc in omega arith
 
 pub order_2 : (g : Group) (a : Area) → Order2 g a
 order_2 g a e f = (accepted_hole (hole_in g a), hole_answered g a (area_accepted g a e f), answers g a f (hole_in g a) refl)
