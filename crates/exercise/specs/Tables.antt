@@ -1,5 +1,5 @@
 -- What the code of a call for many points works on, made once: the tables of an accepted group, and the factor of the day last looked up.
-use Rattle.std.specs.Prelude.{ℕ, ◌+◌, ◌*◌, ◌≤◌, ◌≡◌, Bool, cond, false, List, [], ◌∷◌, ℤ, pos, length, Result, Ok, Err}
+use Rattle.std.specs.Prelude.{ℕ, ◌+◌, ◌*◌, ◌≤◌, ◌≡◌, Bool, cond, false, List, [], ◌∷◌, ℤ, pos, length, Result, Ok, Err, ⊤}
 use Rattle.numbers.specs.First.{some}
 use Rattle.group.specs.declared.Group.{Group}
 use Rattle.group.specs.Numbers.{day_most, day_fits}
@@ -23,10 +23,10 @@ pub record Tabled (g : Group) (t : Tables) : Type 0 where
   pub flat : Flat g g.grids sides ranks t.frames
   pub rows : RankedRows sides ranks t.rows t.owners t.shifts g.grids t.count
 
--- what judging a call answers: the tables where nothing is refused, else the refusal
-abbrev pub CallJudged : Group → (nodes : ℕ) → Bool → Result Tables Refusal → Type 0
-CallJudged g nodes agree (Ok t) = (many_verdict g nodes agree ≡ Ok tt) × Tabled g t
-CallJudged g nodes agree (Err r) = many_verdict g nodes agree ≡ Err r
+-- what judging a call answers: the tables are filled where nothing is refused
+abbrev pub CallJudged : Group → (nodes : ℕ) → Bool → Result ⊤ Refusal → Tables → Type 0
+CallJudged g nodes agree (Ok u) t = (many_verdict g nodes agree ≡ Ok tt) × Tabled g t
+CallJudged g nodes agree (Err r) t = many_verdict g nodes agree ≡ Err r
 
 -- what the lookup of each point may rely on
 pub record CallReady (g : Group) (nodes : ℕ) (t : Tables) : Type 0 where

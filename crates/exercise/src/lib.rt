@@ -32,6 +32,15 @@ pub struct Tables {
     pub frames: [u64; flat::FRAMES],
 }
 
+// Tables of zeros, for `judge_call` to fill.
+pub const NO_TABLES: Tables = Tables {
+    rows: [0; ROWS * 4],
+    owners: [0; ROWS],
+    shifts: [0; ROWS],
+    count: 0,
+    frames: [0; flat::FRAMES],
+};
+
 // A day outside the limit, which stands for none: its scale is a true one, so that no Option is needed.
 const NO_DAY: i64 = group::DAY_MOST + 1;
 
@@ -69,28 +78,19 @@ pub fn scale_on(words: &[i64; GROUP_WORDS], before: Scale, day: i64) -> Scale
     }
 }
 
-// The tables of an accepted group, from its lists.
-fn tables_of(
-    words: &[i64; GROUP_WORDS],
-    sides: &[u64],
-    ranks: &[u64],
-    frames: [u64; flat::FRAMES],
-) -> Tables
-    requires { (judged (group_of_words words.now) ≡ Ok tt) × Laid (group_of_words words.now) sides.now ranks.now frames }
-    ensures { Tabled (group_of_words words.now) result }
+// Fills the tables of an accepted group, whose frames stand in them, from its other lists.
+fn fill_tables(words: &[i64; GROUP_WORDS], sides: &[u64], ranks: &[u64], tables: &mut Tables)
+    requires { (judged (group_of_words words.now) ≡ Ok tt) × Laid (group_of_words words.now) sides.now ranks.now tables.old.frames }
+    ensures { Tabled (group_of_words words.now) tables.new }
 {
-    let mut rows = [0u64; ROWS * 4];
-    let mut owners = [0u64; ROWS];
-    let mut shifts = [0u64; ROWS];
     let n = abi::grid_count(words) as usize;
-    let count = flat::rank_rows(sides, &ranks[..n], &mut rows, &mut owners, &mut shifts);
-    Tables {
-        rows,
-        owners,
-        shifts,
-        count,
-        frames,
-    }
+    tables.count = flat::rank_rows(
+        sides,
+        &ranks[..n],
+        &mut tables.rows,
+        &mut tables.owners,
+        &mut tables.shifts,
+    );
 }
 
 // Refusals 12, unless the lengths agree, and 13 of a call for many points in an accepted group.
@@ -113,16 +113,22 @@ fn judge_rest(
     lookup::judge_nodes(words, frames, nodes)
 }
 
-// Refusals 2 to 5, 12 and 13 of a call for many points, or the tables by which it is answered.
-pub fn judge_call(words: &[i64; GROUP_WORDS], nodes: usize, agree: bool) -> Result<Tables, Refusal>
-    ensures { CallJudged (group_of_words words.now) nodes agree result }
+// Refusals 2 to 5, 12 and 13 of a call for many points; if there is none, the tables by which it is answered are filled. They are lent: in a
+// Result they would be copied, which a call for few points would feel.
+pub fn judge_call(
+    words: &[i64; GROUP_WORDS],
+    nodes: usize,
+    agree: bool,
+    tables: &mut Tables,
+) -> Result<(), Refusal>
+    ensures { CallJudged (group_of_words words.now) nodes agree result tables.new }
 {
     let mut sides = [0u64; flat::SIDES];
     let mut ranks = [0u64; GRIDS_MOST];
-    let mut frames = [0u64; flat::FRAMES];
-    judge::judge_into(words, &mut sides, &mut ranks, &mut frames)?;
-    judge_rest(words, &frames, nodes, agree)?;
-    Ok(tables_of(words, &sides, &ranks, frames))
+    judge::judge_into(words, &mut sides, &mut ranks, &mut tables.frames)?;
+    judge_rest(words, &tables.frames, nodes, agree)?;
+    fill_tables(words, &sides, &ranks, tables);
+    Ok(())
 }
 
 // The lookup of a point on the day of a scale, by the tables of an accepted call: refusal 6, 9, 7 or 8, or the fix.
@@ -193,7 +199,9 @@ pub fn many_words(
         (eqb (length points.now) (length results.old)))
         × (results.new ≡ results_after (group_of_words words.now) nodes.now points.now results.old) }
 {
-    let tables = judge_call(words, nodes.len(), points.len() == results.len())?;
+    let mut tables = NO_TABLES;
+    let agree = points.len() == results.len();
+    judge_call(words, nodes.len(), agree, &mut tables)?;
     let mut scale = no_scale();
     for (i, p) in points.iter().enumerate() {
         scale = scale_on(words, scale, p.day);
@@ -257,7 +265,8 @@ pub fn columns_words(
         lons.now lats.now days.now results.old) }
 {
     let agree = columns_agree(lons.len(), lats.len(), days.len(), results.len());
-    let tables = judge_call(words, nodes.len(), agree)?;
+    let mut tables = NO_TABLES;
+    judge_call(words, nodes.len(), agree, &mut tables)?;
     let mut scale = no_scale();
     for i in 0..lons.len() {
         let day = days[i];

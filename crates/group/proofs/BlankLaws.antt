@@ -30,7 +30,7 @@ blank_byte n j z e =
     (λ p. eqb-true b 0 (and_right (leb n.len j) (eqb b 0) p))
     (or_cases (ltb j n.len && name_byte b) (leb n.len j && eqb b 0) e)
 
-blank_name_lem : (n : Name) → length n.bytes ≡ name_most → name_blank n ≡ true → n ≡ blank_name
+pub blank_name_lem : (n : Name) → length n.bytes ≡ name_most → name_blank n ≡ true → n ≡ blank_name
 unfolding name_blank
 blank_name_lem n l e =
     let z = eqb-true n.len 0 (and_left (eqb n.len 0) (every (byte_fits n) name_most) e) in

@@ -218,25 +218,30 @@ pub fn in_table(number: u64) -> bool
 pub fn name_byte(b: u8) -> bool
     ensures { result ≡ name_byte b }
 {
-    matches!(b, b'A'..=b'Z' | b'a'..=b'z' | b'0'..=b'9' | b'_' | b'-')
+    matches!(b, b'A'..=b'Z')
+        | matches!(b, b'a'..=b'z')
+        | matches!(b, b'0'..=b'9')
+        | (b == b'_')
+        | (b == b'-')
 }
 
 // Whether byte i of a name of this length is right: of the alphabet within its length, and 0 behind it.
 fn byte_fits(b: u8, len: usize, i: usize) -> bool
     ensures { result ≡ (ltb i len && name_byte b) || (leb len i && eqb b 0) }
 {
-    if i < len { name_byte(b) } else { b == 0 }
+    ((i < len) & name_byte(b)) | ((len <= i) & (b == 0))
 }
 
-// Whether each of a name's 24 bytes is right.
+// Whether each of a name's 24 bytes is right: all of them are tested, with no early answer and no branch, for speed.
 fn bytes_fit(name: Name) -> bool
     ensures { result ≡ every (byte_fits name) name_most }
 {
     let len = name.len as usize;
-    name.bytes
-        .iter()
-        .enumerate()
-        .all(|(i, b)| byte_fits(*b, len, i))
+    let mut fit = true;
+    for (i, b) in name.bytes.iter().enumerate() {
+        fit = fit & byte_fits(*b, len, i);
+    }
+    fit
 }
 
 // Whether a name is well formed.

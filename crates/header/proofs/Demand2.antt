@@ -18,7 +18,7 @@ use Rattle.header.specs.Whole.{Header, stopped, header, read_lines, group_of_lin
 use Rattle.header.specs.Header.{verdict_reading, judged_reading, read_header, written, written_count, bytes_after}
 use Rattle.header.specs.Demand2.{InFront, TextRead, TextWritten, Shaped, Formed, JudgedAsText}
 use Rattle.header.proofs.HeaderLaws.{count_answer}
-use Rattle.header.proofs.TableLaws.{written_told}
+use Rattle.header.proofs.TableLaws.{read_told, written_told}
 use Rattle.header.proofs.TripLaws.{same_bytes}
 use Rattle.header.proofs.FormedLaws.{as_text, same_group}
 use Rattle.std.specs.Prelude.{Result, Ok, Err, ⊤}
@@ -53,6 +53,7 @@ module _ (t : List ℕ) (g : Group) (e : read_header t ≡ Ok g) where
 pub text_read : (t : List ℕ) → TextRead t (read_header t)
 text_read t =
     record {
+      read = (read_told t).zero;
       accepted = judged_read t;
       told = λ g e out l. ap refusal_of (sym (written_back t g e out l).0);
       count = λ g e out l. ap written_count (sym (written_back t g e out l).0);

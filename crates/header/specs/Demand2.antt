@@ -17,6 +17,8 @@ pub record InFront (text before after : List ℕ) : Type 0 where
 
 -- r answers the reading of t: a refusal alone, or a group
 pub record TextRead (t : List ℕ) (r : Result Group Refusal) : Type 0 where
+  -- where nothing is refused a group is handed back
+  pub read : (refusal_of r).number ≡ 0 → (g : Group) × (r ≡ Ok g)
   -- the group of an accepted text is accepted by the judge
   pub accepted : (g : Group) → r ≡ Ok g → judged g ≡ Ok tt
   -- and written back as the same bytes into any output that is long enough: the text's length is answered, and the rest stays

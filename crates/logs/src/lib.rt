@@ -53,9 +53,9 @@ pub struct Fault {
 
 // A line that was judged: the first test that it fails, or none, and the scale of the day last looked up.
 #[derive(Clone, Copy)]
-struct Turn {
-    kind: Option<Kind>,
-    scale: Scale,
+pub struct Turn {
+    pub kind: Option<Kind>,
+    pub scale: Scale,
 }
 
 // The fields of a line: `fix`, LON LAT DAY from here, GRID here, the shifts from here.
@@ -271,7 +271,8 @@ pub fn log_words(
 ) -> Result<Option<Fault>, Refusal>
     ensures { result ≡ log_judged (group_of_words words.now) nodes.now log.now }
 {
-    let tables = exercise::judge_call(words, nodes.len(), true)?;
+    let mut tables = exercise::NO_TABLES;
+    exercise::judge_call(words, nodes.len(), true, &mut tables)?;
     Ok(judge_lines(words, &tables, nodes, log))
 }
 

@@ -22,27 +22,27 @@ use Rattle.exercise.proofs.CallLaws.{call_judged, call_agree, call_ends, call_re
 use Rattle.exercise.proofs.SmallLaws.{numbers_stored}
 use Rattle.exercise.proofs.ColumnLaws.{columns_lengths, columns_all, columns_kept}
 use Rattle.exercise.proofs.columns_words.Goals as goal
-use Rattle.exercise.proofs.columns_words.Goals.{In_ok-tables}
+use Rattle.exercise.proofs.columns_words.Goals.{In_ok-judge_call}
 
 -- the call is accepted
-told : (c : In_ok-tables) → many_verdict (group_of_words c.args.words.now) (length c.args.nodes.now) (columns_agree (length c.args.lons.now) (length c.args.lats.now) (length c.args.days.now) (length c.args.results.now)) ≡ Ok tt
-told c = sym (ap (many_verdict (group_of_words c.args.words.now) (length c.args.nodes.now)) c.columns_agree-agree.ensures) ∙ c.in_ok-tables.ensures.0
+told : (c : In_ok-judge_call) → many_verdict (group_of_words c.args.words.now) (length c.args.nodes.now) (columns_agree (length c.args.lons.now) (length c.args.lats.now) (length c.args.days.now) (length c.args.results.now)) ≡ Ok tt
+told c = sym (ap (many_verdict (group_of_words c.args.words.now) (length c.args.nodes.now)) c.columns_agree-agree.ensures) ∙ c.in_ok-judge_call.ensures.0
 
-judged_group : (c : In_ok-tables) → judged (group_of_words c.args.words.now) ≡ Ok tt
+judged_group : (c : In_ok-judge_call) → judged (group_of_words c.args.words.now) ≡ Ok tt
 judged_group c = call_judged _ _ _ (told c)
 
-as_long : (c : In_ok-tables) → (length c.args.lats.now ≡ length c.args.lons.now) × (length c.args.days.now ≡ length c.args.lons.now) × (length c.args.results.now ≡ length c.args.lons.now * answer_words)
+as_long : (c : In_ok-judge_call) → (length c.args.lats.now ≡ length c.args.lons.now) × (length c.args.days.now ≡ length c.args.lons.now) × (length c.args.results.now ≡ length c.args.lons.now * answer_words)
 as_long c = columns_lengths _ _ _ _ (call_agree _ _ _ (told c))
 
 same : (k : ℕ) → k ≡ k + 0
 same k = omega arith
 
-pub returns-in_err-tables : goal.returns-in_err-tables
-returns-in_err-tables c =
+pub returns-in_err-judge_call : goal.returns-in_err-judge_call
+returns-in_err-judge_call c =
     let g = group_of_words c.args.words.now in
     let a = c.args in
     let p = err_from_is_err_and c.from_residual.result c.from_residual.ensures.1 in
-    let e = sym (ap (many_verdict g (length a.nodes.now)) c.columns_agree-agree.ensures) ∙ c.in_err-tables.ensures in
+    let e = sym (ap (many_verdict g (length a.nodes.now)) c.columns_agree-agree.ensures) ∙ c.in_err-judge_call.ensures in
     (rw (p.1, p.2) (sym e), columns_kept g a.nodes.now a.lons.now a.lats.now a.days.now a.results.now _ e)
 
 pub loop-i-init : goal.loop-i-init
@@ -54,23 +54,23 @@ loop-i-init c =
     }
 
 pub bounds-days-i : goal.bounds-days-i
-bounds-days-i c = omega (arith, (as_long (goal.at.bounds-days-i c).In_ok-tables).1)
+bounds-days-i c = omega (arith, (as_long (goal.at.bounds-days-i c).In_ok-judge_call).1)
 
 pub bounds-lats-i : goal.bounds-lats-i
-bounds-lats-i c = omega (arith, (as_long (goal.at.bounds-lats-i c).In_ok-tables).0)
+bounds-lats-i c = omega (arith, (as_long (goal.at.bounds-lats-i c).In_ok-judge_call).0)
 
 pub scale_on-scale-requires : goal.scale_on-scale-requires
-scale_on-scale-requires c = (judged_group (goal.at.scale_on-scale-requires c).In_ok-tables, c.loop-i.invariant.scaled)
+scale_on-scale-requires c = (judged_group (goal.at.scale_on-scale-requires c).In_ok-judge_call, c.loop-i.invariant.scaled)
 
 pub look_one-requires : goal.look_one-requires
 look_one-requires c =
     let q = goal.at.look_one-requires c in
-    (call_ready _ _ _ (told q.In_ok-tables) _ c.in_ok-tables.ensures.1, c.scale_on-scale.ensures)
+    (call_ready _ _ _ (told q.In_ok-judge_call) _ c.in_ok-judge_call.ensures.1, c.scale_on-scale.ensures)
 
 pub store_answer-requires : goal.store_answer-requires
 store_answer-requires c =
     let e = run_length _ _ _ 0 _ _ c.loop-i.invariant.run in
-    omega (arith, e, (as_long (goal.at.store_answer-requires c).In_ok-tables).2)
+    omega (arith, e, (as_long (goal.at.store_answer-requires c).In_ok-judge_call).2)
 
 pub loop-i-preserved : goal.loop-i-preserved
 loop-i-preserved c =
@@ -85,7 +85,7 @@ loop-i-preserved c =
           run_more (λ k. answer_numbers (answer_at g a.nodes.now (position_at a.lons.now a.lats.now a.days.now k))) answer_words _ _ 0 i c.loop-i.results (stored_numbers c.look_one.result) _
           (λ k. refl) c.loop-i.invariant.run (search rules)
           (c.store_answer.ensures ∙ ap (λ (k : ℕ). sets c.loop-i.results k (stored_numbers c.look_one.result)) (same (i * answer_words)))
-          (ap stored_numbers c.look_one.ensures ∙ numbers_stored g a.nodes.now (judged_group q.In_ok-tables) (call_ends _ _ _ (told q.In_ok-tables)) _
+          (ap stored_numbers c.look_one.ensures ∙ numbers_stored g a.nodes.now (judged_group q.In_ok-judge_call) (call_ends _ _ _ (told q.In_ok-judge_call)) _
           ∙ (λ j. answer_numbers (answer_at g a.nodes.now (record { lon = record { 0 = lon j }; lat = record { 0 = lat j }; day = day j }))));
       scaled = s ∙ scale_same g _ ∙ ap (λ (z : Scale). scale_for g z.day) (sym s);
     }
@@ -98,6 +98,6 @@ returns c =
     let g = group_of_words c.args.words.now in
     let q = goal.at.returns c in
     let a = c.args in (
-      sym (told q.In_ok-tables),
-      run_all _ _ _ 0 _ _ c.loop-i.invariant.run c.loop-i-test.false ∙ columns_all g a.nodes.now a.lons.now a.lats.now a.days.now a.results.now (told q.In_ok-tables),
+      sym (told q.In_ok-judge_call),
+      run_all _ _ _ 0 _ _ c.loop-i.invariant.run c.loop-i-test.false ∙ columns_all g a.nodes.now a.lons.now a.lats.now a.days.now a.results.now (told q.In_ok-judge_call),
     )

@@ -27,4 +27,4 @@ pub returns : goal.returns
 returns c =
     let g = group_of_words c.args.words.now in
     let q = goal.at.returns c in
-    (many_accepted g c.args.nodes c.args.agree (accepted q.In_ok-judge_into) ∙ sym c.in_ok-judge_rest.ensures, c.tables_of.ensures)
+    (many_accepted g c.args.nodes c.args.agree (accepted q.In_ok-judge_into) ∙ sym c.in_ok-judge_rest.ensures, c.fill_tables.ensures)

@@ -23,16 +23,16 @@ use Rattle.exercise.proofs.FilledLaws.{filled, filled_suc}
 use Rattle.exercise.proofs.ScaleLaws.{scale_none, scale_same}
 use Rattle.exercise.proofs.CallLaws.{call_judged, call_agree, call_ready, results_all, results_kept}
 use Rattle.exercise.proofs.many_words.Goals as goal
-use Rattle.exercise.proofs.many_words.Goals.{In_ok-tables}
+use Rattle.exercise.proofs.many_words.Goals.{In_ok-judge_call}
 
 -- the call is accepted
-told : (c : In_ok-tables) → many_verdict (group_of_words c.args.words.now) (length c.args.nodes.now) (eqb (length c.args.points.now) (length c.args.results.now)) ≡ Ok tt
-told c = c.in_ok-tables.ensures.0
+told : (c : In_ok-judge_call) → many_verdict (group_of_words c.args.words.now) (length c.args.nodes.now) (eqb (length c.args.points.now) (length c.args.results.now)) ≡ Ok tt
+told c = c.in_ok-judge_call.ensures.0
 
-judged_group : (c : In_ok-tables) → judged (group_of_words c.args.words.now) ≡ Ok tt
+judged_group : (c : In_ok-judge_call) → judged (group_of_words c.args.words.now) ≡ Ok tt
 judged_group c = call_judged _ _ _ (told c)
 
-as_long : (c : In_ok-tables) → length c.args.points.now ≡ length c.args.results.now
+as_long : (c : In_ok-judge_call) → length c.args.points.now ≡ length c.args.results.now
 as_long c = eqb-true _ _ (call_agree _ _ _ (told c))
 
 -- one more answer
@@ -44,11 +44,11 @@ written_more f xs l ys i o z e a h k =
     ∙ filled_suc (map f xs) ys i (f o) (omega (arith, length-map xs f)) k
     ∙ ap (filled (map f xs) ys) (sym (add-one i))
 
-pub returns-in_err-tables : goal.returns-in_err-tables
-returns-in_err-tables c =
+pub returns-in_err-judge_call : goal.returns-in_err-judge_call
+returns-in_err-judge_call c =
     let g = group_of_words c.args.words.now in
     let p = err_from_is_err_and c.from_residual.result c.from_residual.ensures.1 in
-    let e = c.in_err-tables.ensures in
+    let e = c.in_err-judge_call.ensures in
     (rw (p.1, p.2) (sym e), results_kept g c.args.nodes.now c.args.points.now c.args.results.now _ e)
 
 pub loop-i-init : goal.loop-i-init
@@ -60,18 +60,18 @@ loop-i-init c =
     }
 
 pub scale_on-scale-requires : goal.scale_on-scale-requires
-scale_on-scale-requires c = (judged_group (goal.at.scale_on-scale-requires c).In_ok-tables, c.loop-i.invariant.scaled)
+scale_on-scale-requires c = (judged_group (goal.at.scale_on-scale-requires c).In_ok-judge_call, c.loop-i.invariant.scaled)
 
 pub look_one-requires : goal.look_one-requires
 look_one-requires c =
     let g = group_of_words c.args.words.now in
     let q = goal.at.look_one-requires c in (
-      call_ready g (length c.args.nodes.now) _ (told q.In_ok-tables) _ c.in_ok-tables.ensures.1,
+      call_ready g (length c.args.nodes.now) _ (told q.In_ok-judge_call) _ c.in_ok-judge_call.ensures.1,
       c.scale_on-scale.ensures ∙ ap (scale_for g) (to_z-of_z w64 _ (search rules)),
     )
 
 pub bounds-results-i : goal.bounds-results-i
-bounds-results-i c = omega (arith, as_long (goal.at.bounds-results-i c).In_ok-tables)
+bounds-results-i c = omega (arith, as_long (goal.at.bounds-results-i c).In_ok-judge_call)
 
 pub loop-i-preserved : goal.loop-i-preserved
 loop-i-preserved c =
@@ -79,7 +79,7 @@ loop-i-preserved c =
     let q = goal.at.loop-i-preserved c in
     let s = c.scale_on-scale.ensures in
     record {
-      written = written_more (answer_at g c.args.nodes.now) c.args.points.now c.loop-i.results c.args.results.now c.loop-i.i _ c.look_one.result c.loop-i.invariant.written c.look_one.ensures (search rules) (omega (arith, as_long q.In_ok-tables));
+      written = written_more (answer_at g c.args.nodes.now) c.args.points.now c.loop-i.results c.args.results.now c.loop-i.i _ c.look_one.result c.loop-i.invariant.written c.look_one.ensures (search rules) (omega (arith, as_long q.In_ok-judge_call));
       scaled = s ∙ scale_same g _ ∙ ap (λ (z : Scale). scale_for g z.day) (sym s);
     }
 
@@ -88,8 +88,8 @@ returns c =
     let g = group_of_words c.args.words.now in
     let q = goal.at.returns c in
     let e : c.loop-i.i ≡ length c.args.points.now = omega arith in (
-      sym (told q.In_ok-tables),
+      sym (told q.In_ok-judge_call),
       c.loop-i.invariant.written
           ∙ ap (filled (map (answer_at g c.args.nodes.now) c.args.points.now) c.args.results.now) e
-          ∙ results_all g c.args.nodes.now c.args.points.now c.args.results.now (told q.In_ok-tables),
+          ∙ results_all g c.args.nodes.now c.args.points.now c.args.results.now (told q.In_ok-judge_call),
     )

@@ -1,4 +1,4 @@
--- `tables_of` meets its contract.
+-- `fill_tables` meets its contract.
 use Prim.Native.Nat.{ℕ, ◌*◌, ◌≤◌}
 use mathlib.Core.Path.{◌≡◌, sym, ◌∙◌, subst}
 use native.Mathlib.Omega.{arith}
@@ -12,7 +12,7 @@ use Rattle.judge.specs.Judge.{judged}
 use Rattle.judge.proofs.Accepted.{accepted_head}
 use Rattle.ingroup.proofs.InGroupLaws.{flat_turnable}
 use Rattle.exercise.proofs.TableLaws.{tabled}
-use Rattle.exercise.proofs.tables_of.Goals as goal
+use Rattle.exercise.proofs.fill_tables.Goals as goal
 
 -- what an accepted group's ranks and sides have room for
 ranked : (g : Group) (n ranks : ℕ) → judged g ≡ Ok tt → n ≡ g.grids → grids_most ≤ ranks → n ≤ ranks
@@ -25,8 +25,8 @@ pub slice_bounds-rank_rows-end : goal.slice_bounds-rank_rows-end
 slice_bounds-rank_rows-end c =
     sym (length-take-le _ c.args.ranks.now (ranked _ _ _ c.requires.0 c.grid_count-n.ensures c.requires.1.room.room.ranks_room))
 
-pub rank_rows-count-requires : goal.rank_rows-count-requires
-rank_rows-count-requires c =
+pub rank_rows-tables-requires : goal.rank_rows-tables-requires
+rank_rows-tables-requires c =
     let g = group_of_words c.args.words.now in
     let few : c.grid_count-n.result ≤ grids_most = omega (arith, c.grid_count-n.ensures, (accepted_head g c.requires.0).grids) in
     let e = length-take-le _ c.args.ranks.now (ranked _ _ _ c.requires.0 c.grid_count-n.ensures c.requires.1.room.room.ranks_room) in (
@@ -40,4 +40,4 @@ pub returns : goal.returns
 returns c =
     let n = c.grid_count-n in let room = c.requires.1.room.room in
     tabled (group_of_words c.args.words.now) _ n.result c.args.sides.now c.args.ranks.now n.ensures
-    (ranked _ _ _ c.requires.0 n.ensures room.ranks_room) (sided _ _ c.requires.0 room.sides_room) c.requires.1.flat c.rank_rows-count.ensures.0
+    (ranked _ _ _ c.requires.0 n.ensures room.ranks_room) (sided _ _ c.requires.0 room.sides_room) c.requires.1.flat c.rank_rows-tables.ensures.0
